@@ -1,6 +1,5 @@
 -- How what a check leaves at a desk in memory follows from what the calls in it leave.
-use Rattle.std.proofs.Common.{◌≡◌, ℕ, List, [], ◌++◌, Option, Some, inr, ◌⊎◌, ◌∙◌, sym, ap}
-use Rattle.std.specs.Option.{option_map_or}
+use Rattle.std.proofs.Common.{◌≡◌, ℕ, List, ◌++◌, Some, inr, ◌⊎◌, ◌∙◌, sym, ap}
 use Rattle.hyd_io.specs.Memory.{Memory}
 use Rattle.hyd_io.specs.DeskBytes.{append_known}
 use Rattle.hyd_spec.specs.ProgramTypes.{Project}
@@ -8,22 +7,20 @@ use Rattle.hyd_cert_check.specs.Checks.{CheckEnds, CheckBreaksOff}
 use Rattle.hyd_cert_check.specs.RecordByRecord.{IsPrinted}
 use Rattle.hyd_cert_check.specs.declared.outcome.CheckEnd.{CheckEnd}
 use Rattle.hyd_as_library.specs.AtDesk.{NothingPut, IsCheckAt, IsCheckCutShort}
-
-some_same : (a b : List ℕ) → Some a ≡ Some b → a ≡ b
-some_same a b e = ap (λ (o : Option (List ℕ)). option_map_or (λ x. x) o []) e
+use Rattle.hyd_lemmas.proofs.ListsAndOptions.{same_item}
 
 -- what was printed behind what a call left as it was
 printed_since : (before between now report : List ℕ) → Some between ≡ Some before
     → Some now ≡ append_known (Some between) report → now ≡ before ++ report
 printed_since before between now report same out =
-    some_same now (between ++ report) out ∙ ap (λ p. p ++ report) (some_same between before same)
+    same_item _ now (between ++ report) out ∙ ap (λ p. p ++ report) (same_item _ between before same)
 
 -- a file was opened, and what was left to read of it then was checked
-module _ (network : Project) (name : List ℕ) (before opened after : Memory)
+module _ (project : Project) (name : List ℕ) (before opened after : Memory)
     (held : Some opened.unread ≡ before.files name) (printed : Some opened.printed ≡ Some before.printed) where
   pub checked : (end : CheckEnd)
-      → IsPrinted (λ report. CheckEnds network opened.unread report end) (Some opened.printed) (Some after.printed)
-      → IsCheckAt network name end before after
+      → IsPrinted (λ report. CheckEnds project opened.unread report end) (Some opened.printed) (Some after.printed)
+      → IsCheckAt project name end before after
   checked end out = record {
     certificate = opened.unread;
     report = out.report;
@@ -32,8 +29,8 @@ module _ (network : Project) (name : List ℕ) (before opened after : Memory)
     printed = printed_since before.printed opened.printed after.printed out.report printed out.printed;
   }
 
-  pub check_cut_short : IsPrinted (CheckBreaksOff network opened.unread) (Some opened.printed) (Some after.printed)
-      → NothingPut before after ⊎ IsCheckCutShort network name before after
+  pub check_cut_short : IsPrinted (CheckBreaksOff project opened.unread) (Some opened.printed) (Some after.printed)
+      → NothingPut before after ⊎ IsCheckCutShort project name before after
   check_cut_short out = inr (record {
     certificate = opened.unread;
     report = out.report;

@@ -21,20 +21,20 @@ use Rattle.hyd_as_library.specs.declared.Ended.TheVariants.{OutOfMemory, NoPerio
 
 -- The file of the name holds the certificate of a run of the network that ended so, as sharp as the settings ask, and
 -- its report was printed. Every history agrees with them.
-pub record IsRunAt (network : Project) (settings : Settings) (name : List ℕ) (end : RunEnd) (before now : Memory) :
+pub record IsRunAt (project : Project) (settings : Settings) (name : List ℕ) (end : RunEnd) (before now : Memory) :
     Type 0 where
   pub certificate : List ℕ
   pub report : List ℕ
-  pub run : RunWrites network settings.rounds (sharpness_of settings) (outcome_of end) certificate report
+  pub run : RunWrites project settings.rounds (sharpness_of settings) (outcome_of end) certificate report
   pub held : now.files name ≡ Some certificate
   pub printed : now.printed ≡ before.printed ++ report
 
 -- A fault broke a run of the network off: the file of the name holds a front of its certificate as far as it went, and
 -- a front of its report was printed. Every history agrees with them.
-pub record IsRunCutShort (network : Project) (settings : Settings) (name : List ℕ) (before now : Memory) : Type 0 where
+pub record IsRunCutShort (project : Project) (settings : Settings) (name : List ℕ) (before now : Memory) : Type 0 where
   pub certificate : List ℕ
   pub report : List ℕ
-  pub run : RunBreaksOff network settings.rounds (sharpness_of settings) certificate report
+  pub run : RunBreaksOff project settings.rounds (sharpness_of settings) certificate report
   pub held : now.files name ≡ Some certificate
   pub printed : now.printed ≡ before.printed ++ report
 
@@ -46,11 +46,11 @@ pub record NothingPut (before now : Memory) : Type 0 where
 -- Why a run wasn't put out whole, and what stands at the desk then: where there was no memory, all is as it was; where
 -- a call on the desk failed, the file couldn't be created, or the run was broken off.
 abbrev pub RunFails : Project → Settings → List ℕ → Ended → Memory → Memory → Type 0
-RunFails network settings name OutOfMemory before now = now ≡ before
-RunFails network settings name NoPeriod before now = ⊥
-RunFails network settings name Desk before now =
-    NothingPut before now ⊎ IsRunCutShort network settings name before now
-RunFails network settings name Print before now = ⊥
+RunFails project settings name OutOfMemory before now = now ≡ before
+RunFails project settings name NoPeriod before now = ⊥
+RunFails project settings name Desk before now =
+    NothingPut before now ⊎ IsRunCutShort project settings name before now
+RunFails project settings name Print before now = ⊥
 
 -- No file but that of the name was changed, and what is left to read of the file that was opened stays.
 pub record ChangesOnly (name : List ℕ) (before now : Memory) : Type 0 where
@@ -70,28 +70,28 @@ RunHasCause Print before now = ⊥
 -- A check of the file of the name came to its end, and its report was printed: what the file holds was accepted as the
 -- certificate of a run of the network, and every history agrees with it, or it was refused by one of its lines, by a
 -- record or by its END line.
-pub record IsCheckAt (network : Project) (name : List ℕ) (end : CheckEnd) (before now : Memory) : Type 0 where
+pub record IsCheckAt (project : Project) (name : List ℕ) (end : CheckEnd) (before now : Memory) : Type 0 where
   pub certificate : List ℕ
   pub report : List ℕ
   pub held : before.files name ≡ Some certificate
-  pub check : CheckEnds network certificate report end
+  pub check : CheckEnds project certificate report end
   pub printed : now.printed ≡ before.printed ++ report
 
 -- A fault broke a check of the file of the name off: a front of its report was printed.
-pub record IsCheckCutShort (network : Project) (name : List ℕ) (before now : Memory) : Type 0 where
+pub record IsCheckCutShort (project : Project) (name : List ℕ) (before now : Memory) : Type 0 where
   pub certificate : List ℕ
   pub report : List ℕ
   pub held : before.files name ≡ Some certificate
-  pub check : CheckBreaksOff network certificate report
+  pub check : CheckBreaksOff project certificate report
   pub printed : now.printed ≡ before.printed ++ report
 
 -- Why a check didn't come to its end, and what was printed then: where there was no memory, all is as it was; where a
 -- call on the desk failed, the file couldn't be opened, or the check was broken off.
 abbrev pub CheckFails : Project → List ℕ → Ended → Memory → Memory → Type 0
-CheckFails network name OutOfMemory before now = now ≡ before
-CheckFails network name NoPeriod before now = ⊥
-CheckFails network name Desk before now = NothingPut before now ⊎ IsCheckCutShort network name before now
-CheckFails network name Print before now = ⊥
+CheckFails project name OutOfMemory before now = now ≡ before
+CheckFails project name NoPeriod before now = ⊥
+CheckFails project name Desk before now = NothingPut before now ⊎ IsCheckCutShort project name before now
+CheckFails project name Print before now = ⊥
 
 -- No file was changed, nor to which one is written.
 pub record LeavesFiles (before now : Memory) : Type 0 where

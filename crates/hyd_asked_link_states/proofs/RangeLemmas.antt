@@ -5,7 +5,6 @@ use Rattle.std.proofs.lemmas.Int.{ints}
 use Rattle.hyd_num.specs.CapacityRange.{IsRefused}
 use Rattle.hyd_num.specs.declared.link_capacities.Origin.TheVariants.{Pipe}
 use Rattle.hyd_num.specs.declared.decimals.Decimal.{Decimal}
-use Rattle.hyd_spec_lines.specs.WordsOfLines.{is_keyword}
 use Rattle.hyd_net.proofs.Equal.{Decimal-equal}
 use Rattle.hyd_net.specs.NumberRanges.{Lies, IsUpTo}
 use Rattle.hyd_capacities.specs.Ranges.{IsPositiveUpTo, IsMinorCoefficient}
@@ -16,6 +15,7 @@ use Rattle.hyd_theorems_on_input.proofs.Faultless.{needed_none, within}
 use Rattle.hyd_theorems_on_input.proofs.InForce.{keyword_same}
 use Rattle.hyd_theorems_on_input.proofs.LinkKinds.{valve_numbers}
 use Rattle.hyd_asked_link_states.specs.AskedLinks.{IsThrottleCoefficient}
+use Rattle.hyd_theorems_on_input.proofs.OneProject.{general_not_throttle}
 
 -- ---- numbers
 
@@ -61,14 +61,10 @@ refused_pipe_numbers l d n k us is =
 
 -- ---- valves
 
-other_type : is_keyword (codes "GPV") (codes "TCV") ≡ false
-unfolding is_keyword
-other_type = refl
-
 not_both : (o : Option (List ℕ)) → is_option_keyword (codes "TCV") o ≡ true
     → is_option_keyword (codes "GPV") o ≡ false
 not_both None e = refl
-not_both (Some w) e = keyword_same (codes "TCV") (codes "GPV") w e ∙ other_type
+not_both (Some w) e = keyword_same (codes "TCV") (codes "GPV") w e ∙ general_not_throttle
 
 -- a throttle control valve is no general purpose valve
 pub throttle_alone : (words : List (List ℕ)) → alone.is_throttle words ≡ true → alone.is_general words ≡ false

@@ -10,8 +10,8 @@ use Rattle.hyd_spec_input.specs.Faults.{NoneIs}
 use Rattle.hyd_spec_input.specs.Tables.{place, is_link, link_rows, link_named}
 use Rattle.hyd_theorems_on_input.proofs.Names.{named_stands}
 use Rattle.hyd_theorems_on_input.proofs.Places.{kept_stands, kept_passes}
-use Rattle.hyd_text_rows.proofs.SectionLemmas.{none_of}
 use Rattle.hyd_asked_link_states.specs.AskedLinks.{IsRightLink}
+use Rattle.hyd_theorems_on_input.proofs.Faultless.{none_from}
 
 -- what is asked of a link doesn't depend on the lines of rules
 alone : (section : Section) (earlier : List (List (List ℕ))) (words : List (List ℕ)) (later : List (List (List ℕ)))
@@ -31,6 +31,6 @@ right_link rows name row right named =
     record {
       link = link;
       right = alone row.section _ row.words _ link
-          ∙ none_of (itself.row_fault rows stands.place row)
+          ∙ none_from (itself.row_fault rows stands.place row)
           (λ cause f. right stands.place cause (record { row = row; row_is = stands.is; fault = f }));
     }

@@ -12,13 +12,10 @@ ghost use Rattle.hyd_asked_link_states.specs.AskedLinks.{IsRightLink, IsAllowed}
 use crate::link_types::{LinkType, link_type};
 use hyd_lex::{Line, Lines};
 use hyd_net::Cause;
+use hyd_net::ranges::{GREATEST_COEFFICIENT, GREATEST_SPEED};
 use hyd_num::{Decimal, FlowUnit};
 use hyd_option_and_rule_lines::Asked;
 use hyd_text_rows::flow_fault;
-
-const GREATEST_SPEED: i128 = 10 * 1_000_000_000;
-
-const GREATEST_COEFFICIENT: i128 = 1_000_000 * 1_000_000_000;
 
 // Range of a speed that isn't from 0 to 10.
 fn speed_fault(number: Decimal) -> Option<Cause>

@@ -13,6 +13,7 @@ use Rattle.hyd_spec.specs.Scale.{at_scale}
 use Rattle.hyd_spec.specs.NodeNumbers.{tank_node}
 use Rattle.hyd_spec.specs.DemandsReservoirHeadsAndCurves.{reservoir_head}
 use Rattle.hyd_spec.specs.Assignment.{head_at, node_heads}
+use Rattle.hyd_spec_certificates.specs.Spans.{flows_of}
 use Rattle.hyd_spec_certificates.specs.declared.Problem.TheVariants.{Main, Pinned}
 use Rattle.hyd_spec_certificates.specs.declared.Side.TheVariants.{Upper, Lower}
 use Rattle.hyd_spec_certificates.specs.Interval.{Interval}
@@ -28,11 +29,11 @@ use Rattle.hyd_theorems_on_definitions.proofs.NetRising.{item-at}
 use Rattle.hyd_theorems_on_definitions.proofs.Pinning.{inflow_lies}
 use Rattle.hyd_theorems_on_definitions.proofs.StatusWords.{status_holds}
 use Rattle.hyd_bounds.specs.VectorsInOrder.{IsSpan}
-use Rattle.hyd_bounds.specs.Enclosed.{interval_of, HoldsFlow, HoldsOutflow, HoldsInflow, HoldsStatus}
+use Rattle.hyd_bounds.specs.Enclosed.{HoldsFlow, HoldsOutflow, HoldsInflow, HoldsStatus}
 
 -- what lies in an interval lies in its span
 in-span : (S : ℕ) (span : Span) (interval : Interval) (z : ℤ) → IsSpan span interval → LiesIn S interval z
-    → LiesIn S (interval_of span) z
+    → LiesIn S (flows_of span) z
 in-span S span interval z is lies = record {
   low = subst (λ (x : ℤ). at_scale S x ≤ℤ z) (sym is.lo_is) lies.low;
   high = subst (λ (x : ℤ). z ≤ℤ at_scale S x) (sym is.hi_is) lies.high;
@@ -49,40 +50,40 @@ module _ (grid : Grid) where
       → IfSome (slice_get grid.links l) (λ (link : GridLink). IsSpan span (flow_box link (all_heads grid Main Lower
       below) (all_heads grid Main Upper above)))
       → HoldsFlow grid below above l span
-  holds-flow below above l span lt box network S time intervals levels tanks links assignment compared under over =
+  holds-flow below above l span lt box project S time intervals levels tanks links assignment compared under over =
       let at = link-at grid.links l lt in
       let is = subst (λ (o : Option GridLink). IfSome o (λ (link : GridLink). IsSpan span (flow_box link (all_heads
       grid Main Lower below) (all_heads grid Main Upper above)))) at.1 box in
-      in-span S span _ _ is (flow_lies network S time intervals levels tanks links assignment grid _ _ compared
-      (heads_between network S time intervals levels tanks links assignment grid below above compared under over) l
+      in-span S span _ _ is (flow_lies project S time intervals levels tanks links assignment grid _ _ compared
+      (heads_between project S time intervals levels tanks links assignment grid below above compared under over) l
       at.0 at.1)
 
   pub holds-outflow : (j : ℕ) (low high : ℤ) (span : Span) → j < length grid.junctions
       → IfSome (slice_get grid.junctions j) (λ (junction : GridJunction). IsSpan span (out_box junction low high))
       → HoldsOutflow grid j low high span
-  holds-outflow j low high span lt box network S time intervals levels tanks links assignment below above compared
+  holds-outflow j low high span lt box project S time intervals levels tanks links assignment below above compared
       under over low_is high_is =
       let at = item-at grid.junctions j lt in
       let is = subst (λ (o : Option GridJunction). IfSome o (λ (junction : GridJunction). IsSpan span (out_box junction
       low high))) at.1 box in
       let here : IsSpan span (out_box at.0 (head_at below j) (head_at above j)) = rw (low_is, high_is) is in
-      in-span S span _ _ here (outflow_lies network S time intervals levels tanks links assignment grid below above
+      in-span S span _ _ here (outflow_lies project S time intervals levels tanks links assignment grid below above
       compared under over j at.0 at.1)
 
   pub holds-inflow : (k node count : ℕ) (below above : List ℤ) (span : Span) → length grid.junctions ≡ count
       → node ≡ count + length grid.reservoirs + k
       → IsSpan span (inflow_box grid k node below above) → HoldsInflow grid k below above span
-  holds-inflow k node count below above span each node_is box network S time intervals levels tanks links assignment
+  holds-inflow k node count below above span each node_is box project S time intervals levels tanks links assignment
       compared under over =
-      let long = one_each network S time intervals levels tanks links assignment grid (Pinned k) Lower below compared
+      let long = one_each project S time intervals levels tanks links assignment grid (Pinned k) Lower below compared
       under in
       let heads = compared.assigned.head_each in
       let own = under.one_each in
-      let reservoirs = ap (λ (xs : List ℤ). length xs) compared.is_grid.reservoirs ∙ length-map network.reservoirs.list
-      (reservoir_head network time) in
-      let same : node ≡ tank_node network k = omega (arith, long, heads, own, each, reservoirs, node_is) in
+      let reservoirs = ap (λ (xs : List ℤ). length xs) compared.is_grid.reservoirs ∙ length-map project.reservoirs.list
+      (reservoir_head project time) in
+      let same : node ≡ tank_node project k = omega (arith, long, heads, own, each, reservoirs, node_is) in
       in-span S span _ _ (subst (λ (n : ℕ). IsSpan span (inflow_box grid k n below above)) same box)
-      (inflow_lies network S time intervals levels tanks links assignment grid k below above compared under over)
+      (inflow_lies project S time intervals levels tanks links assignment grid k below above compared under over)
 
   -- the head difference along a link lies between those of the certificates
   difference-lies : (S : ℕ) (below above heads : List ℤ) (link : GridLink) → LieBetween S below above heads
@@ -111,11 +112,11 @@ module _ (grid : Grid) where
       → word ≡ status_of us bends kind state (difference link (all_heads grid Main Lower below) (all_heads grid Main
       Upper above))
       → HoldsStatus grid below above us bends kind state link word
-  holds-status below above us bends kind state link word is network S time intervals levels tanks links assignment unit
+  holds-status below above us bends kind state link word is project S time intervals levels tanks links assignment unit
       patterns compared under over made sizes =
-      let heads = node_heads network S time levels assignment.heads in
+      let heads = node_heads project S time levels assignment.heads in
       let d = difference link (all_heads grid Main Lower below) (all_heads grid Main Upper above) in
       let x = head_at heads link.from -ℤ head_at heads link.to in
       subst (λ (w : StatusWord). StatusHolds us bends w kind state S x) (sym is)
       (status_holds unit us patterns bends kind state S d x compared.some made sizes (difference-lies S _ _ heads link
-      (heads_between network S time intervals levels tanks links assignment grid below above compared under over)))
+      (heads_between project S time intervals levels tanks links assignment grid below above compared under over)))

@@ -1,5 +1,5 @@
 -- Status words by the state of a link and its own law.
-use Rattle.std.proofs.Common.{◌≡◌, ◌<◌, ◌≤ℤ◌, ◌<ℤ◌, ◌*ℤ◌, ℤ, pos, Bool, true, false, List, refl, sym, ap₂, ◌∙◌, arith}
+use Rattle.std.proofs.Common.{◌≡◌, ◌<◌, ◌≤ℤ◌, ◌*ℤ◌, ℤ, pos, Bool, true, false, List, refl, sym, ap₂, ◌∙◌, arith}
 use Rattle.std.specs.Prelude.{int_le, int_lt, if◌then◌else◌}
 use Rattle.std.proofs.lemmas.Int.{ints}
 use Rattle.hyd_num.specs.Rational.{Rational, ceiling}
@@ -8,8 +8,7 @@ use Rattle.hyd_net.specs.States.{CanHave}
 use Rattle.hyd_net.specs.Curves.{Knot, value_at}
 use Rattle.hyd_net.specs.declared.curves.HeadPoint.{HeadPoint}
 use Rattle.hyd_spec.specs.ProgramTypes.{LinkKind, PipeLink, CheckPipe, PumpLink, CurvePump, Tcv, Fcv, Gpv, Quadratic}
-use Rattle.hyd_spec.specs.ProgramTypes.{Linear}
-use Rattle.hyd_spec.specs.ProgramTypes.{LinkState, Open, Closed, Speed, Throttle, Limit}
+use Rattle.hyd_spec.specs.ProgramTypes.{Linear, LinkState, Open, Closed, Speed, Throttle, Limit}
 use Rattle.hyd_spec.specs.Law.{Law}
 use Rattle.hyd_spec.specs.LinkLaw.{own_law}
 use Rattle.hyd_spec_certificates.specs.Interval.{Interval}
@@ -18,30 +17,10 @@ use Rattle.hyd_spec_reports.specs.declared.StatusWord.TheVariants.{Unsure as Wor
 use Rattle.hyd_spec_reports.specs.Report.{by_drive, by_knots, status_of}
 use Rattle.hyd_num.proofs.Integers.{times_rises}
 use Rattle.hyd_lemmas.proofs.Integers.{ceiling_high, ceiling_least}
-use Rattle.hyd_theorems_on_definitions.proofs.RisingLines.{lt-yes, value-den}
-use Rattle.hyd_theorems_on_definitions.proofs.Outflows.{le-yes}
+use Rattle.hyd_lemmas.proofs.Trials.{lt-from, lt-not, le-from, le-yes, lt-no, lt-yes, le-not, le-no}
+use Rattle.hyd_theorems_on_definitions.proofs.RisingLines.{value-den}
 use Rattle.hyd_period_network.specs.ExactLaw.{is_nothing}
 use Rattle.hyd_bounds.specs.StatusWords.{word_of}
-
--- ---- tests
-
-lt-from : (a b : ℤ) → a <ℤ b → int_lt a b ≡ true
-lt-from a b lt = grind (arith, ints)
-
-lt-not : (a b : ℤ) → b ≤ℤ a → int_lt a b ≡ false
-lt-not a b le = grind (arith, ints)
-
-lt-no : (a b : ℤ) → int_lt a b ≡ false → b ≤ℤ a
-lt-no a b e = grind (arith, ints)
-
-le-from : (a b : ℤ) → a ≤ℤ b → int_le a b ≡ true
-le-from a b le = grind (arith, ints)
-
-le-not : (a b : ℤ) → b <ℤ a → int_le a b ≡ false
-le-not a b lt = grind (arith, ints)
-
-le-no : (a b : ℤ) → int_le a b ≡ false → b <ℤ a
-le-no a b e = grind (arith, ints)
 
 -- ---- curves
 

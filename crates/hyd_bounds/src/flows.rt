@@ -3,6 +3,7 @@
 
 ghost use Rattle.std.specs.Prelude.{◌≡◌, ◌<◌, ◌≤◌, ◌^◌, ◌≤ℤ◌, ◌+ℤ◌, ◌-ℤ◌, pos, slice_get, length, unsigned_abs};
 ghost use Rattle.std.specs.Option.{IfSome};
+ghost use Rattle.hyd_spec.specs.Scale.{missed_flow_ticks};
 ghost use Rattle.hyd_spec_certificates.specs.declared.Problem.TheVariants.{Main};
 ghost use Rattle.hyd_spec_certificates.specs.declared.Side.TheVariants.{Upper, Lower};
 ghost use Rattle.hyd_spec_certificates.specs.PeriodNetwork.{all_heads};
@@ -16,10 +17,11 @@ use crate::heads::{difference, node_head};
 use hyd_law::{Law, LinkLaw};
 use hyd_num::Span;
 use hyd_period_network::Net;
+use hyd_spec::MISSED_FLOW_TICKS;
 use hyd_spec_certificates::{Problem, Side};
 
 /// By how much every flow may miss its law, in flow ticks.
-pub(crate) const TOLERANCE: i128 = 10;
+pub(crate) const TOLERANCE: i128 = MISSED_FLOW_TICKS as i128;
 
 // The flow of a link between two head differences, widened by the tolerance.
 fn between(law: &LinkLaw, least: i64, greatest: i64) -> Span
@@ -27,8 +29,8 @@ fn between(law: &LinkLaw, least: i64, greatest: i64) -> Span
     requires least { LinkAccepts law.now least }
     requires greatest { LinkAccepts law.now greatest }
     requires ordered { least ≤ℤ greatest }
-    ensures lo { result.lo ≡ (link_low law.now least -ℤ pos 10) }
-    ensures hi { result.hi ≡ (link_high law.now greatest +ℤ pos 10) }
+    ensures lo { result.lo ≡ (link_low law.now least -ℤ pos missed_flow_ticks) }
+    ensures hi { result.hi ≡ (link_high law.now greatest +ℤ pos missed_flow_ticks) }
     ensures small_lo { unsigned_abs result.lo ≤ 2 ^ 82 }
     ensures small_hi { unsigned_abs result.hi ≤ 2 ^ 82 }
 {

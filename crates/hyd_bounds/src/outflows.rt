@@ -1,9 +1,10 @@
 //! Outflows of junctions.
 #![tactic(auto)]
 
-ghost use Rattle.std.specs.Prelude.{◌≡◌, ◌<◌, ◌≤◌, ◌^◌, ◌≤ℤ◌, pos, is_some, slice_get, length, unsigned_abs};
+ghost use Rattle.std.specs.Prelude.{◌≡◌, ◌<◌, ◌≤◌, ◌*◌, ◌^◌, ◌≤ℤ◌, pos, is_some, slice_get, length, unsigned_abs};
 ghost use Rattle.std.specs.Prelude.{if◌then◌else◌};
 ghost use Rattle.std.specs.Option.{IfSome, option_map, option_copied};
+ghost use Rattle.hyd_spec.specs.Scale.{missed_flow_ticks};
 ghost use Rattle.hyd_spec_certificates.specs.Certificate.{IsInBox};
 ghost use Rattle.hyd_spec_certificates.specs.FlowIntervals.{out_box};
 ghost use Rattle.hyd_period_network.specs.NetAsPeriodNetwork.{grid_of, capacity_of};
@@ -19,8 +20,9 @@ use hyd_vector_check::outflow;
 
 // By how much the outflows of a junction may miss, in flow ticks: the tolerance, once more where there is an emitter.
 fn missed(emitter: Option<&Quad>) -> i128
-    ensures value { result ≡ (if is_some (option_map capacity_of (option_copied emitter.entry)) then pos 20
-        else pos 10) }
+    ensures value { result ≡ (if is_some (option_map capacity_of (option_copied emitter.entry))
+        then pos (2 * missed_flow_ticks)
+        else pos missed_flow_ticks) }
     ensures least { pos 0 ≤ℤ result }
     ensures small { unsigned_abs result ≤ 20 }
 {

@@ -16,8 +16,7 @@ use Rattle.hyd_spec_input.specs.RowsTogether as others
 use Rattle.hyd_spec_input.specs.RowsTogether.{is_part_word, is_action_word, holds_action}
 use Rattle.hyd_spec_input.specs.declared.RuleWord.{RuleWord}
 use Rattle.hyd_spec_input.specs.declared.RuleWord.TheVariants.{Rule, If, And, Or, Then, Else, Priority}
-use Rattle.hyd_theorems_on_input.proofs.Faultless.{or_none, all_none, section_is}
-use Rattle.hyd_text_rows.proofs.SectionLemmas.{none_of}
+use Rattle.hyd_theorems_on_input.proofs.Faultless.{or_none, all_none, section_is, none_from}
 use Rattle.hyd_judge_controls.proofs.RuleLemmas.{action_is_right}
 use Rattle.hyd_build_controls.specs.CheckedRows.{IsRightAction}
 use Rattle.hyd_build_controls.proofs.ControlLemmas.{known}
@@ -40,7 +39,7 @@ right_action rows k row by_itself with_others is member acts =
     let section = section_is Rules row member in
     let Q : Section → Type 0 = λ s. others.section_fault s rows k row ≡ None in
     let R : Section → Type 0 = λ s. IsRefusedIn s rows (holds_action (take k rows) row) row in
-    let none = none_of (others.row_fault rows k row) (λ cause f. with_others k cause (record {
+    let none = none_from (others.row_fault rows k row) (λ cause f. with_others k cause (record {
       row = row;
       row_is = is;
       fault = inl f;

@@ -29,12 +29,12 @@ use Rattle.hyd_spec_input.specs.Project.{Match, IsControl}
 use Rattle.hyd_spec_input.specs.Tables.{is_of, rows_of, words_of, words_of_row, node_named, link_named, allows_node}
 use Rattle.hyd_spec_input.specs.Tables.{allows_link}
 use Rattle.hyd_spec_input.specs.RowsTogether as others
-use Rattle.hyd_theorems_on_input.proofs.Faultless.{or_none, all_none, unless_none, needed_none, section_is}
+use Rattle.hyd_theorems_on_input.proofs.Faultless.{or_none, all_none, unless_none, needed_none, section_is, none_from}
 use Rattle.hyd_theorems_on_input.proofs.Points.{is_head_lies}
 use Rattle.hyd_text_rows.proofs.FoundLemmas.{filter_more, filter_same}
-use Rattle.hyd_text_rows.proofs.SectionLemmas.{none_of}
 use Rattle.hyd_build_controls.specs.Controls.{IsRightWhen, AreControls}
 use Rattle.hyd_build_controls.specs.CheckedRows.{IsRightControl}
+use Rattle.hyd_theorems_on_input.proofs.Matching.{match_push}
 use Rattle.hyd_build_controls.proofs.NumberLemmas.{tank_numbered}
 
 -- ---- a name that is known
@@ -67,7 +67,7 @@ right_control rows k row by_itself with_others is member =
     (words_of Rules (drop (k + 1) rows)) ≡ None in
     let Q : Section → Type 0 = λ s. others.section_fault s rows k row ≡ None in
     let R : Section → Type 0 = λ s. IsRefusedIn s rows acting row in
-    let none = none_of (others.row_fault rows k row) (λ cause f. with_others k cause (record {
+    let none = none_from (others.row_fault rows k row) (λ cause f. with_others k cause (record {
       row = row;
       row_is = is;
       fault = inl f;
@@ -79,7 +79,7 @@ right_control rows k row by_itself with_others is member =
     let set = subst S found.is each.1.1.1.0 in
     record {
       by_itself = subst P section
-          (none_of (itself.row_fault rows k row)
+          (none_from (itself.row_fault rows k row)
           (λ cause f. by_itself k cause (record { row = row; row_is = is; fault = f })));
       link = found.row;
       named = found.is;
@@ -138,13 +138,6 @@ right_when rows row tanks unit right t u = record {
 }
 
 -- ---- the list, one row further
-
-pub match_push : {A B : Type 0} (R : A → B → Type 0) (xs : List A) (ys : List B) (x : A) (y : B) → Match R xs ys
-    → R x y → Match R (xs ++ x ∷ []) (ys ++ y ∷ [])
-match_push R [] [] x y m r = (r, tt)
-match_push R [] (b ∷ bs) x y m r = absurd m
-match_push R (a ∷ rest) [] x y m r = absurd m
-match_push R (a ∷ rest) (b ∷ bs) x y m r = (m.0, match_push R rest bs x y m.1 r)
 
 pub built_same : (rows : List Row) (k : ℕ) (row : Row) (list : List Control) → AreControls rows k list
     → slice_get rows k ≡ Some row → is_of InControls row ≡ false → AreControls rows (k + 1) list

@@ -14,7 +14,7 @@ use Rattle.hyd_spec_input.specs.Faults.{NoneIs, IsWrongWithOthers}
 use Rattle.hyd_spec_input.specs.Keywords.{object_word, attribute_word}
 use Rattle.hyd_spec_input.specs.MeaningsAcrossRows.{node_ids, tank_ids, link_ids, is_asking, is_priority}
 use Rattle.hyd_spec_input.specs.RuleRows as form
-use Rattle.hyd_spec_input.specs.RuleRows.{begins_with, stage_by, is_acting, in_order, line_words, words_about}
+use Rattle.hyd_spec_input.specs.RuleRows.{begins_with, stage_by, is_acting, in_order, words_of_rule_line, words_about}
 use Rattle.hyd_spec_input.specs.RuleRows.{gets_then, can_have, attribute_of, attribute, relation, value}
 use Rattle.hyd_spec_input.specs.RuleRows.{attribute_place, comparison, clause_about}
 use Rattle.hyd_spec_input.specs.Tables.{is_of, words_of}
@@ -27,9 +27,8 @@ use Rattle.hyd_spec_input.specs.declared.RuleWord.{RuleWord}
 use Rattle.hyd_spec_input.specs.declared.RuleWord.TheVariants.{Rule, If, And, Or, Then, Else, Priority}
 use Rattle.hyd_spec_input.specs.declared.Stage.{Stage}
 use Rattle.hyd_spec_input.specs.declared.Stage.TheVariants.{Outside, Named, Asking, Acting, Otherwise, Closed}
-use Rattle.hyd_theorems_on_input.proofs.Faultless.{or_none, all_none, unless_none, needed_none, section_is}
+use Rattle.hyd_theorems_on_input.proofs.Faultless.{or_none, all_none, unless_none, needed_none, section_is, none_from}
 use Rattle.hyd_theorems_on_input.proofs.RuleLines.{not_rule}
-use Rattle.hyd_text_rows.proofs.SectionLemmas.{none_of}
 use Rattle.hyd_build_controls.specs.Clauses.{HasNumber}
 use Rattle.hyd_build_controls.specs.CheckedRows.{IsRightAction}
 use Rattle.hyd_build_controls.specs.Rules.{is_clause_word, IsRightClause, is_of_branch, stage_at}
@@ -42,7 +41,7 @@ use Rattle.hyd_build_controls.proofs.RightClauses.{clause_numbered}
 
 record Alone (rows : List Row) (k : ℕ) (words : List (List ℕ)) : Type 0 where
   order : in_order (stage_at rows k) (begins_with words) ≡ None
-  line : line_words (is_acting (stage_at rows k)) words ≡ None
+  line : words_of_rule_line (is_acting (stage_at rows k)) words ≡ None
 
 alone : (rows : List Row) (k : ℕ) (row : Row) → NoneIs (IsWrongByItself rows) → slice_get rows k ≡ Some row
     → is_of Rules row ≡ true → Alone rows k row.words
@@ -52,9 +51,11 @@ alone rows k row right is member =
     let P : Section → Type 0 = λ s. itself.section_fault s earlier row.words later ≡ None in
     let all : form.rule_line earlier row.words later ≡ None =
     subst P (section_is Rules row member)
-    (none_of (itself.row_fault rows k row) (λ cause f. right k cause (record { row = row; row_is = is; fault = f }))) in
+    (none_from (itself.row_fault rows k row)
+    (λ cause f. right k cause (record { row = row; row_is = is; fault = f }))) in
     let each = all_none (in_order (stage_at rows k) (begins_with row.words)
-    ∷ line_words (is_acting (stage_at rows k)) row.words ∷ unless (gets_then row.words later) Syntax ∷ []) all in
+    ∷ words_of_rule_line (is_acting (stage_at rows k)) row.words ∷ unless (gets_then row.words later) Syntax ∷ []) all
+    in
     record { order = each.0; line = each.1.0 }
 
 -- ---- clauses
@@ -92,7 +93,7 @@ right_clause rows k row by_itself with_others is member asking =
     let own = alone rows k row by_itself is member in
     let ask = asks (stage_at rows k) (begins_with row.words) row.words own.order own.line asking in
     let Q : Section → Type 0 = λ s. others.section_fault s rows k row ≡ None in
-    let none = none_of (others.row_fault rows k row) (λ cause f. with_others k cause (record {
+    let none = none_from (others.row_fault rows k row) (λ cause f. with_others k cause (record {
       row = row;
       row_is = is;
       fault = inl f;

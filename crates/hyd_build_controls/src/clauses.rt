@@ -44,7 +44,7 @@ fn what_of(attribute: Attribute, name: &[u8], nodes: &Names, tanks: &Names, link
     }
 }
 
-fn status_of(value: hyd_option_and_rule_lines::Value) -> Value
+fn status_value(value: hyd_option_and_rule_lines::Value) -> Value
     ensures { (asked : List ℕ) → value ≡ meaning.status_value asked → result ≡ project.status_value asked }
 {
     match value {
@@ -90,7 +90,7 @@ fn value_of(
     match attribute {
         Attribute::Time => time_of(value, unit),
         Attribute::Clock => time_of(value, unit),
-        Attribute::Status => status_of(value),
+        Attribute::Status => status_value(value),
         Attribute::Head => quantity_of(value, what, unit),
         Attribute::Pressure => quantity_of(value, what, unit),
         Attribute::Level => quantity_of(value, what, unit),

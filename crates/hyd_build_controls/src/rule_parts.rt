@@ -12,7 +12,7 @@ ghost use Rattle.hyd_spec_input.specs.Columns as column;
 ghost use Rattle.hyd_spec_input.specs.Columns.{amount};
 ghost use Rattle.hyd_spec_input.specs.Faults.{NoneIs, IsWrongWithOthers};
 ghost use Rattle.hyd_spec_input.specs.InForce as force;
-ghost use Rattle.hyd_spec_input.specs.MeaningsAcrossRows as network;
+ghost use Rattle.hyd_spec_input.specs.MeaningsAcrossRows as across;
 ghost use Rattle.hyd_spec_input.specs.MeaningsAcrossRows.{node_ids, tank_ids, link_ids, lines_at};
 ghost use Rattle.hyd_spec_input.specs.Project as project;
 ghost use Rattle.hyd_spec_input.specs.RuleRows.{begins_with};
@@ -56,7 +56,7 @@ const NO_CLAUSE: RuleClause = RuleClause {
 };
 
 fn is_asking(stage: Stage) -> bool
-    ensures { result ≡ network.is_asking stage }
+    ensures { result ≡ across.is_asking stage }
 {
     match stage {
         Stage::Asking => true,
@@ -74,7 +74,7 @@ fn is_of_branch(branch: Branch, stage: Stage) -> bool
 }
 
 fn is_priority(first: Option<RuleWord>) -> bool
-    ensures { result ≡ network.is_priority first }
+    ensures { result ≡ across.is_priority first }
 {
     match first {
         Some(RuleWord::Priority) => true,
@@ -148,7 +148,7 @@ pub(crate) fn clauses_of(
     requires unit { unit ≡ force.unit (rows_at text.now.text lines.now) }
     requires begun { Named ≡ stage_at (rows_at text.now.text lines.now) from }
     ensures { IfOk result (λ list. Match (IsClause (rows_at text.now.text lines.now))
-        (lines_at network.is_asking Named (rest_of_rule (rows_at text.now.text lines.now) from)) list.list) }
+        (lines_at across.is_asking Named (rest_of_rule (rows_at text.now.text lines.now) from)) list.list) }
 {
     let mut list = List::new(alloc);
     let mut stage = Stage::Named;
@@ -227,7 +227,7 @@ fn billionths(text: &Lines<'_>, line: &Line) -> Option<i128>
 pub(crate) fn priority_of(text: &Lines<'_>, lines: &[Line], from: usize) -> Option<i128>
     requires lie { All (LiesIn text.now.text) lines.now }
     requires by_itself { NoneIs (IsWrongByItself (rows_at text.now.text lines.now)) }
-    ensures { result ≡ network.priority_of (rest_of_rule (rows_at text.now.text lines.now) from) }
+    ensures { result ≡ across.priority_of (rest_of_rule (rows_at text.now.text lines.now) from) }
 {
     for place in from..lines.len() {
         let line = &lines[place];

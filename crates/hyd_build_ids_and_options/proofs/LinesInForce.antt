@@ -1,5 +1,5 @@
 -- Lines of options and times in force, of rows of which none is wrong: their numbers and times are right.
-use Rattle.std.proofs.Common.{◌≡◌, ℕ, Bool, true, List, [], ◌∷◌, Option, Some, None, refl, sym, ◌∙◌, subst, arith}
+use Rattle.std.proofs.Common.{◌≡◌, ℕ, Bool, true, List, [], ◌∷◌, Option, Some, None, refl, sym, arith}
 use Rattle.std.specs.Prelude.{slice_get, nat_le, codes, IfSome, ◌^◌, pos, if◌then◌else◌, ℤ}
 use Rattle.std.proofs.lemmas.Bool.{and_parts, le-leb}
 use lib.Signed.{le_z}
@@ -8,23 +8,21 @@ use Rattle.hyd_spec_lines.specs.Lines.{Row, row_of}
 use Rattle.hyd_spec_lines.specs.declared.line.Line.{Line}
 use Rattle.hyd_spec_lines.specs.declared.section.Section.{Section}
 use Rattle.hyd_spec_lines.specs.declared.section.Section.TheVariants.{Options as OptionsSection, Times as TimesSection}
-use Rattle.hyd_spec_input.specs.Columns.{Column, or_else, needed, number, ends, one_of, optional, not_negative, up_to}
-use Rattle.hyd_spec_input.specs.Columns.{word, word_is}
+use Rattle.hyd_spec_input.specs.Columns.{Column, or_else, needed, number, ends, one_of, optional, up_to, word, word_is}
 use Rattle.hyd_spec_input.specs.InForce.{begins, begins_both, last_where}
-use Rattle.hyd_spec_input.specs.Keywords.{option_word, option_words, more_option_words, unused_option, unused_words}
-use Rattle.hyd_spec_input.specs.Keywords.{more_unused_words, last_unused_words, time_word, time_words, more_time_words}
-use Rattle.hyd_spec_input.specs.declared.OptionWord.{OptionWord}
+use Rattle.hyd_spec_input.specs.Keywords.{time_word}
 use Rattle.hyd_spec_input.specs.declared.OptionWord.TheVariants as at
-use Rattle.hyd_spec_input.specs.declared.TimeWord.{TimeWord}
 use Rattle.hyd_spec_input.specs.declared.TimeWord.TheVariants as moment
 use Rattle.hyd_spec_input.specs.Moments.{moment_word, unit_word, time_nano, time_range, time, clock, whole_seconds}
-use Rattle.hyd_spec_input.specs.OptionRows.{demand_words, demand_value, demand_line, bound_line, option_about, option}
-use Rattle.hyd_spec_input.specs.OptionRows.{step_line, step_or_start_line, start_line, time_about, time_line}
+use Rattle.hyd_spec_input.specs.OptionRows.{demand_words, demand_value, demand_line, step_line, step_or_start_line}
+use Rattle.hyd_spec_input.specs.OptionRows.{start_line}
 use Rattle.hyd_spec_input.specs.Tables.{rows_of}
 use Rattle.hyd_text_rows.specs.FirstWrongRow.{rows_at}
 use Rattle.hyd_theorems_on_input.proofs.Faultless.{AreRight, right_alone, or_none, all_none, unless_none, needed_none}
-use Rattle.hyd_theorems_on_input.proofs.InForce.{IsInForce, in_force, word_is_keyword, first_named_same, is_one_of_same}
+use Rattle.hyd_theorems_on_input.proofs.InForce.{IsInForce, in_force}
 use Rattle.hyd_build_ids_and_options.specs.InForce.{row_in, GivesTime}
+use Rattle.hyd_theorems_on_input.proofs.OptionRanges.{minimum_is, required_is, about, bound_number, demand_is}
+use Rattle.hyd_theorems_on_input.proofs.Moments.{about_time}
 
 -- what each row in force has, a line in force has it
 pub of_line : (text : List ℕ) (lines : List Line) (section : Section) (p : Row → Bool) (C : List (List ℕ) → Type 0)
@@ -37,40 +35,6 @@ of_line text lines section p C (Some l) e each =
 
 -- ---- options
 
-unused_same : (a word : List ℕ) → is_keyword a word ≡ true → unused_option word ≡ unused_option a
-unused_same a word e = rw (
-  is_one_of_same unused_words a word e,
-  is_one_of_same more_unused_words a word e,
-  is_one_of_same last_unused_words a word e,
-) refl
-
-option_word_same : (a word : List ℕ) → is_keyword a word ≡ true → option_word word ≡ option_word a
-unfolding option_word
-option_word_same a word e = rw (
-  first_named_same option_words a word e,
-  first_named_same more_option_words a word e,
-  unused_same a word e,
-) refl
-
-about : (words : List (List ℕ)) (a : List ℕ) (meaning : OptionWord) → option words ≡ None → word_is 0 a words ≡ true
-    → option_word a ≡ Some meaning → option_about (Some meaning) words ≡ None
-about words a meaning line begun is =
-    let e : option_word (word 0 words) ≡ Some meaning =
-    option_word_same a (word 0 words) (word_is_keyword 0 a words begun) ∙ is in
-    subst (λ (o : Option OptionWord). option_about o words ≡ None) e line
-
-demand_is : option_word (codes "DEMAND") ≡ Some at.Demand
-unfolding option_word is_keyword
-demand_is = refl
-
-minimum_is : option_word (codes "MINIMUM") ≡ Some at.Minimum
-unfolding option_word is_keyword
-minimum_is = refl
-
-required_is : option_word (codes "REQUIRED") ≡ Some at.Required
-unfolding option_word is_keyword
-required_is = refl
-
 -- a word that is there and right
 right_word : (column : Column) (k : ℕ) (words : List (List ℕ)) → slice_get words k ≡ Some (word k words)
     → column (word k words) ≡ None → needed column k words ≡ None
@@ -82,12 +46,6 @@ number_in : (test : Column) (words : List (List ℕ)) → needed (λ w. or_else 
 number_in test words e =
     let found = needed_none (λ w. or_else (number w) (test w)) 2 words e in
     right_word number 2 words found.is (or_none (number (word 2 words)) (test (word 2 words)) found.right).0
-
-bound_number : (words : List (List ℕ)) → bound_line words ≡ None → needed number 2 words ≡ None
-bound_number words line =
-    let each = all_none (needed (one_of (codes "PRESSURE" ∷ [])) 1 words ∷ needed not_negative 2 words ∷ ends 3 words
-    ∷ []) line in
-    number_in _ words each.1.0
 
 multiplier_number : (words : List (List ℕ)) → word_is 1 (codes "MULTIPLIER") words ≡ true → demand_line words ≡ None
     → needed number 2 words ≡ None
@@ -119,17 +77,6 @@ multiplier_right rows row right found =
     (right_alone rows OptionsSection found.place row right found.is found.of) both.0 demand_is)
 
 -- ---- times
-
-time_word_same : (a word : List ℕ) → is_keyword a word ≡ true → time_word word ≡ time_word a
-unfolding time_word
-time_word_same a word e = rw (first_named_same time_words a word e, first_named_same more_time_words a word e) refl
-
-about_time : (words : List (List ℕ)) (a : List ℕ) (meaning : TimeWord) → time_line words ≡ None
-    → word_is 0 a words ≡ true → time_word a ≡ Some meaning → time_about (Some meaning) words ≡ None
-about_time words a meaning line begun is =
-    let e : time_word (word 0 words) ≡ Some meaning =
-    time_word_same a (word 0 words) (word_is_keyword 0 a words begun) ∙ is in
-    subst (λ (o : Option TimeWord). time_about o words ≡ None) e line
 
 hydraulic_is : time_word (codes "HYDRAULIC") ≡ Some moment.Hydraulic
 unfolding time_word is_keyword

@@ -16,6 +16,7 @@ use Rattle.hyd_spec_lines.specs.declared.section.Section.TheVariants.{Valves}
 use Rattle.hyd_spec_input.specs.MeaningsAcrossRows.{is_among, new_names, node_ids, tank_ids, link_ids}
 use Rattle.hyd_spec_input.specs.Tables.{is_of, rows_of, own_id}
 use Rattle.hyd_text_rows.proofs.FoundLemmas.{filter_more, filter_same}
+use Rattle.hyd_lemmas.proofs.Trials.{or-turned}
 use Rattle.hyd_theorems_on_input.proofs.Occurs.{itself, when, occurs, occurs_append, Once}
 use Rattle.hyd_theorems_on_input.proofs.Faultless.{AreRight}
 use Rattle.hyd_theorems_on_input.proofs.Names.{own_ids, node_ids_are, link_ids_are, tank_ids_are, nodes_once}
@@ -33,12 +34,6 @@ with_first : (b : Bool) (id name : List ℕ) (names : List (List ℕ))
 with_first true id name names = refl
 with_first false id name names = refl
 
-turned : (a b c : Bool) → ((a || b) || c) ≡ (b || (a || c))
-turned true true c = refl
-turned true false c = refl
-turned false true c = refl
-turned false false c = refl
-
 pub one_more : (name : List ℕ) (seen names : List (List ℕ))
     → new_names seen (names ++ name ∷ []) ≡ with_name (is_among name seen || is_among name (new_names seen names))
     (new_names seen names) name
@@ -52,7 +47,7 @@ one_more name seen (id ∷ ids) = elim (cases_Bool (is_among id seen)) [
       ∙ with_first (is_among name (id ∷ seen) || is_among name (new_names (id ∷ seen) ids)) id name (new_names
       (id ∷ seen) ids)
       ∙ ap (λ b. with_name b (id ∷ new_names (id ∷ seen) ids) name)
-      (turned (bytes_eq name id) (is_among name seen) (is_among name (new_names (id ∷ seen) ids))))
+      (or-turned (bytes_eq name id) (is_among name seen) (is_among name (new_names (id ∷ seen) ids))))
 ]
 
 among_is : (name : List ℕ) (ids : List (List ℕ)) → is_among name ids ≡ list_any (bytes_eq name) ids

@@ -1,11 +1,7 @@
 -- The rows of a text of which none is wrong.
 use Rattle.std.proofs.Common.{◌≡◌, ℕ, ◌≤◌, List, length, Some, inl}
 use Rattle.std.specs.Prelude.{slice_get, slice_range}
-use Rattle.std.specs.List.{All, slice_split}
-use Rattle.std.proofs.Common.{nat_le}
-use Rattle.std.proofs.lemmas.Bool.{leb-true}
-use Rattle.std.proofs.lemmas.List.Elements.{filter_passes}
-use Rattle.hyd_spec_lines.specs.WordsOfLines.{words_in, is_blank}
+use Rattle.std.specs.List.{All}
 use Rattle.hyd_spec_lines.specs.Lines.{Row, row_of}
 use Rattle.hyd_spec_lines.specs.declared.line.Line.{Line}
 use Rattle.hyd_spec_input.specs.SingleRows as itself
@@ -13,15 +9,9 @@ use Rattle.hyd_spec_input.specs.SingleRows.{IsWrongByItself}
 use Rattle.hyd_spec_input.specs.RowsTogether as others
 use Rattle.hyd_spec_input.specs.Faults.{NoneIs, IsWrongWithOthers}
 use Rattle.hyd_text_rows.specs.FirstWrongRow.{rows_at}
-use Rattle.hyd_text_rows.proofs.SectionLemmas.{none_of}
-use Rattle.hyd_theorems_on_input.proofs.Faultless.{AreRight}
+use Rattle.hyd_theorems_on_input.proofs.Faultless.{AreRight, none_from}
 use Rattle.hyd_theorems_on_input.proofs.Places.{source}
-
--- no word is empty
-no_empty_word : (line : List ℕ) → All (λ w. 1 ≤ length w) (words_in line)
-unfolding words_in
-no_empty_word line k d l =
-    leb-true 1 _ (filter_passes (λ word. nat_le 1 (length word)) (slice_split is_blank line) k d l)
+use Rattle.hyd_theorems_on_input.proofs.NotEmpty.{no_empty_word}
 
 words_of_line : (text : List ℕ) (lines : List Line) (k : ℕ) (row : Row) → slice_get (rows_at text lines) k ≡ Some row
     → All (λ w. 1 ≤ length w) row.words
@@ -33,9 +23,9 @@ words_of_line text lines k row is =
 pub right_rows : (text : List ℕ) (lines : List Line) → NoneIs (IsWrongByItself (rows_at text lines))
     → NoneIs (IsWrongWithOthers (rows_at text lines)) → AreRight (rows_at text lines)
 right_rows text lines alone among = record {
-  by_itself = λ k row is. none_of (itself.row_fault (rows_at text lines) k row)
+  by_itself = λ k row is. none_from (itself.row_fault (rows_at text lines) k row)
       (λ cause e. alone k cause (record { row = row; row_is = is; fault = e }));
-  with_others = λ k row is. none_of (others.row_fault (rows_at text lines) k row)
+  with_others = λ k row is. none_from (others.row_fault (rows_at text lines) k row)
       (λ cause e. among k cause (record { row = row; row_is = is; fault = inl e }));
   not_empty = words_of_line text lines;
 }

@@ -6,7 +6,7 @@ ghost use Rattle.std.specs.List.{All};
 ghost use Rattle.hyd_spec_lines.specs.Lines.{LiesIn, row_of};
 ghost use Rattle.hyd_spec_input.specs.SingleRows.{IsWrongByItself};
 ghost use Rattle.hyd_spec_input.specs.Faults.{NoneIs, IsWrongWithOthers};
-ghost use Rattle.hyd_spec_input.specs.MeaningsAcrossRows as network;
+ghost use Rattle.hyd_spec_input.specs.MeaningsAcrossRows as across;
 ghost use Rattle.hyd_spec_input.specs.MeaningsAcrossRows.{new_names};
 ghost use Rattle.hyd_spec_input.specs.Tables as table;
 ghost use Rattle.hyd_spec_input.specs.Tables.{rows_of};
@@ -59,7 +59,7 @@ pub fn node_ids(alloc: Global, text: &Lines<'_>, lines: &[Line]) -> Result<Names
     requires lie { All (LiesIn text.now.text) lines.now }
     requires by_itself { NoneIs (IsWrongByItself (rows_at text.now.text lines.now)) }
     requires with_others { NoneIs (IsWrongWithOthers (rows_at text.now.text lines.now)) }
-    ensures { IfOk result (λ names. names ≡ network.node_ids (rows_at text.now.text lines.now)) }
+    ensures { IfOk result (λ names. names ≡ across.node_ids (rows_at text.now.text lines.now)) }
 {
     let mut names = Names::new(alloc);
     add_section(&mut names, text, lines, Section::Junctions)?;
@@ -74,7 +74,7 @@ pub fn tank_ids(alloc: Global, text: &Lines<'_>, lines: &[Line]) -> Result<Names
     requires lie { All (LiesIn text.now.text) lines.now }
     requires by_itself { NoneIs (IsWrongByItself (rows_at text.now.text lines.now)) }
     requires with_others { NoneIs (IsWrongWithOthers (rows_at text.now.text lines.now)) }
-    ensures { IfOk result (λ names. names ≡ network.tank_ids (rows_at text.now.text lines.now)) }
+    ensures { IfOk result (λ names. names ≡ across.tank_ids (rows_at text.now.text lines.now)) }
 {
     let mut names = Names::new(alloc);
     add_section(&mut names, text, lines, Section::Tanks)?;
@@ -87,7 +87,7 @@ pub fn link_ids(alloc: Global, text: &Lines<'_>, lines: &[Line]) -> Result<Names
     requires lie { All (LiesIn text.now.text) lines.now }
     requires by_itself { NoneIs (IsWrongByItself (rows_at text.now.text lines.now)) }
     requires with_others { NoneIs (IsWrongWithOthers (rows_at text.now.text lines.now)) }
-    ensures { IfOk result (λ names. names ≡ network.link_ids (rows_at text.now.text lines.now)) }
+    ensures { IfOk result (λ names. names ≡ across.link_ids (rows_at text.now.text lines.now)) }
 {
     let mut names = Names::new(alloc);
     add_section(&mut names, text, lines, Section::Pipes)?;
@@ -100,7 +100,7 @@ pub fn link_ids(alloc: Global, text: &Lines<'_>, lines: &[Line]) -> Result<Names
 pub fn pattern_ids(alloc: Global, text: &Lines<'_>, lines: &[Line]) -> Result<Names, OutOfMemory>
     requires few { length lines.now ≤ 2 ^ 26 }
     requires lie { All (LiesIn text.now.text) lines.now }
-    ensures { IfOk result (λ names. names ≡ network.pattern_ids (rows_at text.now.text lines.now)) }
+    ensures { IfOk result (λ names. names ≡ across.pattern_ids (rows_at text.now.text lines.now)) }
 {
     let mut names = Names::new(alloc);
     add_section(&mut names, text, lines, Section::Patterns)?;

@@ -9,7 +9,7 @@ ghost use Rattle.hyd_spec_input.specs.SingleRows.{IsWrongByItself};
 ghost use Rattle.hyd_spec_input.specs.Faults.{NoneIs, IsWrongWithOthers};
 ghost use Rattle.hyd_spec_input.specs.Columns as column;
 ghost use Rattle.hyd_spec_input.specs.InForce as force;
-ghost use Rattle.hyd_spec_input.specs.MeaningsAcrossRows as network;
+ghost use Rattle.hyd_spec_input.specs.MeaningsAcrossRows as across;
 ghost use Rattle.hyd_spec_input.specs.Project.{IsOptions};
 ghost use Rattle.hyd_text_rows.specs.FirstWrongRow.{rows_at};
 ghost use Rattle.hyd_build_ids_and_options.specs.InForce.{row_in};
@@ -113,7 +113,7 @@ pub fn options_in_force(
     requires by_itself { NoneIs (IsWrongByItself (rows_at text.now.text lines.now)) }
     requires with_others { NoneIs (IsWrongWithOthers (rows_at text.now.text lines.now)) }
     requires unit { unit ≡ force.unit (rows_at text.now.text lines.now) }
-    requires patterns { patterns.now ≡ network.pattern_ids (rows_at text.now.text lines.now) }
+    requires patterns { patterns.now ≡ across.pattern_ids (rows_at text.now.text lines.now) }
     ensures { IsOptions (rows_at text.now.text lines.now) result }
 {
     Options {

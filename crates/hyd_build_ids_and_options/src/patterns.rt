@@ -11,7 +11,7 @@ ghost use Rattle.hyd_spec_input.specs.SingleRows.{IsWrongByItself};
 ghost use Rattle.hyd_spec_input.specs.Columns.{within};
 ghost use Rattle.hyd_spec_input.specs.DemandCurveAndStatusRows as row;
 ghost use Rattle.hyd_spec_input.specs.Faults.{NoneIs, IsWrongWithOthers};
-ghost use Rattle.hyd_spec_input.specs.MeaningsAcrossRows as network;
+ghost use Rattle.hyd_spec_input.specs.MeaningsAcrossRows as across;
 ghost use Rattle.hyd_spec_input.specs.Project.{Match, IsPattern};
 ghost use Rattle.hyd_text_rows.specs.FirstWrongRow.{rows_at};
 ghost use Rattle.hyd_build_ids_and_options.specs.PatternsSoFar.{each, opened, AreFilled};
@@ -83,7 +83,7 @@ fn add_row(
     requires within { place < length lines.now }
     requires lie { All (LiesIn text.now.text) lines.now }
     requires by_itself { NoneIs (IsWrongByItself (rows_at text.now.text lines.now)) }
-    requires ids { ids.now ≡ network.pattern_ids (rows_at text.now.text lines.now) }
+    requires ids { ids.now ≡ across.pattern_ids (rows_at text.now.text lines.now) }
     requires filled { AreFilled (rows_at text.now.text lines.now) place patterns.old.items }
     ensures { OnOk result (AreFilled (rows_at text.now.text lines.now) (place + 1) patterns.new.items) }
 {
@@ -122,9 +122,9 @@ pub fn build_patterns(
 ) -> Result<List<Pattern>, OutOfMemory>
     requires lie { All (LiesIn text.now.text) lines.now }
     requires by_itself { NoneIs (IsWrongByItself (rows_at text.now.text lines.now)) }
-    requires ids { ids.now ≡ network.pattern_ids (rows_at text.now.text lines.now) }
+    requires ids { ids.now ≡ across.pattern_ids (rows_at text.now.text lines.now) }
     ensures { IfOk result (λ patterns. Match (IsPattern (rows_at text.now.text lines.now))
-        (network.pattern_ids (rows_at text.now.text lines.now)) patterns.list) }
+        (across.pattern_ids (rows_at text.now.text lines.now)) patterns.list) }
 {
     let mut patterns = Vec::new(alloc);
     for place in 0..lines.len() {

@@ -13,13 +13,7 @@ use Rattle.hyd_text_rows.specs.FirstWrongRow.{rows_at}
 use Rattle.hyd_text_rows.proofs.FoundLemmas.{filter_more, filter_same}
 use Rattle.hyd_text_rows.proofs.SectionLemmas.{all_rows}
 use Rattle.hyd_build_links.specs.Built.{AreBuilt, is_link_section}
-
-match_push : {A B : Type 0} (R : A → B → Type 0) (xs : List A) (ys : List B) (x : A) (y : B) → Match R xs ys → R x y
-    → Match R (xs ++ x ∷ []) (ys ++ y ∷ [])
-match_push R [] [] x y m r = (r, tt)
-match_push R [] (b ∷ bs) x y m r = absurd m
-match_push R (a ∷ rest) [] x y m r = absurd m
-match_push R (a ∷ rest) (b ∷ bs) x y m r = (m.0, match_push R rest bs x y m.1 r)
+use Rattle.hyd_theorems_on_input.proofs.Matching.{match_push}
 
 -- ---- sections
 

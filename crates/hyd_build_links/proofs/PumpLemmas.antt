@@ -24,7 +24,7 @@ use Rattle.hyd_spec_input.specs.MeaningsAcrossRows.{pattern_number}
 use Rattle.hyd_spec_input.specs.NetworkRows.{pump_curve, pump_pattern}
 use Rattle.hyd_spec_input.specs.Project.{IsPumpKind}
 use Rattle.hyd_spec_input.specs.Tables.{curve_named}
-use Rattle.hyd_theorems_on_input.proofs.Faultless.{below}
+use Rattle.hyd_lemmas.proofs.Trials.{lt_z-yes}
 use Rattle.hyd_build_links.specs.Pumps.{ArePumpPoints, IsPumpLaw}
 use Rattle.hyd_curves.specs.Points.{points_in}
 use Rattle.hyd_build_links.specs.declared.pump_laws.PumpLaw.{PumpLaw}
@@ -84,7 +84,7 @@ falls unit ps a b three right =
     && int_eq ((a.y.nano -ℤ c.y.nano) *ℤ square b.x.nano) ((a.y.nano -ℤ b.y.nano) *ℤ square c.x.nano)) at.curve in
     let ys = and_parts (lt_z b.y.nano a.y.nano && lt_z c.y.nano b.y.nano)
     (int_eq ((a.y.nano -ℤ c.y.nano) *ℤ square b.x.nano) ((a.y.nano -ℤ b.y.nano) *ℤ square c.x.nano)) halves.1 in
-    below b.y.nano a.y.nano (and_parts (lt_z b.y.nano a.y.nano) (lt_z c.y.nano b.y.nano) ys.0).0
+    lt_z-yes b.y.nano a.y.nano (and_parts (lt_z b.y.nano a.y.nano) (lt_z c.y.nano b.y.nano) ys.0).0
 
 pub drop_above : (a b d : Decimal) → b.nano <ℤ a.nano → d.nano ≡ a.nano -ℤ b.nano → pos 0 <ℤ d.nano
 drop_above a b d l e = rw e (omega (arith, ints, l))

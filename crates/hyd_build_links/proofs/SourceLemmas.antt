@@ -1,10 +1,6 @@
 -- A row of a source whose rows are right.
 use Rattle.std.proofs.Common.{◌≡◌, ℕ, ◌≤◌, true, List, length, take, Some, slice_get, refl, sym, subst, inl, inr}
-use Rattle.std.proofs.Common.{nat_le}
-use Rattle.std.specs.List.{All, slice_split}
-use Rattle.std.proofs.lemmas.Bool.{leb-true}
-use Rattle.std.proofs.lemmas.List.Elements.{filter_passes}
-use Rattle.hyd_spec_lines.specs.WordsOfLines.{words_in, is_blank}
+use Rattle.std.specs.List.{All}
 use Rattle.hyd_spec_lines.specs.Lines.{Row, row_of}
 use Rattle.hyd_spec_lines.specs.declared.section.Section.{Section}
 use Rattle.hyd_net.specs.declared.refusal_cause.Cause.TheVariants.{Limit}
@@ -12,30 +8,24 @@ use Rattle.hyd_spec_input.specs.SingleRows as itself
 use Rattle.hyd_spec_input.specs.CapacitiesOutOfRange.{IsRefusedIn, IsRefusedRow}
 use Rattle.hyd_spec_input.specs.Tables.{is_of}
 use Rattle.hyd_spec_input.specs.RowsTogether as others
-use Rattle.hyd_theorems_on_input.proofs.Faultless.{AreRight, section_is}
+use Rattle.hyd_theorems_on_input.proofs.Faultless.{AreRight, section_is, none_from}
 use Rattle.hyd_theorems_on_input.proofs.Places.{source}
-use Rattle.hyd_text_rows.proofs.SectionLemmas.{none_of}
 use Rattle.hyd_build_links.specs.CheckedRows.{IsRightSource, rows_from}
 use Rattle.hyd_build_links.specs.declared.link_source.LinkSource.{LinkSource}
-
--- no word of a line is empty
-line_words : (line : List ℕ) → All (λ w. 1 ≤ length w) (words_in line)
-unfolding words_in
-line_words line k d l =
-    leb-true 1 _ (filter_passes (λ word. nat_le 1 (length word)) (slice_split is_blank line) k d l)
+use Rattle.hyd_theorems_on_input.proofs.NotEmpty.{no_empty_word}
 
 pub right_source : (text : List ℕ) (from : LinkSource) → IsRightSource text from → AreRight (rows_from text from)
 right_source text from right =
     let rows = rows_from text from in
     record {
-      by_itself = λ k row is. none_of (itself.row_fault rows k row)
+      by_itself = λ k row is. none_from (itself.row_fault rows k row)
           (λ cause e. right.by_itself k cause (record { row = row; row_is = is; fault = e }));
-      with_others = λ k row is. none_of (others.row_fault rows k row)
+      with_others = λ k row is. none_from (others.row_fault rows k row)
           (λ cause e. right.with_others k cause (record { row = row; row_is = is; fault = inl e }));
       not_empty = λ k row is.
           let found = source (row_of text) from.lines.now k row is in
           let P : Row → Type 0 = λ r. All (λ w. 1 ≤ length w) r.words in
-          subst P found.gives (line_words _);
+          subst P found.gives (no_empty_word _);
     }
 
 -- no capacity of a row is out of range

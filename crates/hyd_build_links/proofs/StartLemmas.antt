@@ -21,7 +21,7 @@ use Rattle.hyd_spec_input.specs.CapacitiesOutOfRange.{IsRefusedSetting}
 use Rattle.hyd_spec_input.specs.Columns.{word, amount, is_option_keyword}
 use Rattle.hyd_spec_input.specs.DemandCurveAndStatusRows as data_row
 use Rattle.hyd_spec_input.specs.InForce as force
-use Rattle.hyd_spec_input.specs.MeaningsAcrossRows.{status_of, last_naming}
+use Rattle.hyd_spec_input.specs.MeaningsAcrossRows.{status_row_of, last_naming}
 use Rattle.hyd_spec_input.specs.NetworkRows as alone
 use Rattle.hyd_spec_input.specs.Project.{IsNumberState, Where}
 use Rattle.hyd_spec_input.specs.Tables.{is_of, is_link, link_named, rows_of, own_id}
@@ -114,7 +114,7 @@ pub record StatusFacts (text : List ℕ) (from : LinkSource) (line status : Line
   pub free : IsRefusedSetting (rows_from text from) (Some (row_of text line)) (word 1 (row_of text status).words) → ⊥
 
 pub status_facts : (text : List ℕ) (from : LinkSource) (line status : Line) → IsRowOf is_link text from line
-    → status_of (rows_from text from) (row_of text line) ≡ Some (row_of text status)
+    → status_row_of (rows_from text from) (row_of text line) ≡ Some (row_of text status)
     → StatusFacts text from line status
 status_facts text from line status at e =
     let rows = rows_from text from in
@@ -136,7 +136,7 @@ status_facts text from line status at e =
     }
 
 pub settable : (text : List ℕ) (from : LinkSource) (line status : Line) → IsRowOf is_link text from line
-    → status_of (rows_from text from) (row_of text line) ≡ Some (row_of text status)
+    → status_row_of (rows_from text from) (row_of text line) ≡ Some (row_of text status)
     → (asked : Asked) → IsAsked (word 1 (row_of text status).words) asked
     → IsSettable from.unit (row_of text line) asked
 settable text from line status at e asked is =
@@ -148,7 +148,7 @@ settable text from line status at e asked is =
 pub last_is : (text : List ℕ) (from : LinkSource) (line : Line) (id : List ℕ) (last : Option Row)
     → id ≡ own_id (row_of text line)
     → last ≡ last_naming id (rows_of Status (take (length from.lines.now) (rows_from text from)))
-    → status_of (rows_from text from) (row_of text line) ≡ last
+    → status_row_of (rows_from text from) (row_of text line) ≡ last
 last_is text from line id last e l =
     sym (l ∙ ap (λ (rs : List Row). last_naming id (rows_of Status rs))
     (all_rows text from.lines.now (length from.lines.now) (omega arith))

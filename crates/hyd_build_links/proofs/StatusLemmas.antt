@@ -1,7 +1,6 @@
 -- The last rows of [STATUS] that name each link, one row further.
-use Rattle.std.proofs.Common.{◌≡◌, ◌+◌, ◌<◌, ◌≤◌, ◌++◌, ℕ, Bool, true, false, List, [], ◌∷◌, length, take, Option, Some}
-use Rattle.std.proofs.Common.{None, slice_get, refl, sym, ap, ◌∙◌, arith, inl, inr, true≢false, get_or, nat_lt}
-use Rattle.std.proofs.Common.{ltb-true, ltb-false}
+use Rattle.std.proofs.Common.{◌≡◌, ◌+◌, ◌<◌, ◌≤◌, ℕ, true, false, List, length, take, Option, Some, None, slice_get}
+use Rattle.std.proofs.Common.{refl, sym, ap, ◌∙◌, arith, inl, inr, true≢false, get_or, nat_lt, ltb-true, ltb-false}
 use Rattle.std.specs.Prelude.{slice_set, IfSome}
 use Rattle.std.specs.List.{All}
 use Rattle.std.specs.Str.{bytes_eq}
@@ -12,7 +11,6 @@ use Rattle.std.proofs.Math.ListN.{get_or-eq_default}
 use Rattle.hyd_spec_lines.specs.Lines.{Row, LiesIn, row_of}
 use Rattle.hyd_spec_lines.specs.declared.line.Line.{Line}
 use Rattle.hyd_spec_lines.specs.declared.section.Section.TheVariants.{Status}
-use Rattle.hyd_spec_input.specs.InForce.{last_where, or_earlier, where_passes}
 use Rattle.hyd_spec_input.specs.MeaningsAcrossRows.{number_in, last_naming}
 use Rattle.hyd_spec_input.specs.Tables.{is_of, rows_of, own_id}
 use Rattle.hyd_text_rows.proofs.FoundLemmas.{filter_more, filter_same}
@@ -20,37 +18,23 @@ use Rattle.hyd_text_rows.proofs.SectionLemmas.{all_rows}
 use Rattle.hyd_text_rows.specs.FirstWrongRow.{rows_at}
 use Rattle.hyd_theorems_on_input.proofs.Occurs.{same_name, itself, number_names}
 use Rattle.hyd_build_links.specs.Statuses.{row_in, AreNone, AreStatuses}
+use Rattle.hyd_theorems_on_input.proofs.InForce.{last_where_push}
 
 -- ---- the last row that passes, one row more
-
-or_earlier_in_turn : (a b c : Option Row) → or_earlier (or_earlier a b) c ≡ or_earlier a (or_earlier b c)
-or_earlier_in_turn (Some a) b c = refl
-or_earlier_in_turn None b c = refl
-
-none_last : (o : Option Row) → or_earlier None o ≡ or_earlier o None
-none_last (Some row) = refl
-none_last None = refl
-
-last_more : (p : Row → Bool) (rows : List Row) (row : Row)
-    → last_where p (rows ++ row ∷ []) ≡ or_earlier (where_passes p row) (last_where p rows)
-last_more p [] row = none_last (where_passes p row)
-last_more p (next ∷ rows) row =
-    ap (λ o. or_earlier o (where_passes p next)) (last_more p rows row)
-    ∙ or_earlier_in_turn (where_passes p row) (last_where p rows) (where_passes p next)
 
 last_here : (name : List ℕ) (rows : List Row) (k : ℕ) (row : Row) → slice_get rows k ≡ Some row
     → is_of Status row ≡ true → bytes_eq name (own_id row) ≡ true
     → last_naming name (rows_of Status (take (k + 1) rows)) ≡ Some row
 last_here name rows k row is member t =
     ap (last_naming name) (filter_more (is_of Status) rows k row is member)
-    ∙ last_more (λ r. bytes_eq name (own_id r)) (rows_of Status (take k rows)) row ∙ rw t refl
+    ∙ last_where_push (λ r. bytes_eq name (own_id r)) (rows_of Status (take k rows)) row ∙ rw t refl
 
 last_before : (name : List ℕ) (rows : List Row) (k : ℕ) (row : Row) → slice_get rows k ≡ Some row
     → is_of Status row ≡ true → bytes_eq name (own_id row) ≡ false
     → last_naming name (rows_of Status (take (k + 1) rows)) ≡ last_naming name (rows_of Status (take k rows))
 last_before name rows k row is member f =
     ap (last_naming name) (filter_more (is_of Status) rows k row is member)
-    ∙ last_more (λ r. bytes_eq name (own_id r)) (rows_of Status (take k rows)) row ∙ rw f refl
+    ∙ last_where_push (λ r. bytes_eq name (own_id r)) (rows_of Status (take k rows)) row ∙ rw f refl
 
 -- ---- rows
 

@@ -6,7 +6,7 @@ ghost use Rattle.hyd_spec_lines.specs.Lines.{LiesIn, row_of};
 ghost use Rattle.hyd_spec_lines.specs.declared.section.Section.TheVariants.{Pumps, Valves};
 ghost use Rattle.hyd_network_rows.specs.Rows.{pipe_status};
 ghost use Rattle.hyd_spec_input.specs.Columns.{word, amount};
-ghost use Rattle.hyd_spec_input.specs.MeaningsAcrossRows.{status_of};
+ghost use Rattle.hyd_spec_input.specs.MeaningsAcrossRows.{status_row_of};
 ghost use Rattle.hyd_spec_input.specs.NetworkRows as row;
 ghost use Rattle.hyd_spec_input.specs.Project as project;
 ghost use Rattle.hyd_spec_input.specs.Project.{IsOwnState, IsStart, IsState, IsNumberState, Where};
@@ -92,7 +92,7 @@ fn own_state(text: &Lines<'_>, line: &Line, source: &LinkSource<'_>) -> LinkStat
 fn asked_state(text: &Lines<'_>, line: &Line, source: &LinkSource<'_>, status: &Line) -> LinkState
     requires row { IsRowOf is_link text.now.text source.now line.now }
     requires lies { LiesIn text.now.text status.now }
-    requires status { status_of (rows_from text.now.text source.now) (row_of text.now.text line.now)
+    requires status { status_row_of (rows_from text.now.text source.now) (row_of text.now.text line.now)
         ≡ Some (row_of text.now.text status.now) }
     ensures { IsState (rows_from text.now.text source.now) (row_of text.now.text line.now)
         (word 1 (row_of text.now.text status.now).words) result }
@@ -114,7 +114,7 @@ pub(crate) fn start_of(
     requires statuses { AreStatuses text.now.text (rows_from text.now.text source.now) (length source.now.lines.now)
         source.now.links.now.names last.now }
     ensures { IsStart (rows_from text.now.text source.now) (row_of text.now.text line.now)
-        (status_of (rows_from text.now.text source.now) (row_of text.now.text line.now)) result }
+        (status_row_of (rows_from text.now.text source.now) (row_of text.now.text line.now)) result }
 {
     match status_line(text, last, source.links, own_id(text, line)) {
         Some(status) => asked_state(text, line, source, &status),

@@ -22,37 +22,23 @@ use Rattle.hyd_spec_input.specs.CapacitiesOutOfRange.{IsRefusedEmitter, IsRefuse
 use Rattle.hyd_spec_input.specs.Columns.{amount, word, or_empty, needed, id, up_to, ends, units}
 use Rattle.hyd_spec_input.specs.Faults.{NoneIs, IsWrongWithOthers}
 use Rattle.hyd_spec_input.specs.InForce as force
-use Rattle.hyd_spec_input.specs.InForce.{last_where, or_earlier, where_passes}
+use Rattle.hyd_spec_input.specs.InForce.{last_where}
 use Rattle.hyd_spec_input.specs.MeaningsAcrossRows.{number_in, last_naming, coefficient}
 use Rattle.hyd_spec_input.specs.Project.{IsEmitter}
 use Rattle.hyd_spec_input.specs.Tables.{is_of, rows_of, own_id, node_rows}
 use Rattle.hyd_spec_input.specs.RowsTogether as others
-use Rattle.hyd_theorems_on_input.proofs.Faultless.{all_none, needed_none, within, section_is}
+use Rattle.hyd_theorems_on_input.proofs.Faultless.{all_none, needed_none, within, section_is, none_from}
 use Rattle.hyd_text_rows.specs.FirstWrongRow.{rows_at}
 use Rattle.hyd_text_rows.specs.IdTables.{AreFirsts}
 use Rattle.hyd_text_rows.proofs.FoundLemmas.{filter_more, filter_same}
-use Rattle.hyd_text_rows.proofs.SectionLemmas.{none_of, all_rows}
+use Rattle.hyd_text_rows.proofs.SectionLemmas.{all_rows}
 use Rattle.hyd_text_rows.proofs.TableLemmas.{even}
 use Rattle.hyd_build_nodes.specs.DemandsAndEmitters.{IsSetAt, value_of, AreNone, AreEmitters}
+use Rattle.hyd_theorems_on_input.proofs.InForce.{last_where_push}
 use Rattle.hyd_build_nodes.proofs.RightLemmas.{alone, among}
 use Rattle.hyd_build_nodes.proofs.GatherLemmas.{set_named, default_at, known_there}
 
 -- ---- the last row that names a junction, one row more
-
-or_earlier_in_turn : (a b c : Option Row) → or_earlier (or_earlier a b) c ≡ or_earlier a (or_earlier b c)
-or_earlier_in_turn (Some a) b c = refl
-or_earlier_in_turn None b c = refl
-
-none_last : (o : Option Row) → or_earlier None o ≡ or_earlier o None
-none_last (Some row) = refl
-none_last None = refl
-
-last_more : (p : Row → Bool) (rows : List Row) (row : Row)
-    → last_where p (rows ++ row ∷ []) ≡ or_earlier (where_passes p row) (last_where p rows)
-last_more p [] row = none_last (where_passes p row)
-last_more p (next ∷ rows) row =
-    ap (λ o. or_earlier o (where_passes p next)) (last_more p rows row)
-    ∙ or_earlier_in_turn (where_passes p row) (last_where p rows) (where_passes p next)
 
 naming_here : (rows : List Row) (k : ℕ) (row : Row) → slice_get rows k ≡ Some row → is_of Emitters row ≡ true
     → last_naming (own_id row) (rows_of Emitters (take (k + 1) rows)) ≡ Some row
@@ -60,7 +46,7 @@ naming_here rows k row is member =
     let p : Row → Bool = λ (r : Row). bytes_eq (own_id row) (own_id r) in
     let same : p row ≡ true = (bytes_decides (own_id row) (own_id row)).1 refl in
     ap (last_where p) (filter_more (is_of Emitters) rows k row is member)
-    ∙ last_more p (rows_of Emitters (take k rows)) row ∙ rw same refl
+    ∙ last_where_push p (rows_of Emitters (take k rows)) row ∙ rw same refl
 
 naming_other : (rows : List Row) (k : ℕ) (row : Row) (name : List ℕ) → slice_get rows k ≡ Some row
     → is_of Emitters row ≡ true → bytes_eq name (own_id row) ≡ false
@@ -68,7 +54,7 @@ naming_other : (rows : List Row) (k : ℕ) (row : Row) (name : List ℕ) → sli
 naming_other rows k row name is member other =
     let p : Row → Bool = λ (r : Row). bytes_eq name (own_id r) in
     ap (last_where p) (filter_more (is_of Emitters) rows k row is member)
-    ∙ last_more p (rows_of Emitters (take k rows)) row ∙ rw other refl
+    ∙ last_where_push p (rows_of Emitters (take k rows)) row ∙ rw other refl
 
 -- ---- rows
 
@@ -172,7 +158,7 @@ pub accepted : (rows : List Row) (k : ℕ) (row : Row) (says : EmitterRow) (unit
     → NoneIs (IsWrongWithOthers rows) → slice_get rows k ≡ Some row → is_of Emitters row ≡ true
     → unit ≡ force.unit rows → IsEmitterRow row.words says → IsRefusedEmitter says.coefficient.nano unit → ⊥
 accepted rows k row says unit right is of u by refused =
-    let free : others.row_fault rows k row ≡ None = none_of (others.row_fault rows k row)
+    let free : others.row_fault rows k row ≡ None = none_from (others.row_fault rows k row)
     (λ cause f. right k cause (record { row = row; row_is = is; fault = inl f })) in
     let here : IsRefusedEmitter (amount 1 row.words) (force.unit rows) = rw (← by.coefficient, ← u) refused in
     let P : Section → Type 0 = λ s. IsRefusedIn s rows (others.holds_action (take k rows) row) row in

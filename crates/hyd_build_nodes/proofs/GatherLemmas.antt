@@ -1,15 +1,11 @@
 -- Values by the numbers of names, one of them set.
-use Rattle.std.proofs.Common.{◌≡◌, ◌+◌, ◌++◌, ℕ, Bool, true, false, List, [], ◌∷◌, filter, length, take, drop, position}
-use Rattle.std.proofs.Common.{Option, Some, None, slice_get, refl, sym, ap, ◌∙◌, subst, true≢false, get_or, inl, inr}
-use Rattle.std.proofs.Common.{append_assoc, nat_lt, ltb-true, ltb-false}
+use Rattle.std.proofs.Common.{◌≡◌, ℕ, true, false, List, length, position, Option, Some, None, slice_get, refl, sym, ap}
+use Rattle.std.proofs.Common.{◌∙◌, subst, true≢false, inl, inr, nat_lt, ltb-true, ltb-false}
 use Rattle.std.specs.Prelude.{slice_index_or}
 use Rattle.std.specs.List.{All}
 use Rattle.std.specs.Str.{bytes_eq}
 use Rattle.std.specs.Cmp.Lexicographic.{bytes_decides}
 use Rattle.std.proofs.lemmas.Bool.{cases_Bool}
-use Rattle.std.proofs.lemmas.List.{take-append-drop}
-use Rattle.std.proofs.lemmas.List.Elements.{filter-append}
-use Rattle.std.proofs.lemmas.List.Quantifiers.{position-Some}
 use Rattle.std.proofs.Math.ListN.{get_or-eq_default}
 use Rattle.hyd_spec_lines.specs.Lines.{Row}
 use Rattle.hyd_spec_lines.specs.declared.line.Line.{Line}
@@ -18,20 +14,11 @@ use Rattle.hyd_spec_input.specs.MeaningsAcrossRows.{number_in}
 use Rattle.hyd_spec_input.specs.Tables.{is_of, is_node, node_rows, own_id, row_with, has_id}
 use Rattle.hyd_spec_input.specs.RowsTogether.{known_as, known_junction}
 use Rattle.hyd_text_rows.specs.IdTables.{AreFirsts}
-use Rattle.hyd_text_rows.proofs.FoundLemmas.{filter_more}
+use Rattle.hyd_text_rows.proofs.FoundLemmas.{one_name, has_more}
 use Rattle.hyd_text_rows.proofs.TableLemmas.{not_found, has_id-is}
 use Rattle.hyd_build_nodes.specs.DemandsAndEmitters.{IsSetAt, value_of}
 
 -- ---- names
-
-one_name : (names : List (List ℕ)) (a b : List ℕ) (k : ℕ) → position (bytes_eq a) names ≡ Some k
-    → position (bytes_eq b) names ≡ Some k → a ≡ b
-one_name names a b k p q =
-    let x : a ≡ get_or names k [] = (bytes_decides a (get_or names k [])).0 (position-Some
-    (bytes_eq a) names k [] p).1 in
-    let y : b ≡ get_or names k [] = (bytes_decides b (get_or names k [])).0 (position-Some
-    (bytes_eq b) names k [] q).1 in
-    x ∙ sym y
 
 -- a junction that is known has a number
 pub known_there : (text : List ℕ) (rows : List Row) (names : List (List ℕ)) (firsts : List Line) (name : List ℕ)
@@ -42,25 +29,6 @@ known_there text rows names firsts name table known none =
     let wrong : known_as (is_of Junctions) None ≡ None = subst (λ (o : Option Row). known_as
     (is_of Junctions) o ≡ None) no known in
     let x : ⊥ = cc in x
-
-has_between : (name : List ℕ) (xs ys : List Row) (row : Row) → bytes_eq name (own_id row) ≡ true
-    → has_id name (xs ++ row ∷ ys) ≡ true
-has_between name [] ys row t = rw t refl
-has_between name (x ∷ xs) ys row t = elim (cases_Bool (bytes_eq name (own_id x))) [
-  | inl here ↦ rw here refl
-  | inr other ↦ rw other (has_between name xs ys row t)
-]
-
-has_more : (p : Row → Bool) (rows : List Row) (k : ℕ) (row : Row) → slice_get rows k ≡ Some row → p row ≡ true
-    → has_id (own_id row) (filter p rows) ≡ true
-has_more p rows k row is member =
-    let parts : filter p rows ≡ filter p (take k rows) ++ row ∷ filter p (drop (k + 1) rows) =
-    ap (filter p) (sym (take-append-drop (k + 1) rows))
-    ∙ filter-append p (take (k + 1) rows) (drop (k + 1) rows)
-    ∙ ap (λ (rs : List Row). rs ++ filter p (drop (k + 1) rows)) (filter_more p rows k row is member)
-    ∙ simp append_assoc in
-    rw parts (has_between (own_id row) (filter p (take k rows)) (filter p (drop (k + 1) rows)) row
-    ((bytes_decides (own_id row) (own_id row)).1 refl))
 
 -- a node's own ID has a number
 pub own_there : (text : List ℕ) (rows : List Row) (k : ℕ) (row : Row) (names : List (List ℕ)) (firsts : List Line)

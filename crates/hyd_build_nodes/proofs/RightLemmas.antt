@@ -14,10 +14,11 @@ use Rattle.hyd_spec_input.specs.Faults.{NoneIs, IsWrongWithOthers}
 use Rattle.hyd_spec_input.specs.Tables.{is_of, rows_of, words_of}
 use Rattle.hyd_spec_input.specs.RowsTogether as others
 use Rattle.hyd_spec_input.specs.Project.{Match}
-use Rattle.hyd_theorems_on_input.proofs.Faultless.{section_is}
+use Rattle.hyd_theorems_on_input.proofs.Faultless.{section_is, none_from}
 use Rattle.hyd_text_rows.specs.FirstWrongRow.{rows_at}
 use Rattle.hyd_text_rows.proofs.FoundLemmas.{filter_more, filter_same}
-use Rattle.hyd_text_rows.proofs.SectionLemmas.{none_of, all_rows}
+use Rattle.hyd_text_rows.proofs.SectionLemmas.{all_rows}
+use Rattle.hyd_theorems_on_input.proofs.Matching.{match_push}
 
 -- ---- rows
 
@@ -28,27 +29,20 @@ alone section rows k row right is of =
     let P : Section → Type 0 = λ s. itself.section_fault s (words_of Rules (take k rows)) row.words
     (words_of Rules (drop (k + 1) rows)) ≡ None in
     subst P (section_is section row of)
-    (none_of (itself.row_fault rows k row) (λ cause f. right k cause (record { row = row; row_is = is; fault = f })))
+    (none_from (itself.row_fault rows k row) (λ cause f. right k cause (record { row = row; row_is = is; fault = f })))
 
 pub among : (section : Section) (rows : List Row) (k : ℕ) (row : Row) → NoneIs (IsWrongWithOthers rows)
     → slice_get rows k ≡ Some row → is_of section row ≡ true → others.section_fault section rows k row ≡ None
 among section rows k row right is of =
     let P : Section → Type 0 = λ s. others.section_fault s rows k row ≡ None in
     subst P (section_is section row of)
-    (none_of (others.row_fault rows k row) (λ cause f. right k cause
+    (none_from (others.row_fault rows k row) (λ cause f. right k cause
     (record { row = row; row_is = is; fault = inl f })))
 
 pub small_head : (ticks : ℤ) → IsHead ticks → unsigned_abs ticks ≤ 2 * 10 ^ 17
 small_head ticks h = grind (arith, ints, h.at_least, h.at_most)
 
 -- ---- lists that match
-
-match_push : {A B : Type 0} (R : A → B → Type 0) (xs : List A) (ys : List B) (x : A) (y : B) → Match R xs ys → R x y
-    → Match R (xs ++ x ∷ []) (ys ++ y ∷ [])
-match_push R [] [] x y m r = (r, tt)
-match_push R [] (b ∷ bs) x y m r = absurd m
-match_push R (a ∷ rest) [] x y m r = absurd m
-match_push R (a ∷ rest) (b ∷ bs) x y m r = (m.0, match_push R rest bs x y m.1 r)
 
 pub built_more : {B : Type 0} (section : Section) (R : Row → B → Type 0) (rows : List Row) (k : ℕ) (row : Row)
     (before after : List B) (item : B) → Match R (rows_of section (take k rows)) before → slice_get rows k ≡ Some row

@@ -1,6 +1,6 @@
 -- Tanks of a file without a fault.
-use Rattle.std.proofs.Common.{◌≡◌, ◌+◌, ◌*◌, ◌^◌, ◌≤◌, ℕ, Bool, true, false, List, [], ◌∷◌, Option, Some, None, refl}
-use Rattle.std.proofs.Common.{ap, ◌∙◌, subst, slice_get, take, arith}
+use Rattle.std.proofs.Common.{◌≡◌, ◌+◌, ◌*◌, ◌^◌, ◌≤◌, ℕ, true, List, [], ◌∷◌, Option, Some, None, refl, ap, ◌∙◌, subst}
+use Rattle.std.proofs.Common.{slice_get, take, arith}
 use Rattle.std.specs.Prelude.{ℤ, pos, ◌≤ℤ◌, ◌+ℤ◌, unsigned_abs, codes, ◌&&◌}
 use Rattle.std.proofs.lemmas.Int.{ints}
 use Rattle.std.proofs.lemmas.Bool.{and_parts}
@@ -21,9 +21,11 @@ use Rattle.hyd_spec_input.specs.Project.{Match, IsTank, shape_number}
 use Rattle.hyd_spec_input.specs.Tables.{is_of, rows_of}
 use Rattle.hyd_spec_input.specs.RowsTogether as others
 use Rattle.hyd_spec_input.specs.RowsTogether.{us}
-use Rattle.hyd_theorems_on_input.proofs.Faultless.{all_none, needed_none, in_range, at_most, within}
+use Rattle.hyd_lemmas.proofs.Trials.{le_z-yes}
+use Rattle.hyd_theorems_on_input.proofs.Faultless.{all_none, needed_none, in_range, within}
 use Rattle.hyd_theorems_on_input.proofs.NodeRanges.{head_right, head_rises, head_sum}
 use Rattle.hyd_build_nodes.specs.ReservoirsAndTanks.{number_of, AreSmall, IsTankOf, HasTankMore}
+use Rattle.hyd_theorems_on_input.proofs.Points.{no_head}
 use Rattle.hyd_build_nodes.proofs.RightLemmas.{alone, among, small_head, built_more}
 
 shape_is : (rows : List Row) (name : Option (List ℕ)) → number_of (shape_names rows) name ≡ shape_number rows name
@@ -73,9 +75,9 @@ tank_numbers words e =
     (in_range (λ nano. le_z (pos 0) nano && le_z (amount 2 words) nano) (word 4 words)
     (needed_none (form.level (λ nano. le_z (amount 2 words) nano)) 4 words each.1.1.1.1.0).right) in
     record {
-      lowest = at_most _ _ low.0;
-      above_lowest = at_most _ _ low.1;
-      below_highest = at_most _ _ high.1;
+      lowest = le_z-yes _ _ low.0;
+      above_lowest = le_z-yes _ _ low.1;
+      below_highest = le_z-yes _ _ high.1;
       across = within _ _ (word 5 words) (needed_none (form.diameter words) 5 words each.1.1.1.1.1.0).right;
     }
 
@@ -95,10 +97,6 @@ level_is_small low level high a b c small = grind (arith, ints)
 top_is_small : (bottom high : ℤ) → IsHead bottom → IsHead (bottom +ℤ high) → pos 0 ≤ℤ high
     → unsigned_abs high ≤ 2 * 10 ^ 17
 top_is_small bottom high a b c = grind (arith, ints, a.at_least, a.at_most, b.at_least, b.at_most)
-
-no_head : (us : Bool) → head_ticks us (pos 0) ≡ pos 0
-no_head true = refl
-no_head false = refl
 
 small_of : (rows : List Row) (words : List (List ℕ)) → TankNumbers words
     → IsHead (head_ticks (us rows) (amount 1 words)) → IsHead (head_ticks (us rows) (amount 1 words +ℤ amount 4 words))

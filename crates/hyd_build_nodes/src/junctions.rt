@@ -11,7 +11,7 @@ ghost use Rattle.hyd_spec_lines.specs.declared.section.Section.TheVariants.{Junc
 ghost use Rattle.hyd_spec_input.specs.SingleRows.{IsWrongByItself};
 ghost use Rattle.hyd_spec_input.specs.Faults.{NoneIs, IsWrongWithOthers};
 ghost use Rattle.hyd_spec_input.specs.InForce as force;
-ghost use Rattle.hyd_spec_input.specs.MeaningsAcrossRows as network;
+ghost use Rattle.hyd_spec_input.specs.MeaningsAcrossRows as across;
 ghost use Rattle.hyd_spec_input.specs.MeaningsAcrossRows.{pattern_ids};
 ghost use Rattle.hyd_spec_input.specs.Project.{Match, IsJunction};
 ghost use Rattle.hyd_spec_input.specs.Tables.{place as section_place, rows_of, node_rows};
@@ -70,7 +70,7 @@ fn demands_or(
     own: Demand,
     demands: &List<Demand>,
 ) -> Result<List<Demand>, OutOfMemory>
-    ensures { IfOk result (λ list. list.list ≡ network.or_own own demands.now.list) }
+    ensures { IfOk result (λ list. list.list ≡ across.or_own own demands.now.list) }
 {
     if demands.len() > 0 {
         return copied(alloc, demands);

@@ -1,3 +1,4 @@
 pub mod Exponents
+pub mod HeadTicks
 pub mod PipePairs
 pub mod Refusals

@@ -7,7 +7,7 @@ use Rattle.hyd_num.specs.BinaryNumbers.{numerator, denominator, as_fraction}
 use Rattle.hyd_num.specs.CapacityPairs.{StandsFor}
 use Rattle.hyd_spec.specs.ProgramTypes.{Origin}
 use Rattle.hyd_num.specs.CapacityRange.{IsRefused}
-use Rattle.hyd_lemmas.proofs.Enclosing.{denominator_above}
+use Rattle.hyd_num.proofs.Ends.{denominator_positive}
 use Rattle.hyd_lemmas.proofs.OnePair.{StandsFor-below}
 
 too_great : (n d m e : ℕ) → 0 < e → n * e ≤ m * d → 2 ^ 66 * d ≤ n → 0 < d → m < 2 ^ 66 * e → ⊥
@@ -31,10 +31,10 @@ not_refused origin r made least greatest refused =
     elim refused.outside [
       | inl great ↦ (let le : AtMost (as_fraction s.hi) (as_fraction r.hi) =
           (StandsFor-below origin s r refused.made made).high in
-          too_great (numerator s.hi) (denominator s.hi) (numerator r.hi) (denominator r.hi) (denominator_above r.hi)
-          le.crossed great (denominator_above s.hi) greatest)
+          too_great (numerator s.hi) (denominator s.hi) (numerator r.hi) (denominator r.hi) (denominator_positive r.hi)
+          le.crossed great (denominator_positive s.hi) greatest)
       | inr small ↦ (let le : AtMost (as_fraction r.lo) (as_fraction s.lo) =
           (StandsFor-below origin r s made refused.made).low in
-          too_small (numerator s.lo) (denominator s.lo) (numerator r.lo) (denominator r.lo) (denominator_above s.lo)
-          le.crossed small (denominator_above r.lo) least)
+          too_small (numerator s.lo) (denominator s.lo) (numerator r.lo) (denominator r.lo) (denominator_positive s.lo)
+          le.crossed small (denominator_positive r.lo) least)
     ]

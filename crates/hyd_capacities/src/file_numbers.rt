@@ -7,9 +7,12 @@ ghost use Rattle.hyd_num.specs.Pairs.{pair_reach};
 ghost use Rattle.hyd_num.specs.CapacityPairs.{IsPairOf, IsUnitPair, IsUnitOver};
 ghost use Rattle.hyd_capacities.specs.Ranges.{IsPositiveUpTo};
 
-use hyd_num::{Decimal, Pair, div, ratio};
+use hyd_num::{Decimal, Pair, TEN_THOUSANDTHS_OF_METRE_IN_FOOT, div, ratio};
 
 pub const BILLION: u128 = 1_000_000_000;
+
+// A billion feet in ten-thousandths of a metre.
+const BILLION_FEET: u128 = TEN_THOUSANDTHS_OF_METRE_IN_FOOT as u128 * BILLION;
 
 /// The billionths of a number that isn't negative.
 pub fn nano(number: Decimal) -> u128
@@ -38,7 +41,7 @@ pub fn length_in_feet(length: Decimal, us: bool) -> Pair
     if us {
         return ratio(nano(length), BILLION);
     }
-    ratio(10_000 * nano(length), 3048 * BILLION)
+    ratio(10_000 * nano(length), BILLION_FEET)
 }
 
 /// A diameter in feet.
@@ -50,7 +53,7 @@ pub fn diameter_in_feet(diameter: Decimal, us: bool) -> Pair
     if us {
         return ratio(nano(diameter), 12 * BILLION);
     }
-    ratio(10 * nano(diameter), 3048 * BILLION)
+    ratio(10 * nano(diameter), BILLION_FEET)
 }
 
 /// The capacity of what loses this many feet at one cubic foot a second.
@@ -58,7 +61,7 @@ pub fn unit_over(lost: Pair) -> Pair
     requires { pair_reach lost ≤ 2 ^ 25 }
     ensures { IsUnitOver lost result }
 {
-    // 86,400^2 * 3048^5 * 10 / 10^20
+    // 86,400^2 * TEN_THOUSANDTHS_OF_METRE_IN_FOOT^5 * 10 / 10^20
     div(
         ratio(
             19_638_228_018_626_667_793_612_800_000,

@@ -4,7 +4,7 @@
 
 ghost use Rattle.std.specs.Prelude.{◌≡◌, ◌≤◌, ◌<◌, ◌*◌, ◌^◌, pos, ◌≤ℤ◌, ◌<ℤ◌, IfOk, OnOk, OnErr};
 ghost use Rattle.hyd_num.specs.Pairs.{pair_reach};
-ghost use Rattle.hyd_num.specs.FileQuantity.{billionths, flow_fraction, pressure_fraction, head_ticks};
+ghost use Rattle.hyd_num.specs.FileQuantity.{billionths, flow_fraction, pressure_fraction};
 ghost use Rattle.hyd_num.specs.CapacityPairs.{IsPairOf, IsSquareOver, IsMade};
 ghost use Rattle.hyd_spec.specs.CapacityEnclosure.{IsEnclosure, IsSharp};
 ghost use Rattle.hyd_capacities.specs.Ranges.{IsCoefficient, IsCurveFlow, ArePressures};
@@ -12,7 +12,11 @@ ghost use Rattle.hyd_num.specs.CapacityRange.{IsRefused};
 
 use crate::file_numbers::{BILLION, nano};
 use crate::range::{CapRange, capacity, capacity_inside};
-use hyd_num::{Capacity, Decimal, FlowUnit, Origin, Pair, div, mul, ratio};
+use hyd_num::{
+    Capacity, Decimal, FlowUnit, HEAD_TICKS_IN_BILLIONTH_OF_METRE, NUMERATOR_OF_BILLIONTH_OF_POUND,
+    Origin, Pair, TEN_THOUSANDTHS_OF_POUND_IN_FOOT, div, mul, ratio,
+};
+use hyd_units::head_ticks;
 
 /// The capacity of a pump that loses `drop / thirds` of head at `flow`, both above 0: from a
 /// curve of one point its head and 3, from one of three points the first head less the second and
@@ -34,7 +38,8 @@ pub fn pump_capacity(
     ensures refused { OnErr result (IsRefused (Origin.Pump flow drop thirds unit)) }
 {
     let flows = flow_in_ticks(flow, unit);
-    let head = ratio(head_in_ticks(drop, unit.is_us()), u128::from(thirds));
+    let drop_in_ticks = head_ticks(drop, unit.is_us()).unsigned_abs();
+    let head = ratio(drop_in_ticks, u128::from(thirds));
     capacity(
         square_over(flows, head),
         Origin::Pump {
@@ -104,19 +109,6 @@ fn flow_in_ticks(flow: Decimal, unit: FlowUnit) -> Pair
     )
 }
 
-// A head above 0 in head ticks.
-fn head_in_ticks(head: Decimal, us: bool) -> u128
-    requires { pos 0 <ℤ head.nano }
-    ensures value { pos result ≡ head_ticks us head.nano }
-    ensures above { 1 ≤ result }
-    ensures short { result < 2 ^ 100 }
-{
-    if us {
-        return 3048 * nano(head);
-    }
-    10_000 * nano(head)
-}
-
 // A pressure of so many billionths in head ticks.
 fn pressure_in_ticks(billionths: u128, us: bool) -> Pair
     requires above { 1 ≤ billionths }
@@ -125,9 +117,12 @@ fn pressure_in_ticks(billionths: u128, us: bool) -> Pair
     ensures near { pair_reach result ≤ 2 ^ 10 }
 {
     if us {
-        return ratio(30_480_000 * billionths, 4333);
+        return ratio(
+            u128::from(NUMERATOR_OF_BILLIONTH_OF_POUND) * billionths,
+            u128::from(TEN_THOUSANDTHS_OF_POUND_IN_FOOT),
+        );
     }
-    ratio(10_000 * billionths, 1)
+    ratio(u128::from(HEAD_TICKS_IN_BILLIONTH_OF_METRE) * billionths, 1)
 }
 
 fn square_over(flow: Pair, head: Pair) -> Pair

@@ -10,5 +10,5 @@ use Rattle.hyd_watched_levels.specs.FactsBeforeEnd.{stocks_in, inflow_in}
 
 -- the levels of a tank some seconds after the start of the period of some facts
 abbrev pub carried_in : Project → Facts → ℕ → ℕ → Tank → Interval
-carried_in network facts seconds k tank =
-    carried_levels (walls_of network tank) tank (stocks_in facts k) (inflow_in facts k) seconds
+carried_in project facts seconds k tank =
+    carried_levels (walls_of project tank) tank (stocks_in facts k) (inflow_in facts k) seconds

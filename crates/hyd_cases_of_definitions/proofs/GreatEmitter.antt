@@ -1,14 +1,12 @@
 -- The great emitter's capacity is out of range, and that is the fault of its text.
-use Rattle.std.proofs.Common.{◌≡◌, ℕ, zero, suc, ◌+◌, ◌*◌, ◌^◌, ◌<◌, List, [], ◌∷◌, codes, take, Option, Some, None}
-use Rattle.std.proofs.Common.{refl, arith, pos, neg_ℤ, inl, inr, true, false, true≢false, lit≤, lit<, subst, sym}
-use borrow.Author.Differences.{up}
+use Rattle.std.proofs.Common.{◌≡◌, ℕ, zero, suc, ◌<◌, List, [], ◌∷◌, codes, take, Option, Some, None, refl, arith, pos}
+use Rattle.std.proofs.Common.{neg_ℤ, inl, inr, true, false, true≢false, lit≤, lit<, subst, sym}
 use Rattle.hyd_num.proofs.RoundingLemmas.{IsDown-from_cut, IsUp-exact, IsUp-next}
 use Rattle.hyd_num.specs.declared.binary.Scaled.{Scaled}
 use Rattle.hyd_num.specs.declared.decimals.Decimal.{Decimal}
 use Rattle.hyd_num.specs.declared.flow_units.FlowUnit.TheVariants.{Mgd}
 use Rattle.hyd_num.specs.declared.link_capacities.Origin.TheVariants.{Emitter}
 use Rattle.hyd_num.specs.Numeral.{is_numeral, magnitude_of, nano_of}
-use Rattle.hyd_num.specs.BinaryNumbers.{numerator, denominator, IsDown}
 use Rattle.hyd_num.specs.CapacityRange.{IsRefused}
 use Rattle.hyd_spec_lines.specs.WordsOfLines.{words_in, is_keyword}
 use Rattle.hyd_spec_lines.specs.Headings.{read_section, is_passed_over, heading_kind}
@@ -25,18 +23,9 @@ use Rattle.hyd_spec_input.specs.RowsTogether as others
 use Rattle.hyd_spec_input.specs.CapacitiesOutOfRange.{IsRefusedEmitter, IsRefusedRow}
 use Rattle.hyd_spec_input.specs.Faults.{IsWrongWithOthers, NoneIs, IsFirst, IsFault}
 use Rattle.hyd_cases_of_definitions.specs.Input.{great_emitter}
+use Rattle.hyd_lemmas.proofs.Enclosing.{IsDown-near}
 
 -- ---- the pair that it stands for
-
--- between two binary numbers that follow each other, below and above
-below_it : (p q : ℕ) (s : Scaled) → numerator s * q < p * denominator s
-    → p * denominator s < (s.mant + 1) * 2 ^ up s.exp * q → IsDown p q s
-below_it p q s lost below = IsDown-from_cut p q s false (record {
-  at_most = omega (arith, lost);
-  below = below;
-  whole = λ e. absurd (true≢false (let x : true ≡ false = cc in x));
-  lost = λ e. lost;
-})
 
 flow_ticks : Scaled
 flow_ticks = record { mant = 4845327083520000000; exp = neg_ℤ (pos 7); normal = lit≤ tt; short = lit< tt }
@@ -82,17 +71,17 @@ out_of_range = record {
     };
     head = record { lo = head_low; hi = head_high; ordered = lit≤ tt };
     head_is = record {
-      low = below_it _ _ head_low (lit< tt) (lit< tt);
+      low = IsDown-near _ _ head_low (lit< tt) (lit< tt);
       high = IsUp-next _ _ head_low head_high (lit< tt) (lit< tt) (lit< tt) (record { one_more = refl });
     };
     capacity_is = record {
       square = record { lo = square_low; hi = square_high; ordered = lit≤ tt };
       square_is = record {
-        low = below_it _ _ square_low (lit< tt) (lit< tt);
+        low = IsDown-near _ _ square_low (lit< tt) (lit< tt);
         high = IsUp-next _ _ square_low square_high (lit< tt) (lit< tt) (lit< tt) (record { one_more = refl });
       };
       capacity_is = record {
-        low = below_it _ _ capacity_low (lit< tt) (lit< tt);
+        low = IsDown-near _ _ capacity_low (lit< tt) (lit< tt);
         high = IsUp-next _ _ capacity_before capacity_high (lit< tt) (lit< tt) (lit< tt) (record { one_more = refl });
       };
     };

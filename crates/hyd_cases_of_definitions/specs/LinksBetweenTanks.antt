@@ -15,9 +15,9 @@ pairs = (Full ∷ Full ∷ []) ∷ (Full ∷ Between ∷ []) ∷ (Full ∷ Empty
     ∷ (Empty ∷ Full ∷ []) ∷ (Empty ∷ Between ∷ []) ∷ (Empty ∷ Empty ∷ []) ∷ []
 
 -- The network has these two tanks, of which each overflows or not.
-pub record HasTanks (network : Project) (first_overflows second_overflows : Bool) : Type 0 where
+pub record HasTanks (project : Project) (first_overflows second_overflows : Bool) : Type 0 where
   pub first : Tank
   pub second : Tank
-  pub tanks_are : network.tanks.list ≡ first ∷ second ∷ []
+  pub tanks_are : project.tanks.list ≡ first ∷ second ∷ []
   pub first_is : first.overflow ≡ first_overflows
   pub second_is : second.overflow ≡ second_overflows

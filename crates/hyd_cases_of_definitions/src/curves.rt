@@ -111,34 +111,34 @@ pub fn valves()
 
 /// Both from one tank to another.
 pub fn at_tanks()
-    ensures pump_low { (network : Project) → network.bends.list ≡ bends
-        → length network.junctions.list ≡ 1 → length network.reservoirs.list ≡ 0
-        → HasTanks network false false
-        → map (λ tanks. map (low (law_of network tanks (between_tanks (CurvePump 0 None)) (Speed (pos 1000000000))))
+    ensures pump_low { (project : Project) → project.bends.list ≡ bends
+        → length project.junctions.list ≡ 1 → length project.reservoirs.list ≡ 0
+        → HasTanks project false false
+        → map (λ tanks. map (low (law_of project tanks (between_tanks (CurvePump 0 None)) (Speed (pos 1000000000))))
         either_way) pairs
         ≡ (pos 0 ∷ pos 0 ∷ []) ∷ (pos 31333333333 ∷ pos 23333333333 ∷ []) ∷ (pos 31333333333 ∷ pos 23333333333
         ∷ []) ∷ (pos 0 ∷ pos 0 ∷ []) ∷ (pos 31333333333 ∷ pos 23333333333 ∷ []) ∷ (pos 31333333333
         ∷ pos 23333333333 ∷ []) ∷ (pos 0 ∷ pos 0 ∷ []) ∷ (pos 0 ∷ pos 0 ∷ []) ∷ (pos 0 ∷ pos 0 ∷ []) ∷ [] }
-    ensures pump_high { (network : Project) → network.bends.list ≡ bends
-        → length network.junctions.list ≡ 1 → length network.reservoirs.list ≡ 0
-        → HasTanks network false false
-        → map (λ tanks. map (high (law_of network tanks (between_tanks (CurvePump 0 None)) (Speed (pos 1000000000))))
+    ensures pump_high { (project : Project) → project.bends.list ≡ bends
+        → length project.junctions.list ≡ 1 → length project.reservoirs.list ≡ 0
+        → HasTanks project false false
+        → map (λ tanks. map (high (law_of project tanks (between_tanks (CurvePump 0 None)) (Speed (pos 1000000000))))
         either_way) pairs
         ≡ (pos 0 ∷ pos 0 ∷ []) ∷ (pos 31333333334 ∷ pos 23333333334 ∷ []) ∷ (pos 31333333334 ∷ pos 23333333334
         ∷ []) ∷ (pos 0 ∷ pos 0 ∷ []) ∷ (pos 31333333334 ∷ pos 23333333334 ∷ []) ∷ (pos 31333333334
         ∷ pos 23333333334 ∷ []) ∷ (pos 0 ∷ pos 0 ∷ []) ∷ (pos 0 ∷ pos 0 ∷ []) ∷ (pos 0 ∷ pos 0 ∷ []) ∷ [] }
-    ensures valve_low { (network : Project) → network.bends.list ≡ bends
-        → length network.junctions.list ≡ 1 → length network.reservoirs.list ≡ 0
-        → HasTanks network false false
-        → map (λ tanks. map (low (law_of network tanks (between_tanks (Gpv 1)) Open)) either_way) pairs
+    ensures valve_low { (project : Project) → project.bends.list ≡ bends
+        → length project.junctions.list ≡ 1 → length project.reservoirs.list ≡ 0
+        → HasTanks project false false
+        → map (λ tanks. map (low (law_of project tanks (between_tanks (Gpv 1)) Open)) either_way) pairs
         ≡ (pos 0 ∷ pos 0 ∷ []) ∷ (pos 1333333333 ∷ pos 0 ∷ []) ∷ (pos 1333333333 ∷ pos 0 ∷ []) ∷ (pos 0
         ∷ neg_ℤ (pos 4000000000) ∷ []) ∷ (pos 1333333333 ∷ neg_ℤ (pos 4000000000) ∷ []) ∷ (pos 1333333333
         ∷ pos 0 ∷ []) ∷ (pos 0 ∷ neg_ℤ (pos 4000000000) ∷ []) ∷ (pos 0 ∷ neg_ℤ (pos 4000000000) ∷ []) ∷ (pos 0
         ∷ pos 0 ∷ []) ∷ [] }
-    ensures valve_high { (network : Project) → network.bends.list ≡ bends
-        → length network.junctions.list ≡ 1 → length network.reservoirs.list ≡ 0
-        → HasTanks network false false
-        → map (λ tanks. map (high (law_of network tanks (between_tanks (Gpv 1)) Open)) either_way) pairs
+    ensures valve_high { (project : Project) → project.bends.list ≡ bends
+        → length project.junctions.list ≡ 1 → length project.reservoirs.list ≡ 0
+        → HasTanks project false false
+        → map (λ tanks. map (high (law_of project tanks (between_tanks (Gpv 1)) Open)) either_way) pairs
         ≡ (pos 0 ∷ pos 0 ∷ []) ∷ (pos 1333333334 ∷ pos 0 ∷ []) ∷ (pos 1333333334 ∷ pos 0 ∷ []) ∷ (pos 0
         ∷ neg_ℤ (pos 4000000000) ∷ []) ∷ (pos 1333333334 ∷ neg_ℤ (pos 4000000000) ∷ []) ∷ (pos 1333333334
         ∷ pos 0 ∷ []) ∷ (pos 0 ∷ neg_ℤ (pos 4000000000) ∷ []) ∷ (pos 0 ∷ neg_ℤ (pos 4000000000) ∷ []) ∷ (pos 0

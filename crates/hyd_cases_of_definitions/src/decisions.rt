@@ -25,135 +25,135 @@ pub fn boxes()
         ≡ (record { lo = pos 40124; hi = pos 321083 }) ∷ (record { lo = neg_ℤ (pos 240815); hi = pos 20010 })
         ∷ (record { lo = neg_ℤ (pos 10); hi = pos 321083 }) ∷ (record { lo = neg_ℤ (pos 337137); hi = pos 10 })
         ∷ (record { lo = neg_ℤ (pos 10); hi = pos 10 }) ∷ [] }
-    ensures inflow { (network : Project) → length network.junctions.list ≡ 2 → length network.reservoirs.list ≡ 1
-        → inflow_boxes network sample row ≡ (record { lo = neg_ℤ (pos 20); hi = pos 698355 }) ∷ [] }
+    ensures inflow { (project : Project) → length project.junctions.list ≡ 2 → length project.reservoirs.list ≡ 1
+        → inflow_boxes project sample row ≡ (record { lo = neg_ℤ (pos 20); hi = pos 698355 }) ∷ [] }
 {}
 
 /// The carried level interval two minutes after the start.
 pub fn carried()
-    ensures { (network : Project) (bottom initial : ℤ) (diameter : Decimal) → length network.junctions.list ≡ 2
-        → length network.reservoirs.list ≡ 1
-        → network.tanks.list ≡ cylinder bottom initial diameter ∷ []
-        → carried_at network sample standing row 120 ≡ (record { lo = pos 0; hi = pos 96993791 }) ∷ [] }
+    ensures { (project : Project) (bottom initial : ℤ) (diameter : Decimal) → length project.junctions.list ≡ 2
+        → length project.reservoirs.list ≡ 1
+        → project.tanks.list ≡ cylinder bottom initial diameter ∷ []
+        → carried_at project sample standing row 120 ≡ (record { lo = pos 0; hi = pos 96993791 }) ∷ [] }
 {}
 
 /// Clauses on a flow, a head, a level and a tank's head, by each comparison: true, false or open at the edges.
 pub fn clauses()
-    ensures flow_240815 { (network : Project) (span : Span) (number : Decimal) → span.lo ≡ pos 240815
-        → map (λ relation. clause_truth network sample standing row 120 (record {
+    ensures flow_240815 { (project : Project) (span : Span) (number : Decimal) → span.lo ≡ pos 240815
+        → map (λ relation. clause_truth project sample standing row 120 (record {
           what = Flow 1;
           relation = relation;
           value = Amount span number;
         })) (Less
         ∷ NotMore ∷ More ∷ NotLess ∷ [])
         ≡ Unknown ∷ Yes ∷ No ∷ Unknown ∷ [] }
-    ensures flow_20010 { (network : Project) (span : Span) (number : Decimal) → span.lo ≡ pos 20010
-        → map (λ relation. clause_truth network sample standing row 120 (record {
+    ensures flow_20010 { (project : Project) (span : Span) (number : Decimal) → span.lo ≡ pos 20010
+        → map (λ relation. clause_truth project sample standing row 120 (record {
           what = Flow 1;
           relation = relation;
           value = Amount span number;
         })) (Less
         ∷ NotMore ∷ More ∷ NotLess ∷ [])
         ≡ Unknown ∷ Unknown ∷ Unknown ∷ Unknown ∷ [] }
-    ensures flow_20011 { (network : Project) (span : Span) (number : Decimal) → span.lo ≡ pos 20011
-        → map (λ relation. clause_truth network sample standing row 120 (record {
+    ensures flow_20011 { (project : Project) (span : Span) (number : Decimal) → span.lo ≡ pos 20011
+        → map (λ relation. clause_truth project sample standing row 120 (record {
           what = Flow 1;
           relation = relation;
           value = Amount span number;
         })) (Less
         ∷ NotMore ∷ More ∷ NotLess ∷ [])
         ≡ Unknown ∷ Unknown ∷ Unknown ∷ Unknown ∷ [] }
-    ensures head_60 { (network : Project) (span : Span) (number : Decimal) → length network.junctions.list ≡ 2
-        → length network.reservoirs.list ≡ 1 → span.lo ≡ pos 60
-        → map (λ relation. clause_truth network sample standing row 120 (record {
+    ensures head_60 { (project : Project) (span : Span) (number : Decimal) → length project.junctions.list ≡ 2
+        → length project.reservoirs.list ≡ 1 → span.lo ≡ pos 60
+        → map (λ relation. clause_truth project sample standing row 120 (record {
           what = Head 0;
           relation = relation;
           value = Amount span number;
         })) (Less
         ∷ NotMore ∷ More ∷ NotLess ∷ [])
         ≡ No ∷ Unknown ∷ Unknown ∷ Yes ∷ [] }
-    ensures head_61 { (network : Project) (span : Span) (number : Decimal) → length network.junctions.list ≡ 2
-        → length network.reservoirs.list ≡ 1 → span.lo ≡ pos 61
-        → map (λ relation. clause_truth network sample standing row 120 (record {
+    ensures head_61 { (project : Project) (span : Span) (number : Decimal) → length project.junctions.list ≡ 2
+        → length project.reservoirs.list ≡ 1 → span.lo ≡ pos 61
+        → map (λ relation. clause_truth project sample standing row 120 (record {
           what = Head 0;
           relation = relation;
           value = Amount span number;
         })) (Less
         ∷ NotMore ∷ More ∷ NotLess ∷ [])
         ≡ Unknown ∷ Unknown ∷ Unknown ∷ Unknown ∷ [] }
-    ensures head_95 { (network : Project) (span : Span) (number : Decimal) → length network.junctions.list ≡ 2
-        → length network.reservoirs.list ≡ 1 → span.lo ≡ pos 95
-        → map (λ relation. clause_truth network sample standing row 120 (record {
+    ensures head_95 { (project : Project) (span : Span) (number : Decimal) → length project.junctions.list ≡ 2
+        → length project.reservoirs.list ≡ 1 → span.lo ≡ pos 95
+        → map (λ relation. clause_truth project sample standing row 120 (record {
           what = Head 0;
           relation = relation;
           value = Amount span number;
         })) (Less
         ∷ NotMore ∷ More ∷ NotLess ∷ [])
         ≡ Unknown ∷ Yes ∷ No ∷ Unknown ∷ [] }
-    ensures head_96 { (network : Project) (span : Span) (number : Decimal) → length network.junctions.list ≡ 2
-        → length network.reservoirs.list ≡ 1 → span.lo ≡ pos 96
-        → map (λ relation. clause_truth network sample standing row 120 (record {
+    ensures head_96 { (project : Project) (span : Span) (number : Decimal) → length project.junctions.list ≡ 2
+        → length project.reservoirs.list ≡ 1 → span.lo ≡ pos 96
+        → map (λ relation. clause_truth project sample standing row 120 (record {
           what = Head 0;
           relation = relation;
           value = Amount span number;
         })) (Less
         ∷ NotMore ∷ More ∷ NotLess ∷ [])
         ≡ Yes ∷ Yes ∷ No ∷ No ∷ [] }
-    ensures level_0 { (network : Project) (bottom initial : ℤ) (diameter : Decimal) (span : Span) (number : Decimal)
-        → network.tanks.list ≡ cylinder bottom initial diameter ∷ [] → length network.junctions.list ≡ 2
-        → length network.reservoirs.list ≡ 1 → span.lo ≡ pos 0
-        → map (λ relation. clause_truth network sample standing row 120 (record {
+    ensures level_0 { (project : Project) (bottom initial : ℤ) (diameter : Decimal) (span : Span) (number : Decimal)
+        → project.tanks.list ≡ cylinder bottom initial diameter ∷ [] → length project.junctions.list ≡ 2
+        → length project.reservoirs.list ≡ 1 → span.lo ≡ pos 0
+        → map (λ relation. clause_truth project sample standing row 120 (record {
           what = Level 0;
           relation = relation;
           value = Amount span number;
         })) (Less
         ∷ NotMore ∷ More ∷ NotLess ∷ [])
         ≡ No ∷ Unknown ∷ Unknown ∷ Yes ∷ [] }
-    ensures level_1 { (network : Project) (bottom initial : ℤ) (diameter : Decimal) (span : Span) (number : Decimal)
-        → network.tanks.list ≡ cylinder bottom initial diameter ∷ [] → length network.junctions.list ≡ 2
-        → length network.reservoirs.list ≡ 1 → span.lo ≡ pos 1
-        → map (λ relation. clause_truth network sample standing row 120 (record {
+    ensures level_1 { (project : Project) (bottom initial : ℤ) (diameter : Decimal) (span : Span) (number : Decimal)
+        → project.tanks.list ≡ cylinder bottom initial diameter ∷ [] → length project.junctions.list ≡ 2
+        → length project.reservoirs.list ≡ 1 → span.lo ≡ pos 1
+        → map (λ relation. clause_truth project sample standing row 120 (record {
           what = Level 0;
           relation = relation;
           value = Amount span number;
         })) (Less
         ∷ NotMore ∷ More ∷ NotLess ∷ [])
         ≡ Unknown ∷ Unknown ∷ Unknown ∷ Unknown ∷ [] }
-    ensures level_96993791 { (network : Project) (bottom initial : ℤ) (diameter : Decimal) (span : Span)
+    ensures level_96993791 { (project : Project) (bottom initial : ℤ) (diameter : Decimal) (span : Span)
         (number : Decimal)
-        → network.tanks.list ≡ cylinder bottom initial diameter ∷ [] → length network.junctions.list ≡ 2
-        → length network.reservoirs.list ≡ 1 → span.lo ≡ pos 96993791
-        → map (λ relation. clause_truth network sample standing row 120 (record {
+        → project.tanks.list ≡ cylinder bottom initial diameter ∷ [] → length project.junctions.list ≡ 2
+        → length project.reservoirs.list ≡ 1 → span.lo ≡ pos 96993791
+        → map (λ relation. clause_truth project sample standing row 120 (record {
           what = Level 0;
           relation = relation;
           value = Amount span number;
         })) (Less
         ∷ NotMore ∷ More ∷ NotLess ∷ [])
         ≡ Unknown ∷ Yes ∷ No ∷ Unknown ∷ [] }
-    ensures tank_head_20 { (network : Project) (initial : ℤ) (diameter : Decimal) (span : Span) (number : Decimal)
-        → network.tanks.list ≡ cylinder (pos 20) initial diameter ∷ [] → length network.junctions.list ≡ 2
-        → length network.reservoirs.list ≡ 1 → span.lo ≡ pos 20
-        → map (λ relation. clause_truth network sample standing row 120 (record {
+    ensures tank_head_20 { (project : Project) (initial : ℤ) (diameter : Decimal) (span : Span) (number : Decimal)
+        → project.tanks.list ≡ cylinder (pos 20) initial diameter ∷ [] → length project.junctions.list ≡ 2
+        → length project.reservoirs.list ≡ 1 → span.lo ≡ pos 20
+        → map (λ relation. clause_truth project sample standing row 120 (record {
           what = Head 3;
           relation = relation;
           value = Amount span number;
         })) (Less
         ∷ NotMore ∷ More ∷ NotLess ∷ [])
         ≡ No ∷ Unknown ∷ Unknown ∷ Yes ∷ [] }
-    ensures tank_head_96993811 { (network : Project) (initial : ℤ) (diameter : Decimal) (span : Span) (number : Decimal)
-        → network.tanks.list ≡ cylinder (pos 20) initial diameter ∷ [] → length network.junctions.list ≡ 2
-        → length network.reservoirs.list ≡ 1 → span.lo ≡ pos 96993811
-        → map (λ relation. clause_truth network sample standing row 120 (record {
+    ensures tank_head_96993811 { (project : Project) (initial : ℤ) (diameter : Decimal) (span : Span) (number : Decimal)
+        → project.tanks.list ≡ cylinder (pos 20) initial diameter ∷ [] → length project.junctions.list ≡ 2
+        → length project.reservoirs.list ≡ 1 → span.lo ≡ pos 96993811
+        → map (λ relation. clause_truth project sample standing row 120 (record {
           what = Head 3;
           relation = relation;
           value = Amount span number;
         })) (Less
         ∷ NotMore ∷ More ∷ NotLess ∷ [])
         ≡ Unknown ∷ Yes ∷ No ∷ Unknown ∷ [] }
-    ensures tank_head_96993812 { (network : Project) (initial : ℤ) (diameter : Decimal) (span : Span) (number : Decimal)
-        → network.tanks.list ≡ cylinder (pos 20) initial diameter ∷ [] → length network.junctions.list ≡ 2
-        → length network.reservoirs.list ≡ 1 → span.lo ≡ pos 96993812
-        → map (λ relation. clause_truth network sample standing row 120 (record {
+    ensures tank_head_96993812 { (project : Project) (initial : ℤ) (diameter : Decimal) (span : Span) (number : Decimal)
+        → project.tanks.list ≡ cylinder (pos 20) initial diameter ∷ [] → length project.junctions.list ≡ 2
+        → length project.reservoirs.list ≡ 1 → span.lo ≡ pos 96993812
+        → map (λ relation. clause_truth project sample standing row 120 (record {
           what = Head 3;
           relation = relation;
           value = Amount span number;
@@ -164,8 +164,8 @@ pub fn clauses()
 
 /// Rules of clauses that are true, false or open.
 pub fn rules()
-    ensures true_rule { (network : Project) (rule : Rule) (number : Decimal) (s60 : Span) (s91 : Span)
-        → length network.junctions.list ≡ 2 → length network.reservoirs.list ≡ 1
+    ensures true_rule { (project : Project) (rule : Rule) (number : Decimal) (s60 : Span) (s91 : Span)
+        → length project.junctions.list ≡ 2 → length project.reservoirs.list ≡ 1
         → s60.lo ≡ pos 60 → s91.lo ≡ pos 91
         → rule.clauses.list ≡ (record {
           joined = And;
@@ -177,9 +177,9 @@ pub fn rules()
         })
         ∷ (record { joined = Or; clause = record { what = Head 0; relation = Less; value = Amount s60 number } })
         ∷ (record { joined = And; clause = record { what = Head 1; relation = Less; value = Amount s91 number } }) ∷ []
-        → rule_truth network sample standing row 120 rule ≡ Yes }
-    ensures open_rule { (network : Project) (rule : Rule) (number : Decimal) (s60 : Span) (s91 : Span)
-        → length network.junctions.list ≡ 2 → length network.reservoirs.list ≡ 1
+        → rule_truth project sample standing row 120 rule ≡ Yes }
+    ensures open_rule { (project : Project) (rule : Rule) (number : Decimal) (s60 : Span) (s91 : Span)
+        → length project.junctions.list ≡ 2 → length project.reservoirs.list ≡ 1
         → s60.lo ≡ pos 60 → s91.lo ≡ pos 91
         → rule.clauses.list ≡ (record {
           joined = And;
@@ -191,9 +191,9 @@ pub fn rules()
         })
         ∷ (record { joined = Or; clause = record { what = Head 0; relation = Less; value = Amount s60 number } })
         ∷ (record { joined = And; clause = record { what = Head 1; relation = Less; value = Amount s91 number } }) ∷ []
-        → rule_truth network sample standing row 120 rule ≡ Unknown }
-    ensures false_rule { (network : Project) (rule : Rule) (number : Decimal) (s60 : Span) (s91 : Span)
-        → length network.junctions.list ≡ 2 → length network.reservoirs.list ≡ 1
+        → rule_truth project sample standing row 120 rule ≡ Unknown }
+    ensures false_rule { (project : Project) (rule : Rule) (number : Decimal) (s60 : Span) (s91 : Span)
+        → length project.junctions.list ≡ 2 → length project.reservoirs.list ≡ 1
         → s60.lo ≡ pos 60 → s91.lo ≡ pos 91
         → rule.clauses.list ≡ (record {
           joined = And;
@@ -205,9 +205,9 @@ pub fn rules()
         })
         ∷ (record { joined = Or; clause = record { what = Head 0; relation = Less; value = Amount s60 number } })
         ∷ (record { joined = And; clause = record { what = Head 1; relation = More; value = Amount s91 number } }) ∷ []
-        → rule_truth network sample standing row 120 rule ≡ No }
-    ensures either_rule { (network : Project) (rule : Rule) (number : Decimal) (s54 : Span) (s60 : Span)
-        → length network.junctions.list ≡ 2 → length network.reservoirs.list ≡ 1
+        → rule_truth project sample standing row 120 rule ≡ No }
+    ensures either_rule { (project : Project) (rule : Rule) (number : Decimal) (s54 : Span) (s60 : Span)
+        → length project.junctions.list ≡ 2 → length project.reservoirs.list ≡ 1
         → s54.lo ≡ pos 54 → s60.lo ≡ pos 60
         → rule.clauses.list ≡ (record {
           joined = And;
@@ -218,9 +218,9 @@ pub fn rules()
           };
         })
         ∷ (record { joined = Or; clause = record { what = Head 1; relation = More; value = Amount s54 number } }) ∷ []
-        → rule_truth network sample standing row 120 rule ≡ Yes }
-    ensures both_rule { (network : Project) (rule : Rule) (number : Decimal) (s54 : Span) (s60 : Span)
-        → length network.junctions.list ≡ 2 → length network.reservoirs.list ≡ 1
+        → rule_truth project sample standing row 120 rule ≡ Yes }
+    ensures both_rule { (project : Project) (rule : Rule) (number : Decimal) (s54 : Span) (s60 : Span)
+        → length project.junctions.list ≡ 2 → length project.reservoirs.list ≡ 1
         → s54.lo ≡ pos 54 → s60.lo ≡ pos 60
         → rule.clauses.list ≡ (record {
           joined = And;
@@ -231,5 +231,5 @@ pub fn rules()
           };
         })
         ∷ (record { joined = And; clause = record { what = Head 1; relation = More; value = Amount s54 number } }) ∷ []
-        → rule_truth network sample standing row 120 rule ≡ Unknown }
+        → rule_truth project sample standing row 120 rule ≡ Unknown }
 {}

@@ -21,10 +21,10 @@ ghost use Rattle.hyd_cases_of_definitions.specs.EachKindOfLink.{upper, lower, pi
 
 /// The laws of all links, with the tank between, full, full and overflowing, and empty.
 pub fn laws()
-    ensures between { (network : Project) (parts : CityParts) (shutoff : Span) (head : Decimal) (pattern : Option ℕ)
-        → network.options.unit ≡ Cmd → length network.junctions.list ≡ 2 → length network.reservoirs.list ≡ 1
+    ensures between { (project : Project) (parts : CityParts) (shutoff : Span) (head : Decimal) (pattern : Option ℕ)
+        → project.options.unit ≡ Cmd → length project.junctions.list ≡ 2 → length project.reservoirs.list ≡ 1
         → head.nano ≡ pos 40000000000
-        → grid_links network (Between ∷ []) (record { from = 2; to = 0; kind = PipeLink parts.pipe; start = Open }
+        → grid_links project (Between ∷ []) (record { from = 2; to = 0; kind = PipeLink parts.pipe; start = Open }
         ∷ record { from = 0; to = 1; kind = CheckPipe parts.check; start = Open }
         ∷ record { from = 2; to = 1; kind = PumpLink parts.pump shutoff (FourThirds head) pattern; start = Open }
         ∷ record { from = 0; to = 3; kind = Tcv Linear; start = Open }
@@ -36,12 +36,12 @@ pub fn laws()
         } ∷ []) (Open ∷ Open ∷ Speed (pos 900000000)
         ∷ Throttle (pos 100000000000) (Quadratic parts.valve) ∷ Limit (pos 500000000000) (pos 5000000000) ∷ [])
         ≡ (city parts).links }
-    ensures full { (network : Project) (parts : CityParts) (shutoff : Span) (head : Decimal) (pattern : Option ℕ)
+    ensures full { (project : Project) (parts : CityParts) (shutoff : Span) (head : Decimal) (pattern : Option ℕ)
         (tank : Tank)
-        → network.options.unit ≡ Cmd → length network.junctions.list ≡ 2 → length network.reservoirs.list ≡ 1
+        → project.options.unit ≡ Cmd → length project.junctions.list ≡ 2 → length project.reservoirs.list ≡ 1
         → head.nano ≡ pos 40000000000
-        → network.tanks.list ≡ tank ∷ [] → tank.overflow ≡ false
-        → grid_links network (Full ∷ []) (record { from = 2; to = 0; kind = PipeLink parts.pipe; start = Open }
+        → project.tanks.list ≡ tank ∷ [] → tank.overflow ≡ false
+        → grid_links project (Full ∷ []) (record { from = 2; to = 0; kind = PipeLink parts.pipe; start = Open }
         ∷ record { from = 0; to = 1; kind = CheckPipe parts.check; start = Open }
         ∷ record { from = 2; to = 1; kind = PumpLink parts.pump shutoff (FourThirds head) pattern; start = Open }
         ∷ record { from = 0; to = 3; kind = Tcv Linear; start = Open }
@@ -58,12 +58,12 @@ pub fn laws()
           law = ReverseOnly (QuadraticLaw parts.valve);
         }
         ∷ record { from = 1; to = 3; law = ReverseOnly (Capped (pos 5000000000) (QuadraticLaw parts.control)) } ∷ [] }
-    ensures overflowing { (network : Project) (parts : CityParts) (shutoff : Span) (head : Decimal)
+    ensures overflowing { (project : Project) (parts : CityParts) (shutoff : Span) (head : Decimal)
         (pattern : Option ℕ) (tank : Tank)
-        → network.options.unit ≡ Cmd → length network.junctions.list ≡ 2 → length network.reservoirs.list ≡ 1
+        → project.options.unit ≡ Cmd → length project.junctions.list ≡ 2 → length project.reservoirs.list ≡ 1
         → head.nano ≡ pos 40000000000
-        → network.tanks.list ≡ tank ∷ [] → tank.overflow ≡ true
-        → grid_links network (Full ∷ []) (record { from = 2; to = 0; kind = PipeLink parts.pipe; start = Open }
+        → project.tanks.list ≡ tank ∷ [] → tank.overflow ≡ true
+        → grid_links project (Full ∷ []) (record { from = 2; to = 0; kind = PipeLink parts.pipe; start = Open }
         ∷ record { from = 0; to = 1; kind = CheckPipe parts.check; start = Open }
         ∷ record { from = 2; to = 1; kind = PumpLink parts.pump shutoff (FourThirds head) pattern; start = Open }
         ∷ record { from = 0; to = 3; kind = Tcv Linear; start = Open }
@@ -75,10 +75,10 @@ pub fn laws()
         } ∷ []) (Open ∷ Open ∷ Speed (pos 900000000)
         ∷ Throttle (pos 100000000000) (Quadratic parts.valve) ∷ Limit (pos 500000000000) (pos 5000000000) ∷ [])
         ≡ (city parts).links }
-    ensures empty { (network : Project) (parts : CityParts) (shutoff : Span) (head : Decimal) (pattern : Option ℕ)
-        → network.options.unit ≡ Cmd → length network.junctions.list ≡ 2 → length network.reservoirs.list ≡ 1
+    ensures empty { (project : Project) (parts : CityParts) (shutoff : Span) (head : Decimal) (pattern : Option ℕ)
+        → project.options.unit ≡ Cmd → length project.junctions.list ≡ 2 → length project.reservoirs.list ≡ 1
         → head.nano ≡ pos 40000000000
-        → grid_links network (Empty ∷ []) (record { from = 2; to = 0; kind = PipeLink parts.pipe; start = Open }
+        → grid_links project (Empty ∷ []) (record { from = 2; to = 0; kind = PipeLink parts.pipe; start = Open }
         ∷ record { from = 0; to = 1; kind = CheckPipe parts.check; start = Open }
         ∷ record { from = 2; to = 1; kind = PumpLink parts.pump shutoff (FourThirds head) pattern; start = Open }
         ∷ record { from = 0; to = 3; kind = Tcv Linear; start = Open }

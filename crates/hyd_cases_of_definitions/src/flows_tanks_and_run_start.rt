@@ -22,7 +22,7 @@ pub fn flows()
         (pos 100 ∷ neg_ℤ (pos 30) ∷ pos 7
         ∷ pos 5 ∷ [])) (0 ∷ 1 ∷ 2 ∷ 3 ∷ [])
         ≡ pos 88 ∷ neg_ℤ (pos 125) ∷ pos 37 ∷ pos 0 ∷ [] }
-    ensures inflow { (network : Project) → network.links.list ≡ (record {
+    ensures inflow { (project : Project) → project.links.list ≡ (record {
       from = 0;
       to = 1;
       kind = Tcv Linear;
@@ -31,8 +31,8 @@ pub fn flows()
         ∷ (record { from = 1; to = 2; kind = Tcv Linear; start = Closed })
         ∷ (record { from = 2; to = 0; kind = Tcv Linear; start = Open })
         ∷ (record { from = 1; to = 0; kind = Tcv Linear; start = Throttle (pos 5) Linear }) ∷ []
-        → length network.junctions.list ≡ 1 → length network.reservoirs.list ≡ 0
-        → map (λ tank. tank_inflow network tank (pos 100 ∷ neg_ℤ (pos 30) ∷ pos 7 ∷ pos 5 ∷ [])) (0 ∷ 1 ∷ []) ≡ pos 125
+        → length project.junctions.list ≡ 1 → length project.reservoirs.list ≡ 0
+        → map (λ tank. tank_inflow project tank (pos 100 ∷ neg_ℤ (pos 30) ∷ pos 7 ∷ pos 5 ∷ [])) (0 ∷ 1 ∷ []) ≡ pos 125
         ∷ neg_ℤ (pos 37) ∷ [] }
 {}
 
@@ -47,15 +47,15 @@ pub fn tanks()
 
 /// What is known at the start of the run: levels, tank states and the commanded states of the file.
 pub fn start()
-    ensures standing { (network : Project) (a b : Tank) → network.tanks.list ≡ a ∷ b
-        ∷ [] → network.links.list ≡ (record { from = 0; to = 1; kind = Tcv Linear; start = Open })
+    ensures standing { (project : Project) (a b : Tank) → project.tanks.list ≡ a ∷ b
+        ∷ [] → project.links.list ≡ (record { from = 0; to = 1; kind = Tcv Linear; start = Open })
         ∷ (record { from = 1; to = 2; kind = Tcv Linear; start = Closed })
         ∷ (record { from = 2; to = 0; kind = Tcv Linear; start = Open })
         ∷ (record { from = 1; to = 0; kind = Tcv Linear; start = Throttle (pos 5) Linear }) ∷ []
         → a.initial ≡ pos 6096000000 → b.initial ≡ neg_ℤ (pos 5)
         → a.minimum ≡ pos 0 → a.maximum ≡ pos 15240000000 → b.minimum ≡ neg_ℤ (pos 5) → b.maximum ≡ pos 4572000000
         → a.shape ≡ None → b.shape ≡ None
-        → initial_standing network ≡ record {
+        → initial_standing project ≡ record {
           number = 0;
           time = 0;
           levels = (record { lo = pos 6096000000; hi = pos 6096000000 })
@@ -65,9 +65,9 @@ pub fn start()
           commanded = Open ∷ Closed ∷ Open ∷ Throttle (pos 5) Linear ∷ [];
           finished = false;
         } }
-    ensures levels { (network : Project) (a b : Tank) → network.tanks.list ≡ a ∷ b ∷ [] → a.initial ≡ pos 7
+    ensures levels { (project : Project) (a b : Tank) → project.tanks.list ≡ a ∷ b ∷ [] → a.initial ≡ pos 7
         → b.initial ≡ neg_ℤ (pos 5)
-        → initial_levels network 3 ≡ pos 21 ∷ neg_ℤ (pos 15) ∷ [] }
+        → initial_levels project 3 ≡ pos 21 ∷ neg_ℤ (pos 15) ∷ [] }
 {}
 
 /// The vectors of a record by problem and side; a tank that isn't there has none.

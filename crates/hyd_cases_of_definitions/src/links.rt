@@ -216,11 +216,11 @@ pub fn control_valves()
 
 /// An open pipe from one tank to another, each of them full, between or empty.
 pub fn pipes_at_tanks()
-    ensures low { (network : Project) (capacity : Capacity) → network.options.unit ≡ Cmd
-        → length network.junctions.list ≡ 1
-        → length network.reservoirs.list ≡ 0 → HasTanks network false false
+    ensures low { (project : Project) (capacity : Capacity) → project.options.unit ≡ Cmd
+        → length project.junctions.list ≡ 1
+        → length project.reservoirs.list ≡ 0 → HasTanks project false false
         → IsPipe capacity
-        → map (λ tanks. map (low (law_of network tanks (between_tanks (PipeLink capacity)) Open))
+        → map (λ tanks. map (low (law_of project tanks (between_tanks (PipeLink capacity)) Open))
         (pos 1000000000000000 ∷ neg_ℤ (pos 1000000000000000)
         ∷ [])) pairs
         ≡ (pos 0 ∷ pos 0 ∷ []) ∷ (pos 312321049455 ∷ pos 0 ∷ []) ∷ (pos 312321049455 ∷ pos 0 ∷ [])
@@ -228,11 +228,11 @@ pub fn pipes_at_tanks()
         ∷ (pos 312321049455 ∷ neg_ℤ (pos 312321049456) ∷ []) ∷ (pos 312321049455 ∷ pos 0 ∷ [])
         ∷ (pos 0 ∷ neg_ℤ (pos 312321049456) ∷ []) ∷ (pos 0
         ∷ neg_ℤ (pos 312321049456) ∷ []) ∷ (pos 0 ∷ pos 0 ∷ []) ∷ [] }
-    ensures high { (network : Project) (capacity : Capacity) → network.options.unit ≡ Cmd
-        → length network.junctions.list ≡ 1
-        → length network.reservoirs.list ≡ 0 → HasTanks network false false
+    ensures high { (project : Project) (capacity : Capacity) → project.options.unit ≡ Cmd
+        → length project.junctions.list ≡ 1
+        → length project.reservoirs.list ≡ 0 → HasTanks project false false
         → IsPipe capacity
-        → map (λ tanks. map (high (law_of network tanks (between_tanks (PipeLink capacity)) Open)) (pos 1000000000000000
+        → map (λ tanks. map (high (law_of project tanks (between_tanks (PipeLink capacity)) Open)) (pos 1000000000000000
         ∷ neg_ℤ (pos 1000000000000000) ∷ [])) pairs
         ≡ (pos 0 ∷ pos 0 ∷ []) ∷ (pos 312321049456 ∷ pos 0 ∷ []) ∷ (pos 312321049456 ∷ pos 0 ∷ [])
         ∷ (pos 0 ∷ neg_ℤ (pos 312321049455) ∷ [])
@@ -243,21 +243,21 @@ pub fn pipes_at_tanks()
 
 /// A pipe with a check valve from one tank to another.
 pub fn check_pipes_at_tanks()
-    ensures low { (network : Project) (capacity : Capacity) → network.options.unit ≡ Cmd
-        → length network.junctions.list ≡ 1
-        → length network.reservoirs.list ≡ 0 → HasTanks network false false
+    ensures low { (project : Project) (capacity : Capacity) → project.options.unit ≡ Cmd
+        → length project.junctions.list ≡ 1
+        → length project.reservoirs.list ≡ 0 → HasTanks project false false
         → IsPipe capacity
-        → map (λ tanks. map (low (law_of network tanks (between_tanks (CheckPipe capacity)) Open)) (pos 1000000000000000
+        → map (λ tanks. map (low (law_of project tanks (between_tanks (CheckPipe capacity)) Open)) (pos 1000000000000000
         ∷ neg_ℤ (pos 1000000000000000) ∷ [])) pairs
         ≡ (pos 0 ∷ pos 0 ∷ []) ∷ (pos 312321049455 ∷ pos 0 ∷ []) ∷ (pos 312321049455 ∷ pos 0 ∷ [])
         ∷ (pos 0 ∷ pos 0 ∷ []) ∷ (pos 312321049455 ∷ pos 0
         ∷ []) ∷ (pos 312321049455 ∷ pos 0 ∷ []) ∷ (pos 0 ∷ pos 0 ∷ []) ∷ (pos 0 ∷ pos 0 ∷ []) ∷ (pos 0 ∷ pos 0 ∷ [])
         ∷ [] }
-    ensures high { (network : Project) (capacity : Capacity) → network.options.unit ≡ Cmd
-        → length network.junctions.list ≡ 1
-        → length network.reservoirs.list ≡ 0 → HasTanks network false false
+    ensures high { (project : Project) (capacity : Capacity) → project.options.unit ≡ Cmd
+        → length project.junctions.list ≡ 1
+        → length project.reservoirs.list ≡ 0 → HasTanks project false false
         → IsPipe capacity
-        → map (λ tanks. map (high (law_of network tanks (between_tanks (CheckPipe capacity)) Open))
+        → map (λ tanks. map (high (law_of project tanks (between_tanks (CheckPipe capacity)) Open))
         (pos 1000000000000000
         ∷ neg_ℤ (pos 1000000000000000) ∷ [])) pairs
         ≡ (pos 0 ∷ pos 0 ∷ []) ∷ (pos 312321049456 ∷ pos 0 ∷ []) ∷ (pos 312321049456 ∷ pos 0 ∷ [])
@@ -268,22 +268,22 @@ pub fn check_pipes_at_tanks()
 
 /// A pump from one tank to another.
 pub fn pumps_at_tanks()
-    ensures low { (network : Project) (capacity : Capacity) (shutoff : Span) (head : Decimal) (pattern : Option ℕ)
-        → network.options.unit ≡ Cmd
-        → length network.junctions.list ≡ 1 → length network.reservoirs.list ≡ 0 → HasTanks network false false
+    ensures low { (project : Project) (capacity : Capacity) (shutoff : Span) (head : Decimal) (pattern : Option ℕ)
+        → project.options.unit ≡ Cmd
+        → length project.junctions.list ≡ 1 → length project.reservoirs.list ≡ 0 → HasTanks project false false
         → IsPump capacity → head.nano ≡ pos 40000000000
-        → map (λ tanks. map (low (law_of network tanks (between_tanks
+        → map (λ tanks. map (low (law_of project tanks (between_tanks
         (PumpLink capacity shutoff (FourThirds head) pattern)) (Speed (pos 900000000)))) (pos 1000000000000000
         ∷ neg_ℤ (pos 1000000000000000) ∷ [])) pairs
         ≡ (pos 0 ∷ pos 0 ∷ []) ∷ (pos 70787388707 ∷ pos 0 ∷ []) ∷ (pos 70787388707 ∷ pos 0 ∷ [])
         ∷ (pos 0 ∷ pos 0 ∷ []) ∷ (pos 70787388707 ∷ pos 0
         ∷ []) ∷ (pos 70787388707 ∷ pos 0 ∷ []) ∷ (pos 0 ∷ pos 0 ∷ []) ∷ (pos 0 ∷ pos 0 ∷ []) ∷ (pos 0 ∷ pos 0 ∷ [])
         ∷ [] }
-    ensures high { (network : Project) (capacity : Capacity) (shutoff : Span) (head : Decimal) (pattern : Option ℕ)
-        → network.options.unit ≡ Cmd
-        → length network.junctions.list ≡ 1 → length network.reservoirs.list ≡ 0 → HasTanks network false false
+    ensures high { (project : Project) (capacity : Capacity) (shutoff : Span) (head : Decimal) (pattern : Option ℕ)
+        → project.options.unit ≡ Cmd
+        → length project.junctions.list ≡ 1 → length project.reservoirs.list ≡ 0 → HasTanks project false false
         → IsPump capacity → head.nano ≡ pos 40000000000
-        → map (λ tanks. map (high (law_of network tanks (between_tanks
+        → map (λ tanks. map (high (law_of project tanks (between_tanks
         (PumpLink capacity shutoff (FourThirds head) pattern)) (Speed (pos 900000000)))) (pos 1000000000000000
         ∷ neg_ℤ (pos 1000000000000000) ∷ [])) pairs
         ≡ (pos 0 ∷ pos 0 ∷ []) ∷ (pos 70787388708 ∷ pos 0 ∷ []) ∷ (pos 70787388708 ∷ pos 0 ∷ [])
@@ -294,11 +294,11 @@ pub fn pumps_at_tanks()
 
 /// A throttled valve from one tank to another.
 pub fn throttle_valves_at_tanks()
-    ensures low { (network : Project) (capacity : Capacity) → network.options.unit ≡ Cmd
-        → length network.junctions.list ≡ 1
-        → length network.reservoirs.list ≡ 0 → HasTanks network false false
+    ensures low { (project : Project) (capacity : Capacity) → project.options.unit ≡ Cmd
+        → length project.junctions.list ≡ 1
+        → length project.reservoirs.list ≡ 0 → HasTanks project false false
         → IsValve capacity
-        → map (λ tanks. map (low (law_of network tanks (between_tanks (Tcv Linear))
+        → map (λ tanks. map (low (law_of project tanks (between_tanks (Tcv Linear))
         (Throttle (pos 100000000000) (Quadratic capacity)))) (pos 1000000000000000
         ∷ neg_ℤ (pos 1000000000000000) ∷ [])) pairs
         ≡ (pos 0 ∷ pos 0 ∷ []) ∷ (pos 279324828875 ∷ pos 0 ∷ []) ∷ (pos 279324828875 ∷ pos 0 ∷ [])
@@ -306,11 +306,11 @@ pub fn throttle_valves_at_tanks()
         ∷ (pos 279324828875 ∷ neg_ℤ (pos 279324828876) ∷ []) ∷ (pos 279324828875 ∷ pos 0 ∷ [])
         ∷ (pos 0 ∷ neg_ℤ (pos 279324828876) ∷ []) ∷ (pos 0
         ∷ neg_ℤ (pos 279324828876) ∷ []) ∷ (pos 0 ∷ pos 0 ∷ []) ∷ [] }
-    ensures high { (network : Project) (capacity : Capacity) → network.options.unit ≡ Cmd
-        → length network.junctions.list ≡ 1
-        → length network.reservoirs.list ≡ 0 → HasTanks network false false
+    ensures high { (project : Project) (capacity : Capacity) → project.options.unit ≡ Cmd
+        → length project.junctions.list ≡ 1
+        → length project.reservoirs.list ≡ 0 → HasTanks project false false
         → IsValve capacity
-        → map (λ tanks. map (high (law_of network tanks (between_tanks (Tcv Linear))
+        → map (λ tanks. map (high (law_of project tanks (between_tanks (Tcv Linear))
         (Throttle (pos 100000000000) (Quadratic capacity)))) (pos 1000000000000000
         ∷ neg_ℤ (pos 1000000000000000) ∷ [])) pairs
         ≡ (pos 0 ∷ pos 0 ∷ []) ∷ (pos 279324828876 ∷ pos 0 ∷ []) ∷ (pos 279324828876 ∷ pos 0 ∷ [])
@@ -322,11 +322,11 @@ pub fn throttle_valves_at_tanks()
 
 /// A flow control valve with a limit from one tank to another.
 pub fn control_valves_at_tanks()
-    ensures low { (network : Project) (capacity : Capacity) → network.options.unit ≡ Cmd
-        → length network.junctions.list ≡ 1
-        → length network.reservoirs.list ≡ 0 → HasTanks network false false
+    ensures low { (project : Project) (capacity : Capacity) → project.options.unit ≡ Cmd
+        → length project.junctions.list ≡ 1
+        → length project.reservoirs.list ≡ 0 → HasTanks project false false
         → IsValve capacity
-        → map (λ tanks. map (low (law_of network tanks (between_tanks (Fcv (Quadratic capacity)))
+        → map (λ tanks. map (low (law_of project tanks (between_tanks (Fcv (Quadratic capacity)))
         (Limit (pos 500000000000) (pos 5000000000)))) (pos 1000000000000000
         ∷ neg_ℤ (pos 1000000000000000) ∷ [])) pairs
         ≡ (pos 0 ∷ pos 0 ∷ []) ∷ (pos 5000000000 ∷ pos 0 ∷ []) ∷ (pos 5000000000 ∷ pos 0 ∷ [])
@@ -334,11 +334,11 @@ pub fn control_valves_at_tanks()
         ∷ (pos 5000000000 ∷ neg_ℤ (pos 279324828876) ∷ []) ∷ (pos 5000000000 ∷ pos 0 ∷ [])
         ∷ (pos 0 ∷ neg_ℤ (pos 279324828876) ∷ []) ∷ (pos 0
         ∷ neg_ℤ (pos 279324828876) ∷ []) ∷ (pos 0 ∷ pos 0 ∷ []) ∷ [] }
-    ensures high { (network : Project) (capacity : Capacity) → network.options.unit ≡ Cmd
-        → length network.junctions.list ≡ 1
-        → length network.reservoirs.list ≡ 0 → HasTanks network false false
+    ensures high { (project : Project) (capacity : Capacity) → project.options.unit ≡ Cmd
+        → length project.junctions.list ≡ 1
+        → length project.reservoirs.list ≡ 0 → HasTanks project false false
         → IsValve capacity
-        → map (λ tanks. map (high (law_of network tanks (between_tanks (Fcv (Quadratic capacity)))
+        → map (λ tanks. map (high (law_of project tanks (between_tanks (Fcv (Quadratic capacity)))
         (Limit (pos 500000000000) (pos 5000000000)))) (pos 1000000000000000
         ∷ neg_ℤ (pos 1000000000000000) ∷ [])) pairs
         ≡ (pos 0 ∷ pos 0 ∷ []) ∷ (pos 5000000000 ∷ pos 0 ∷ []) ∷ (pos 5000000000 ∷ pos 0 ∷ [])

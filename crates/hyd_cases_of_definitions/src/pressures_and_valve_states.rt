@@ -12,32 +12,32 @@ ghost use Rattle.hyd_spec_certificates.specs.EnclosingFunctions.{low, high};
 
 /// The minimum and the required pressure in pounds a square inch, rounded down and up.
 pub fn pressures_pounds()
-    ensures minimum { (network : Project) → network.options.unit ≡ Gpm → network.options.p0.nano ≡ pos 5000000000
-        → (floor (minimum_pressure network) ∷ ceiling (minimum_pressure network) ∷ []) ≡ pos 35171936302792
+    ensures minimum { (project : Project) → project.options.unit ≡ Gpm → project.options.p0.nano ≡ pos 5000000000
+        → (floor (minimum_pressure project) ∷ ceiling (minimum_pressure project) ∷ []) ≡ pos 35171936302792
         ∷ pos 35171936302793 ∷ [] }
-    ensures required { (network : Project) → network.options.unit ≡ Gpm → network.options.pf.nano ≡ pos 20000000001
-        → (floor (required_pressure network) ∷ ceiling (required_pressure network) ∷ []) ≡ pos 140687745218204
+    ensures required { (project : Project) → project.options.unit ≡ Gpm → project.options.pf.nano ≡ pos 20000000001
+        → (floor (required_pressure project) ∷ ceiling (required_pressure project) ∷ []) ≡ pos 140687745218204
         ∷ pos 140687745218205
         ∷ [] }
 {}
 
 /// The minimum and the required pressure in metres, rounded down and up.
 pub fn pressures_metres()
-    ensures minimum { (network : Project) → network.options.unit ≡ Cmd → network.options.p0.nano ≡ pos 5000000000
-        → (floor (minimum_pressure network) ∷ ceiling (minimum_pressure network) ∷ []) ≡ pos 50000000000000
+    ensures minimum { (project : Project) → project.options.unit ≡ Cmd → project.options.p0.nano ≡ pos 5000000000
+        → (floor (minimum_pressure project) ∷ ceiling (minimum_pressure project) ∷ []) ≡ pos 50000000000000
         ∷ pos 50000000000000 ∷ [] }
-    ensures required { (network : Project) → network.options.unit ≡ Cmd → network.options.pf.nano ≡ pos 20000000001
-        → (floor (required_pressure network) ∷ ceiling (required_pressure network) ∷ []) ≡ pos 200000000010000
+    ensures required { (project : Project) → project.options.unit ≡ Cmd → project.options.pf.nano ≡ pos 20000000001
+        → (floor (required_pressure project) ∷ ceiling (required_pressure project) ∷ []) ≡ pos 200000000010000
         ∷ pos 200000000010000
         ∷ [] }
 {}
 
 /// Which demands depend on the pressure.
 pub fn driven()
-    ensures by_pressure { (network : Project) → network.options.pda ≡ true
-        → map (is_pressure_driven network) (neg_ℤ (pos 1) ∷ pos 0 ∷ pos 1 ∷ []) ≡ false ∷ false ∷ true ∷ [] }
-    ensures by_demand { (network : Project) → network.options.pda ≡ false
-        → map (is_pressure_driven network) (neg_ℤ (pos 1) ∷ pos 0 ∷ pos 1 ∷ []) ≡ false ∷ false ∷ false ∷ [] }
+    ensures by_pressure { (project : Project) → project.options.pda ≡ true
+        → map (is_pressure_driven project) (neg_ℤ (pos 1) ∷ pos 0 ∷ pos 1 ∷ []) ≡ false ∷ false ∷ true ∷ [] }
+    ensures by_demand { (project : Project) → project.options.pda ≡ false
+        → map (is_pressure_driven project) (neg_ℤ (pos 1) ∷ pos 0 ∷ pos 1 ∷ []) ≡ false ∷ false ∷ false ∷ [] }
 {}
 
 /// What valves without loss coefficient pass in each state.

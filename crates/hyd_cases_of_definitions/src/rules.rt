@@ -114,34 +114,34 @@ pub fn statuses()
 
 /// Clauses on the time, with a rule step of six minutes: it is equal to 2:00 at the first instant from then on.
 pub fn times()
-    ensures less { (network : Project) (readings : Readings) (span : Span) (number : Decimal)
-        → network.times.rule ≡ 360 → span.lo ≡ pos 7200
-        → map (λ time. holds_on network 1 time readings Time Less (Amount span number)) (6840 ∷ 7199 ∷ 7200 ∷ 7201
+    ensures less { (project : Project) (readings : Readings) (span : Span) (number : Decimal)
+        → project.times.rule ≡ 360 → span.lo ≡ pos 7200
+        → map (λ time. holds_on project 1 time readings Time Less (Amount span number)) (6840 ∷ 7199 ∷ 7200 ∷ 7201
         ∷ 7559 ∷ 7560
         ∷ []) ≡ true ∷ true ∷ false ∷ false ∷ false ∷ false ∷ [] }
-    ensures notmore { (network : Project) (readings : Readings) (span : Span) (number : Decimal)
-        → network.times.rule ≡ 360 → span.lo ≡ pos 7200
-        → map (λ time. holds_on network 1 time readings Time NotMore (Amount span number)) (6840 ∷ 7199 ∷ 7200 ∷ 7201
+    ensures notmore { (project : Project) (readings : Readings) (span : Span) (number : Decimal)
+        → project.times.rule ≡ 360 → span.lo ≡ pos 7200
+        → map (λ time. holds_on project 1 time readings Time NotMore (Amount span number)) (6840 ∷ 7199 ∷ 7200 ∷ 7201
         ∷ 7559 ∷ 7560
         ∷ []) ≡ true ∷ true ∷ true ∷ false ∷ false ∷ false ∷ [] }
-    ensures more { (network : Project) (readings : Readings) (span : Span) (number : Decimal)
-        → network.times.rule ≡ 360 → span.lo ≡ pos 7200
-        → map (λ time. holds_on network 1 time readings Time More (Amount span number)) (6840 ∷ 7199 ∷ 7200 ∷ 7201
+    ensures more { (project : Project) (readings : Readings) (span : Span) (number : Decimal)
+        → project.times.rule ≡ 360 → span.lo ≡ pos 7200
+        → map (λ time. holds_on project 1 time readings Time More (Amount span number)) (6840 ∷ 7199 ∷ 7200 ∷ 7201
         ∷ 7559 ∷ 7560
         ∷ []) ≡ false ∷ false ∷ false ∷ true ∷ true ∷ true ∷ [] }
-    ensures notless { (network : Project) (readings : Readings) (span : Span) (number : Decimal)
-        → network.times.rule ≡ 360 → span.lo ≡ pos 7200
-        → map (λ time. holds_on network 1 time readings Time NotLess (Amount span number)) (6840 ∷ 7199 ∷ 7200 ∷ 7201
+    ensures notless { (project : Project) (readings : Readings) (span : Span) (number : Decimal)
+        → project.times.rule ≡ 360 → span.lo ≡ pos 7200
+        → map (λ time. holds_on project 1 time readings Time NotLess (Amount span number)) (6840 ∷ 7199 ∷ 7200 ∷ 7201
         ∷ 7559 ∷ 7560
         ∷ []) ≡ false ∷ false ∷ true ∷ true ∷ true ∷ true ∷ [] }
-    ensures equal { (network : Project) (readings : Readings) (span : Span) (number : Decimal)
-        → network.times.rule ≡ 360 → span.lo ≡ pos 7200
-        → map (λ time. holds_on network 1 time readings Time Equal (Amount span number)) (6840 ∷ 7199 ∷ 7200 ∷ 7201
+    ensures equal { (project : Project) (readings : Readings) (span : Span) (number : Decimal)
+        → project.times.rule ≡ 360 → span.lo ≡ pos 7200
+        → map (λ time. holds_on project 1 time readings Time Equal (Amount span number)) (6840 ∷ 7199 ∷ 7200 ∷ 7201
         ∷ 7559 ∷ 7560
         ∷ []) ≡ false ∷ false ∷ true ∷ true ∷ true ∷ false ∷ [] }
-    ensures unequal { (network : Project) (readings : Readings) (span : Span) (number : Decimal)
-        → network.times.rule ≡ 360 → span.lo ≡ pos 7200
-        → map (λ time. holds_on network 1 time readings Time Unequal (Amount span number)) (6840 ∷ 7199 ∷ 7200 ∷ 7201
+    ensures unequal { (project : Project) (readings : Readings) (span : Span) (number : Decimal)
+        → project.times.rule ≡ 360 → span.lo ≡ pos 7200
+        → map (λ time. holds_on project 1 time readings Time Unequal (Amount span number)) (6840 ∷ 7199 ∷ 7200 ∷ 7201
         ∷ 7559 ∷ 7560
         ∷ []) ≡ true ∷ true ∷ false ∷ false ∷ false ∷ true ∷ [] }
 {}
@@ -149,44 +149,44 @@ pub fn times()
 /// Clauses on the clock of a run that starts at 23:00: it is equal to 0:00:10 after midnight, and to 23:59:50 across
 /// it.
 pub fn clock_times()
-    ensures less_after { (network : Project) (readings : Readings) (span : Span) (number : Decimal)
-        → network.times.rule ≡ 360 → network.times.start_clock ≡ 82800 → span.lo ≡ pos 10
-        → map (λ time. holds_on network 1 time readings Clock Less (Amount span number)) (3599 ∷ 3600 ∷ 3601 ∷ 3650
+    ensures less_after { (project : Project) (readings : Readings) (span : Span) (number : Decimal)
+        → project.times.rule ≡ 360 → project.times.start_clock ≡ 82800 → span.lo ≡ pos 10
+        → map (λ time. holds_on project 1 time readings Clock Less (Amount span number)) (3599 ∷ 3600 ∷ 3601 ∷ 3650
         ∷ 3969 ∷ 3970
         ∷ 4019 ∷ 4020 ∷ []) ≡ false ∷ true ∷ true ∷ false ∷ false ∷ false ∷ false ∷ false ∷ [] }
-    ensures less_across { (network : Project) (readings : Readings) (span : Span) (number : Decimal)
-        → network.times.rule ≡ 360 → network.times.start_clock ≡ 82800 → span.lo ≡ pos 86390
-        → map (λ time. holds_on network 1 time readings Clock Less (Amount span number)) (3599 ∷ 3600 ∷ 3601 ∷ 3650
+    ensures less_across { (project : Project) (readings : Readings) (span : Span) (number : Decimal)
+        → project.times.rule ≡ 360 → project.times.start_clock ≡ 82800 → span.lo ≡ pos 86390
+        → map (λ time. holds_on project 1 time readings Clock Less (Amount span number)) (3599 ∷ 3600 ∷ 3601 ∷ 3650
         ∷ 3969 ∷ 3970
         ∷ 4019 ∷ 4020 ∷ []) ≡ false ∷ true ∷ true ∷ true ∷ true ∷ true ∷ true ∷ true ∷ [] }
-    ensures notmore_after { (network : Project) (readings : Readings) (span : Span) (number : Decimal)
-        → network.times.rule ≡ 360 → network.times.start_clock ≡ 82800 → span.lo ≡ pos 10
-        → map (λ time. holds_on network 1 time readings Clock NotMore (Amount span number)) (3599 ∷ 3600 ∷ 3601 ∷ 3650
+    ensures notmore_after { (project : Project) (readings : Readings) (span : Span) (number : Decimal)
+        → project.times.rule ≡ 360 → project.times.start_clock ≡ 82800 → span.lo ≡ pos 10
+        → map (λ time. holds_on project 1 time readings Clock NotMore (Amount span number)) (3599 ∷ 3600 ∷ 3601 ∷ 3650
         ∷ 3969 ∷ 3970
         ∷ 4019 ∷ 4020 ∷ []) ≡ false ∷ true ∷ true ∷ false ∷ false ∷ false ∷ false ∷ false ∷ [] }
-    ensures more_after { (network : Project) (readings : Readings) (span : Span) (number : Decimal)
-        → network.times.rule ≡ 360 → network.times.start_clock ≡ 82800 → span.lo ≡ pos 10
-        → map (λ time. holds_on network 1 time readings Clock More (Amount span number)) (3599 ∷ 3600 ∷ 3601 ∷ 3650
+    ensures more_after { (project : Project) (readings : Readings) (span : Span) (number : Decimal)
+        → project.times.rule ≡ 360 → project.times.start_clock ≡ 82800 → span.lo ≡ pos 10
+        → map (λ time. holds_on project 1 time readings Clock More (Amount span number)) (3599 ∷ 3600 ∷ 3601 ∷ 3650
         ∷ 3969 ∷ 3970
         ∷ 4019 ∷ 4020 ∷ []) ≡ true ∷ false ∷ false ∷ true ∷ true ∷ true ∷ true ∷ true ∷ [] }
-    ensures notless_after { (network : Project) (readings : Readings) (span : Span) (number : Decimal)
-        → network.times.rule ≡ 360 → network.times.start_clock ≡ 82800 → span.lo ≡ pos 10
-        → map (λ time. holds_on network 1 time readings Clock NotLess (Amount span number)) (3599 ∷ 3600 ∷ 3601 ∷ 3650
+    ensures notless_after { (project : Project) (readings : Readings) (span : Span) (number : Decimal)
+        → project.times.rule ≡ 360 → project.times.start_clock ≡ 82800 → span.lo ≡ pos 10
+        → map (λ time. holds_on project 1 time readings Clock NotLess (Amount span number)) (3599 ∷ 3600 ∷ 3601 ∷ 3650
         ∷ 3969 ∷ 3970
         ∷ 4019 ∷ 4020 ∷ []) ≡ true ∷ false ∷ false ∷ true ∷ true ∷ true ∷ true ∷ true ∷ [] }
-    ensures equal_after { (network : Project) (readings : Readings) (span : Span) (number : Decimal)
-        → network.times.rule ≡ 360 → network.times.start_clock ≡ 82800 → span.lo ≡ pos 10
-        → map (λ time. holds_on network 1 time readings Clock Equal (Amount span number)) (3599 ∷ 3600 ∷ 3601 ∷ 3650
+    ensures equal_after { (project : Project) (readings : Readings) (span : Span) (number : Decimal)
+        → project.times.rule ≡ 360 → project.times.start_clock ≡ 82800 → span.lo ≡ pos 10
+        → map (λ time. holds_on project 1 time readings Clock Equal (Amount span number)) (3599 ∷ 3600 ∷ 3601 ∷ 3650
         ∷ 3969 ∷ 3970
         ∷ 4019 ∷ 4020 ∷ []) ≡ false ∷ false ∷ false ∷ true ∷ true ∷ false ∷ false ∷ false ∷ [] }
-    ensures equal_across { (network : Project) (readings : Readings) (span : Span) (number : Decimal)
-        → network.times.rule ≡ 360 → network.times.start_clock ≡ 82800 → span.lo ≡ pos 86390
-        → map (λ time. holds_on network 1 time readings Clock Equal (Amount span number)) (3599 ∷ 3600 ∷ 3601 ∷ 3650
+    ensures equal_across { (project : Project) (readings : Readings) (span : Span) (number : Decimal)
+        → project.times.rule ≡ 360 → project.times.start_clock ≡ 82800 → span.lo ≡ pos 86390
+        → map (λ time. holds_on project 1 time readings Clock Equal (Amount span number)) (3599 ∷ 3600 ∷ 3601 ∷ 3650
         ∷ 3969 ∷ 3970
         ∷ 4019 ∷ 4020 ∷ []) ≡ true ∷ true ∷ true ∷ true ∷ false ∷ false ∷ false ∷ false ∷ [] }
-    ensures unequal_after { (network : Project) (readings : Readings) (span : Span) (number : Decimal)
-        → network.times.rule ≡ 360 → network.times.start_clock ≡ 82800 → span.lo ≡ pos 10
-        → map (λ time. holds_on network 1 time readings Clock Unequal (Amount span number)) (3599 ∷ 3600 ∷ 3601 ∷ 3650
+    ensures unequal_after { (project : Project) (readings : Readings) (span : Span) (number : Decimal)
+        → project.times.rule ≡ 360 → project.times.start_clock ≡ 82800 → span.lo ≡ pos 10
+        → map (λ time. holds_on project 1 time readings Clock Unequal (Amount span number)) (3599 ∷ 3600 ∷ 3601 ∷ 3650
         ∷ 3969 ∷ 3970
         ∷ 4019 ∷ 4020 ∷ []) ≡ true ∷ true ∷ true ∷ false ∷ false ∷ true ∷ true ∷ true ∷ [] }
 {}
@@ -257,7 +257,7 @@ pub fn ranks()
 /// What three rules change, two of equal priority and one without: of the offers to a link the one of highest rank
 /// acts, of equal ranks the earliest. A link that already is in the state isn't changed.
 pub fn changes()
-    ensures changes { (network : Project) (a b c : Rule) → network.rules.list ≡ a ∷ b ∷ c ∷ []
+    ensures changes { (project : Project) (a b c : Rule) → project.rules.list ≡ a ∷ b ∷ c ∷ []
         → a.priority ≡ None → b.priority ≡ Some (pos 5) → c.priority ≡ Some (pos 5)
         → a.yes.list ≡ (record { link = 0; to = Closed }) ∷ (record { link = 1; to = Speed (pos 1000000000) }) ∷ []
         → a.no.list ≡ (record { link = 0; to = Open }) ∷ []
@@ -265,7 +265,7 @@ pub fn changes()
         → b.no.list ≡ (record { link = 1; to = Open }) ∷ (record { link = 1; to = Closed }) ∷ []
         → c.yes.list ≡ (record { link = 0; to = Closed }) ∷ (record { link = 2; to = Closed }) ∷ []
         → c.no.list ≡ []
-        → map (λ values. rule_changes network values (Open ∷ Speed (pos 1000000000) ∷ Closed ∷ []))
+        → map (λ values. rule_changes project values (Open ∷ Speed (pos 1000000000) ∷ Closed ∷ []))
         ((true ∷ true ∷ true ∷ []) ∷ (true
         ∷ false ∷ true ∷ []) ∷ (false ∷ false ∷ false ∷ []) ∷ (false ∷ true ∷ true ∷ []) ∷ (true ∷ false ∷ false ∷ [])
         ∷ [])
@@ -290,7 +290,7 @@ pub fn changes()
           to = Closed;
         })
         ∷ (record { source = ByRule 1; link = 1; to = Open }) ∷ []) ∷ [] }
-    ensures acted { (network : Project) (a b c : Rule) → network.rules.list ≡ a ∷ b ∷ c ∷ []
+    ensures acted { (project : Project) (a b c : Rule) → project.rules.list ≡ a ∷ b ∷ c ∷ []
         → a.priority ≡ None → b.priority ≡ Some (pos 5) → c.priority ≡ Some (pos 5)
         → a.yes.list ≡ (record { link = 0; to = Closed }) ∷ (record { link = 1; to = Speed (pos 1000000000) }) ∷ []
         → a.no.list ≡ (record { link = 0; to = Open }) ∷ []
@@ -298,7 +298,7 @@ pub fn changes()
         → b.no.list ≡ (record { link = 1; to = Open }) ∷ (record { link = 1; to = Closed }) ∷ []
         → c.yes.list ≡ (record { link = 0; to = Closed }) ∷ (record { link = 2; to = Closed }) ∷ []
         → c.no.list ≡ []
-        → map (λ values. acted network values (Open ∷ Speed (pos 1000000000) ∷ Closed ∷ []))
+        → map (λ values. acted project values (Open ∷ Speed (pos 1000000000) ∷ Closed ∷ []))
         ((true ∷ true ∷ true ∷ []) ∷ (true ∷ false
         ∷ true ∷ []) ∷ (false ∷ false ∷ false ∷ []) ∷ (false ∷ true ∷ true ∷ []) ∷ (true ∷ false ∷ false ∷ []) ∷ [])
         ≡ (Speed (pos 700000000) ∷ Closed ∷ Closed ∷ []) ∷ (Closed ∷ Open ∷ Closed ∷ []) ∷ (Open ∷ Open ∷ Closed ∷ [])

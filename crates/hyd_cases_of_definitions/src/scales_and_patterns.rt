@@ -68,10 +68,10 @@ pub fn lifts()
 
 /// The multiplier of a pattern of four hourly steps that starts half an hour in.
 pub fn multipliers()
-    ensures { (network : Project) → multipliers_of network 0 ≡ pos 1000000000 ∷ pos 2000000000 ∷ pos 0
+    ensures { (project : Project) → multipliers_of project 0 ≡ pos 1000000000 ∷ pos 2000000000 ∷ pos 0
         ∷ neg_ℤ (pos 500000000) ∷ []
-        → network.times.pattern ≡ 3600 → network.times.pattern_start ≡ 1800
-        → map (multiplier_at network 0) (0 ∷ 1799 ∷ 1800 ∷ 5400 ∷ 9000 ∷ 12600 ∷ 86399 ∷ [])
+        → project.times.pattern ≡ 3600 → project.times.pattern_start ≡ 1800
+        → map (multiplier_at project 0) (0 ∷ 1799 ∷ 1800 ∷ 5400 ∷ 9000 ∷ 12600 ∷ 86399 ∷ [])
         ≡ pos 1000000000 ∷ pos 1000000000 ∷ pos 2000000000 ∷ pos 0 ∷ neg_ℤ (pos 500000000) ∷ pos 1000000000
         ∷ pos 1000000000 ∷ [] }
 {}
@@ -79,47 +79,47 @@ pub fn multipliers()
 /// The demand of a category under a demand multiplier: with a pattern of its own, with the default pattern, and
 /// without one.
 pub fn demands()
-    ensures own { (network : Project) (category : Demand) → multipliers_of network 0 ≡ pos 1000000000 ∷ pos 2000000000
+    ensures own { (project : Project) (category : Demand) → multipliers_of project 0 ≡ pos 1000000000 ∷ pos 2000000000
         ∷ pos 0 ∷ neg_ℤ (pos 500000000)
         ∷ []
-        → network.times.pattern ≡ 3600 → network.times.pattern_start ≡ 1800 → network.options.multiplier.nano
+        → project.times.pattern ≡ 3600 → project.times.pattern_start ≡ 1800 → project.options.multiplier.nano
         ≡ pos 1234567891
-        → category.base ≡ pos 1000000007 → category.pattern ≡ Some 0 → network.options.default_pattern ≡ None
-        → map (λ time. category_demand network time category) (0 ∷ 1799 ∷ 1800 ∷ 5400 ∷ 9000 ∷ 12600 ∷ 86399 ∷ [])
+        → category.base ≡ pos 1000000007 → category.pattern ≡ Some 0 → project.options.default_pattern ≡ None
+        → map (λ time. category_demand project time category) (0 ∷ 1799 ∷ 1800 ∷ 5400 ∷ 9000 ∷ 12600 ∷ 86399 ∷ [])
         ≡ pos 1234567899 ∷ pos 1234567899 ∷ pos 2469135799 ∷ pos 0 ∷ neg_ℤ (pos 617283949) ∷ pos 1234567899
         ∷ pos 1234567899 ∷ [] }
-    ensures default { (network : Project) (category : Demand) → multipliers_of network 0 ≡ pos 1000000000
+    ensures default { (project : Project) (category : Demand) → multipliers_of project 0 ≡ pos 1000000000
         ∷ pos 2000000000 ∷ pos 0 ∷ neg_ℤ (pos 500000000)
         ∷ []
-        → network.times.pattern ≡ 3600 → network.times.pattern_start ≡ 1800 → network.options.multiplier.nano
+        → project.times.pattern ≡ 3600 → project.times.pattern_start ≡ 1800 → project.options.multiplier.nano
         ≡ pos 1234567891
-        → category.base ≡ neg_ℤ (pos 1000000007) → category.pattern ≡ None → network.options.default_pattern ≡ Some 0
-        → map (λ time. category_demand network time category) (0 ∷ 1799 ∷ 1800 ∷ 5400 ∷ 9000 ∷ 12600 ∷ 86399 ∷ [])
+        → category.base ≡ neg_ℤ (pos 1000000007) → category.pattern ≡ None → project.options.default_pattern ≡ Some 0
+        → map (λ time. category_demand project time category) (0 ∷ 1799 ∷ 1800 ∷ 5400 ∷ 9000 ∷ 12600 ∷ 86399 ∷ [])
         ≡ neg_ℤ (pos 1234567899) ∷ neg_ℤ (pos 1234567899) ∷ neg_ℤ (pos 2469135799) ∷ pos 0 ∷ pos 617283949
         ∷ neg_ℤ (pos 1234567899)
         ∷ neg_ℤ (pos 1234567899) ∷ [] }
-    ensures none { (network : Project) (category : Demand) → multipliers_of network 0 ≡ pos 1000000000
+    ensures none { (project : Project) (category : Demand) → multipliers_of project 0 ≡ pos 1000000000
         ∷ pos 2000000000 ∷ pos 0 ∷ neg_ℤ (pos 500000000)
         ∷ []
-        → network.times.pattern ≡ 3600 → network.times.pattern_start ≡ 1800 → network.options.multiplier.nano
+        → project.times.pattern ≡ 3600 → project.times.pattern_start ≡ 1800 → project.options.multiplier.nano
         ≡ pos 1234567891
-        → category.base ≡ pos 1000000007 → category.pattern ≡ None → network.options.default_pattern ≡ None
-        → map (λ time. category_demand network time category) (0 ∷ 1799 ∷ 1800 ∷ 5400 ∷ 9000 ∷ 12600 ∷ 86399 ∷ [])
+        → category.base ≡ pos 1000000007 → category.pattern ≡ None → project.options.default_pattern ≡ None
+        → map (λ time. category_demand project time category) (0 ∷ 1799 ∷ 1800 ∷ 5400 ∷ 9000 ∷ 12600 ∷ 86399 ∷ [])
         ≡ pos 1234567899 ∷ pos 1234567899 ∷ pos 1234567899 ∷ pos 1234567899 ∷ pos 1234567899 ∷ pos 1234567899
         ∷ pos 1234567899 ∷ [] }
 {}
 
 /// The demand of a junction of three categories, each cut for itself.
 pub fn sums()
-    ensures { (network : Project) (junction : Junction) → multipliers_of network 0 ≡ pos 1000000000 ∷ pos 2000000000
+    ensures { (project : Project) (junction : Junction) → multipliers_of project 0 ≡ pos 1000000000 ∷ pos 2000000000
         ∷ pos 0 ∷ neg_ℤ (pos 500000000)
         ∷ []
-        → network.times.pattern ≡ 3600 → network.times.pattern_start ≡ 1800 → network.options.multiplier.nano
+        → project.times.pattern ≡ 3600 → project.times.pattern_start ≡ 1800 → project.options.multiplier.nano
         ≡ pos 1234567891
-        → network.options.default_pattern ≡ None
+        → project.options.default_pattern ≡ None
         → junction.demands.list ≡ (record { base = pos 1000000001; pattern = Some 0 })
         ∷ (record { base = neg_ℤ (pos 7); pattern = None }) ∷ (record { base = pos 333333333; pattern = Some 0 }) ∷ []
-        → map (λ time. demand_of network time junction) (0 ∷ 1799 ∷ 1800 ∷ 5400 ∷ 9000 ∷ 12600 ∷ 86399 ∷ [])
+        → map (λ time. demand_of project time junction) (0 ∷ 1799 ∷ 1800 ∷ 5400 ∷ 9000 ∷ 12600 ∷ 86399 ∷ [])
         ≡ pos 1646090513 ∷ pos 1646090513 ∷ pos 3292181035 ∷ neg_ℤ (pos 8) ∷ neg_ℤ (pos 823045267) ∷ pos 1646090513
         ∷ pos 1646090513
         ∷ [] }
@@ -127,16 +127,16 @@ pub fn sums()
 
 /// The head of a reservoir under a pattern, cut toward zero, and without one.
 pub fn reservoirs()
-    ensures patterned { (network : Project) (reservoir : Reservoir) → multipliers_of network 0 ≡ pos 1000000000
+    ensures patterned { (project : Project) (reservoir : Reservoir) → multipliers_of project 0 ≡ pos 1000000000
         ∷ pos 2000000000 ∷ pos 0
         ∷ neg_ℤ (pos 500000000) ∷ []
-        → network.times.pattern ≡ 3600 → network.times.pattern_start ≡ 1800
+        → project.times.pattern ≡ 3600 → project.times.pattern_start ≡ 1800
         → reservoir.head ≡ pos 100000000000007 → reservoir.pattern ≡ Some 0
-        → map (λ time. reservoir_head network time reservoir) (0 ∷ 1799 ∷ 1800 ∷ 5400 ∷ 9000 ∷ 12600 ∷ 86399 ∷ [])
+        → map (λ time. reservoir_head project time reservoir) (0 ∷ 1799 ∷ 1800 ∷ 5400 ∷ 9000 ∷ 12600 ∷ 86399 ∷ [])
         ≡ pos 100000000000007 ∷ pos 100000000000007 ∷ pos 200000000000014 ∷ pos 0 ∷ neg_ℤ (pos 50000000000003)
         ∷ pos 100000000000007
         ∷ pos 100000000000007 ∷ [] }
-    ensures constant { (network : Project) (reservoir : Reservoir) → reservoir.head ≡ pos 100000000000007
+    ensures constant { (project : Project) (reservoir : Reservoir) → reservoir.head ≡ pos 100000000000007
         → reservoir.pattern ≡ None
-        → reservoir_head network 7 reservoir ≡ pos 100000000000007 }
+        → reservoir_head project 7 reservoir ≡ pos 100000000000007 }
 {}

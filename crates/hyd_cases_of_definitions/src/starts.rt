@@ -22,30 +22,30 @@ pub fn speeds()
 
 /// Where a step of hourly patterns that start half an hour in begins.
 pub fn boundaries()
-    ensures { (network : Project) → network.times.pattern ≡ 3600 → network.times.pattern_start ≡ 1800
-        → map (is_pattern_boundary network) (0 ∷ 1 ∷ 1799 ∷ 1800 ∷ 3600 ∷ 5400 ∷ 5401 ∷ []) ≡ true ∷ false ∷ false
+    ensures { (project : Project) → project.times.pattern ≡ 3600 → project.times.pattern_start ≡ 1800
+        → map (is_pattern_boundary project) (0 ∷ 1 ∷ 1799 ∷ 1800 ∷ 3600 ∷ 5400 ∷ 5401 ∷ []) ≡ true ∷ false ∷ false
         ∷ true ∷ false
         ∷ true ∷ false ∷ [] }
 {}
 
 /// Report times every hour from half an hour on.
 pub fn report_times()
-    ensures { (network : Project) → network.times.report ≡ 3600 → network.times.report_start ≡ 1800
-        → map (is_report_time network) (0 ∷ 1 ∷ 1799 ∷ 1800 ∷ 3600 ∷ 5400 ∷ 5401 ∷ []) ≡ false ∷ false ∷ false ∷ true
+    ensures { (project : Project) → project.times.report ≡ 3600 → project.times.report_start ≡ 1800
+        → map (is_report_time project) (0 ∷ 1 ∷ 1799 ∷ 1800 ∷ 3600 ∷ 5400 ∷ 5401 ∷ []) ≡ false ∷ false ∷ false ∷ true
         ∷ false ∷ true
         ∷ false ∷ [] }
 {}
 
 /// What the clock of a run that starts at 23:00 shows.
 pub fn clocks()
-    ensures { (network : Project) → network.times.start_clock ≡ 82800
-        → map (clock_at network) (0 ∷ 3599 ∷ 3600 ∷ 3601 ∷ 90000 ∷ []) ≡ 82800 ∷ 86399 ∷ 0 ∷ 1 ∷ 0 ∷ [] }
+    ensures { (project : Project) → project.times.start_clock ≡ 82800
+        → map (clock_at project) (0 ∷ 3599 ∷ 3600 ∷ 3601 ∷ 90000 ∷ []) ≡ 82800 ∷ 86399 ∷ 0 ∷ 1 ∷ 0 ∷ [] }
 {}
 
 /// A pump with a pattern takes its multiplier where a step begins; other links stay as they are.
 pub fn patterns()
-    ensures { (network : Project) (capacity : Capacity) (head : ShutoffHead) (shutoff : Span)
-        → network.links.list ≡ (record {
+    ensures { (project : Project) (capacity : Capacity) (head : ShutoffHead) (shutoff : Span)
+        → project.links.list ≡ (record {
           from = 0;
           to = 1;
           kind = PumpLink capacity shutoff head (Some 0);
@@ -53,9 +53,9 @@ pub fn patterns()
         })
         ∷ (record { from = 0; to = 1; kind = PumpLink capacity shutoff head None; start = Closed })
         ∷ (record { from = 0; to = 1; kind = Tcv Linear; start = Open }) ∷ []
-        → multipliers_of network 0 ≡ pos 1000000000 ∷ pos 0 ∷ pos 1200000000
-        ∷ [] → network.times.pattern ≡ 3600 → network.times.pattern_start ≡ 1800
-        → map (λ time. patterned network time (Open ∷ Speed (pos 500000000) ∷ Open ∷ [])) (0 ∷ 1 ∷ 1800 ∷ 5400 ∷ 7000
+        → multipliers_of project 0 ≡ pos 1000000000 ∷ pos 0 ∷ pos 1200000000
+        ∷ [] → project.times.pattern ≡ 3600 → project.times.pattern_start ≡ 1800
+        → map (λ time. patterned project time (Open ∷ Speed (pos 500000000) ∷ Open ∷ [])) (0 ∷ 1 ∷ 1800 ∷ 5400 ∷ 7000
         ∷ 9000 ∷ [])
         ≡ (Speed (pos 1000000000) ∷ Speed (pos 500000000) ∷ Open ∷ []) ∷ (Open ∷ Speed (pos 500000000) ∷ Open ∷ [])
         ∷ (Closed
@@ -65,7 +65,7 @@ pub fn patterns()
 
 /// Controls by time, by the clock and by level, carried out in order, a later one overriding: the states after them.
 pub fn controls()
-    ensures { (network : Project) → network.controls.list ≡ (record { link = 0; to = Closed; when = AtTime 7200 })
+    ensures { (project : Project) → project.controls.list ≡ (record { link = 0; to = Closed; when = AtTime 7200 })
         ∷ (record { link = 0; to = Speed (pos 900000000); when = AtLevel 0 false (pos 50) })
         ∷ (record { link = 1; to = Closed; when = AtClock 3600 })
         ∷ (record { link = 0; to = Open; when = AtLevel 0 true (pos 90) }) ∷ (record {
@@ -74,12 +74,12 @@ pub fn controls()
           when = AtTime 7200;
         })
         ∷ []
-        → network.times.start_clock ≡ 82800
-        → controlled network 7200 (acts_on ((record { lo = pos 40; hi = pos 45 }) ∷ [])) (Open ∷ Open ∷ [])
-        ∷ controlled network 7200 (acts_on ((record { lo = pos 95; hi = pos 99 }) ∷ [])) (Open ∷ Open ∷ [])
-        ∷ controlled network 7201 (acts_on ((record { lo = pos 50; hi = pos 50 }) ∷ [])) (Open ∷ Open ∷ [])
-        ∷ controlled network 7200 (acts_on ((record { lo = pos 51; hi = pos 89 }) ∷ [])) (Open ∷ Open ∷ [])
-        ∷ controlled network 7201 (acts_on ((record { lo = pos 90; hi = pos 90 }) ∷ [])) (Open ∷ Open ∷ []) ∷ []
+        → project.times.start_clock ≡ 82800
+        → controlled project 7200 (acts_on ((record { lo = pos 40; hi = pos 45 }) ∷ [])) (Open ∷ Open ∷ [])
+        ∷ controlled project 7200 (acts_on ((record { lo = pos 95; hi = pos 99 }) ∷ [])) (Open ∷ Open ∷ [])
+        ∷ controlled project 7201 (acts_on ((record { lo = pos 50; hi = pos 50 }) ∷ [])) (Open ∷ Open ∷ [])
+        ∷ controlled project 7200 (acts_on ((record { lo = pos 51; hi = pos 89 }) ∷ [])) (Open ∷ Open ∷ [])
+        ∷ controlled project 7201 (acts_on ((record { lo = pos 90; hi = pos 90 }) ∷ [])) (Open ∷ Open ∷ []) ∷ []
         ≡ (Speed (pos 900000000) ∷ Open ∷ []) ∷ (Open ∷ Open ∷ []) ∷ (Speed (pos 900000000) ∷ Open ∷ [])
         ∷ (Closed ∷ Open ∷ []) ∷ (Open
         ∷ Open ∷ []) ∷ [] }
@@ -87,7 +87,7 @@ pub fn controls()
 
 /// What the same controls change: each that acts and whose state differs from the link's at that moment.
 pub fn changes()
-    ensures { (network : Project) (controls : List Control) → controls ≡ (record {
+    ensures { (project : Project) (controls : List Control) → controls ≡ (record {
       link = 0;
       to = Closed;
       when = AtTime 7200;
@@ -100,24 +100,24 @@ pub fn changes()
           when = AtTime 7200;
         })
         ∷ []
-        → network.times.start_clock ≡ 82800
-        → control_changes network 7200 (acts_on ((record {
+        → project.times.start_clock ≡ 82800
+        → control_changes project 7200 (acts_on ((record {
           lo = pos 40;
           hi = pos 45;
         }) ∷ [])) 0 controls (Open ∷ Open ∷ [])
-        ∷ control_changes network 7200 (acts_on ((record {
+        ∷ control_changes project 7200 (acts_on ((record {
           lo = pos 95;
           hi = pos 99;
         }) ∷ [])) 0 controls (Open ∷ Open ∷ [])
-        ∷ control_changes network 7201 (acts_on ((record {
+        ∷ control_changes project 7201 (acts_on ((record {
           lo = pos 50;
           hi = pos 50;
         }) ∷ [])) 0 controls (Open ∷ Open ∷ [])
-        ∷ control_changes network 7200 (acts_on ((record {
+        ∷ control_changes project 7200 (acts_on ((record {
           lo = pos 51;
           hi = pos 89;
         }) ∷ [])) 0 controls (Open ∷ Open ∷ [])
-        ∷ control_changes network 7201 (acts_on ((record {
+        ∷ control_changes project 7201 (acts_on ((record {
           lo = pos 90;
           hi = pos 90;
         }) ∷ [])) 0 controls (Open ∷ Open ∷ []) ∷ []

@@ -144,115 +144,115 @@ pub fn event_lines()
 /// A valve between a junction and tanks, or two tanks: nothing flows into a full tank that doesn't overflow, or out of
 /// an empty one.
 pub fn tank_laws()
-    ensures out_of_full_low { (network : Project) → length network.junctions.list ≡ 1 → length network.reservoirs.list
-        ≡ 0 → HasTanks network false false
-        → map (low (law_of network (Full ∷ Between
+    ensures out_of_full_low { (project : Project) → length project.junctions.list ≡ 1 → length project.reservoirs.list
+        ≡ 0 → HasTanks project false false
+        → map (low (law_of project (Full ∷ Between
         ∷ []) (record { from = 1; to = 0; kind = Tcv Linear; start = Open }) Open)) (neg_ℤ (pos 125) ∷ pos 0 ∷ pos 125
         ∷ [])
         ≡ pos 0 ∷ pos 0 ∷ pos 1003352 ∷ [] }
-    ensures out_of_full_high { (network : Project) → length network.junctions.list ≡ 1
-        → length network.reservoirs.list ≡ 0 → HasTanks network false false
-        → map (high (law_of network (Full ∷ Between
+    ensures out_of_full_high { (project : Project) → length project.junctions.list ≡ 1
+        → length project.reservoirs.list ≡ 0 → HasTanks project false false
+        → map (high (law_of project (Full ∷ Between
         ∷ []) (record { from = 1; to = 0; kind = Tcv Linear; start = Open }) Open)) (neg_ℤ (pos 125) ∷ pos 0 ∷ pos 125
         ∷ [])
         ≡ pos 0 ∷ pos 0 ∷ pos 1003353 ∷ [] }
-    ensures into_full_low { (network : Project) → length network.junctions.list ≡ 1 → length network.reservoirs.list
-        ≡ 0 → HasTanks network false false
-        → map (low (law_of network (Full ∷ Between
+    ensures into_full_low { (project : Project) → length project.junctions.list ≡ 1 → length project.reservoirs.list
+        ≡ 0 → HasTanks project false false
+        → map (low (law_of project (Full ∷ Between
         ∷ []) (record { from = 0; to = 1; kind = Tcv Linear; start = Open }) Open)) (neg_ℤ (pos 125) ∷ pos 0 ∷ pos 125
         ∷ [])
         ≡ neg_ℤ (pos 1003353) ∷ pos 0 ∷ pos 0 ∷ [] }
-    ensures into_full_high { (network : Project) → length network.junctions.list ≡ 1 → length network.reservoirs.list
-        ≡ 0 → HasTanks network false false
-        → map (high (law_of network (Full ∷ Between
+    ensures into_full_high { (project : Project) → length project.junctions.list ≡ 1 → length project.reservoirs.list
+        ≡ 0 → HasTanks project false false
+        → map (high (law_of project (Full ∷ Between
         ∷ []) (record { from = 0; to = 1; kind = Tcv Linear; start = Open }) Open)) (neg_ℤ (pos 125) ∷ pos 0 ∷ pos 125
         ∷ [])
         ≡ neg_ℤ (pos 1003352) ∷ pos 0 ∷ pos 0 ∷ [] }
-    ensures out_of_empty_low { (network : Project) → length network.junctions.list ≡ 1
-        → length network.reservoirs.list ≡ 0
-        → map (low (law_of network (Empty ∷ Between
+    ensures out_of_empty_low { (project : Project) → length project.junctions.list ≡ 1
+        → length project.reservoirs.list ≡ 0
+        → map (low (law_of project (Empty ∷ Between
         ∷ []) (record { from = 1; to = 0; kind = Tcv Linear; start = Open }) Open)) (neg_ℤ (pos 125) ∷ pos 0 ∷ pos 125
         ∷ [])
         ≡ neg_ℤ (pos 1003353) ∷ pos 0 ∷ pos 0 ∷ [] }
-    ensures out_of_empty_high { (network : Project) → length network.junctions.list ≡ 1
-        → length network.reservoirs.list ≡ 0
-        → map (high (law_of network (Empty ∷ Between
+    ensures out_of_empty_high { (project : Project) → length project.junctions.list ≡ 1
+        → length project.reservoirs.list ≡ 0
+        → map (high (law_of project (Empty ∷ Between
         ∷ []) (record { from = 1; to = 0; kind = Tcv Linear; start = Open }) Open)) (neg_ℤ (pos 125) ∷ pos 0 ∷ pos 125
         ∷ [])
         ≡ neg_ℤ (pos 1003352) ∷ pos 0 ∷ pos 0 ∷ [] }
-    ensures into_empty_low { (network : Project) → length network.junctions.list ≡ 1 → length network.reservoirs.list
+    ensures into_empty_low { (project : Project) → length project.junctions.list ≡ 1 → length project.reservoirs.list
         ≡ 0
-        → map (low (law_of network (Empty ∷ Between
+        → map (low (law_of project (Empty ∷ Between
         ∷ []) (record { from = 0; to = 1; kind = Tcv Linear; start = Open }) Open)) (neg_ℤ (pos 125) ∷ pos 0 ∷ pos 125
         ∷ [])
         ≡ pos 0 ∷ pos 0 ∷ pos 1003352 ∷ [] }
-    ensures into_empty_high { (network : Project) → length network.junctions.list ≡ 1 → length network.reservoirs.list
+    ensures into_empty_high { (project : Project) → length project.junctions.list ≡ 1 → length project.reservoirs.list
         ≡ 0
-        → map (high (law_of network (Empty ∷ Between
+        → map (high (law_of project (Empty ∷ Between
         ∷ []) (record { from = 0; to = 1; kind = Tcv Linear; start = Open }) Open)) (neg_ℤ (pos 125) ∷ pos 0 ∷ pos 125
         ∷ [])
         ≡ pos 0 ∷ pos 0 ∷ pos 1003353 ∷ [] }
-    ensures full_to_full_low { (network : Project) → length network.junctions.list ≡ 1
-        → length network.reservoirs.list ≡ 0 → HasTanks network false false
-        → map (low (law_of network (Full ∷ Full
+    ensures full_to_full_low { (project : Project) → length project.junctions.list ≡ 1
+        → length project.reservoirs.list ≡ 0 → HasTanks project false false
+        → map (low (law_of project (Full ∷ Full
         ∷ []) (record { from = 1; to = 2; kind = Tcv Linear; start = Open }) Open)) (neg_ℤ (pos 125) ∷ pos 0 ∷ pos 125
         ∷ [])
         ≡ pos 0 ∷ pos 0 ∷ pos 0 ∷ [] }
-    ensures full_to_full_high { (network : Project) → length network.junctions.list ≡ 1
-        → length network.reservoirs.list ≡ 0 → HasTanks network false false
-        → map (high (law_of network (Full ∷ Full
+    ensures full_to_full_high { (project : Project) → length project.junctions.list ≡ 1
+        → length project.reservoirs.list ≡ 0 → HasTanks project false false
+        → map (high (law_of project (Full ∷ Full
         ∷ []) (record { from = 1; to = 2; kind = Tcv Linear; start = Open }) Open)) (neg_ℤ (pos 125) ∷ pos 0 ∷ pos 125
         ∷ [])
         ≡ pos 0 ∷ pos 0 ∷ pos 0 ∷ [] }
-    ensures empty_to_full_low { (network : Project) → length network.junctions.list ≡ 1
-        → length network.reservoirs.list ≡ 0 → HasTanks network false false
-        → map (low (law_of network (Empty ∷ Full
+    ensures empty_to_full_low { (project : Project) → length project.junctions.list ≡ 1
+        → length project.reservoirs.list ≡ 0 → HasTanks project false false
+        → map (low (law_of project (Empty ∷ Full
         ∷ []) (record { from = 1; to = 2; kind = Tcv Linear; start = Open }) Open)) (neg_ℤ (pos 125) ∷ pos 0 ∷ pos 125
         ∷ [])
         ≡ neg_ℤ (pos 1003353) ∷ pos 0 ∷ pos 0 ∷ [] }
-    ensures empty_to_full_high { (network : Project) → length network.junctions.list ≡ 1
-        → length network.reservoirs.list ≡ 0 → HasTanks network false false
-        → map (high (law_of network (Empty ∷ Full
+    ensures empty_to_full_high { (project : Project) → length project.junctions.list ≡ 1
+        → length project.reservoirs.list ≡ 0 → HasTanks project false false
+        → map (high (law_of project (Empty ∷ Full
         ∷ []) (record { from = 1; to = 2; kind = Tcv Linear; start = Open }) Open)) (neg_ℤ (pos 125) ∷ pos 0 ∷ pos 125
         ∷ [])
         ≡ neg_ℤ (pos 1003352) ∷ pos 0 ∷ pos 0 ∷ [] }
-    ensures full_to_empty_low { (network : Project) → length network.junctions.list ≡ 1
-        → length network.reservoirs.list ≡ 0 → HasTanks network false false
-        → map (low (law_of network (Full ∷ Empty
+    ensures full_to_empty_low { (project : Project) → length project.junctions.list ≡ 1
+        → length project.reservoirs.list ≡ 0 → HasTanks project false false
+        → map (low (law_of project (Full ∷ Empty
         ∷ []) (record { from = 1; to = 2; kind = Tcv Linear; start = Open }) Open)) (neg_ℤ (pos 125) ∷ pos 0 ∷ pos 125
         ∷ [])
         ≡ pos 0 ∷ pos 0 ∷ pos 1003352 ∷ [] }
-    ensures full_to_empty_high { (network : Project) → length network.junctions.list ≡ 1
-        → length network.reservoirs.list ≡ 0 → HasTanks network false false
-        → map (high (law_of network (Full ∷ Empty
+    ensures full_to_empty_high { (project : Project) → length project.junctions.list ≡ 1
+        → length project.reservoirs.list ≡ 0 → HasTanks project false false
+        → map (high (law_of project (Full ∷ Empty
         ∷ []) (record { from = 1; to = 2; kind = Tcv Linear; start = Open }) Open)) (neg_ℤ (pos 125) ∷ pos 0 ∷ pos 125
         ∷ [])
         ≡ pos 0 ∷ pos 0 ∷ pos 1003353 ∷ [] }
-    ensures between_low { (network : Project) → length network.junctions.list ≡ 1 → length network.reservoirs.list ≡ 0
-        → map (low (law_of network (Between ∷ Between
+    ensures between_low { (project : Project) → length project.junctions.list ≡ 1 → length project.reservoirs.list ≡ 0
+        → map (low (law_of project (Between ∷ Between
         ∷ []) (record { from = 1; to = 2; kind = Tcv Linear; start = Open }) Open)) (neg_ℤ (pos 125) ∷ pos 0 ∷ pos 125
         ∷ [])
         ≡ neg_ℤ (pos 1003353) ∷ pos 0 ∷ pos 1003352 ∷ [] }
-    ensures between_high { (network : Project) → length network.junctions.list ≡ 1 → length network.reservoirs.list ≡ 0
-        → map (high (law_of network (Between ∷ Between
+    ensures between_high { (project : Project) → length project.junctions.list ≡ 1 → length project.reservoirs.list ≡ 0
+        → map (high (law_of project (Between ∷ Between
         ∷ []) (record { from = 1; to = 2; kind = Tcv Linear; start = Open }) Open)) (neg_ℤ (pos 125) ∷ pos 0 ∷ pos 125
         ∷ [])
         ≡ neg_ℤ (pos 1003352) ∷ pos 0 ∷ pos 1003353 ∷ [] }
-    ensures into_overflowing_low { (network : Project) → length network.junctions.list ≡ 1
-        → length network.reservoirs.list ≡ 0 → HasTanks network true false
-        → map (low (law_of network (Full ∷ Between
+    ensures into_overflowing_low { (project : Project) → length project.junctions.list ≡ 1
+        → length project.reservoirs.list ≡ 0 → HasTanks project true false
+        → map (low (law_of project (Full ∷ Between
         ∷ []) (record { from = 0; to = 1; kind = Tcv Linear; start = Open }) Open)) (neg_ℤ (pos 125) ∷ pos 0 ∷ pos 125
         ∷ [])
         ≡ neg_ℤ (pos 1003353) ∷ pos 0 ∷ pos 1003352 ∷ [] }
-    ensures into_overflowing_high { (network : Project) → length network.junctions.list ≡ 1
-        → length network.reservoirs.list ≡ 0 → HasTanks network true false
-        → map (high (law_of network (Full ∷ Between
+    ensures into_overflowing_high { (project : Project) → length project.junctions.list ≡ 1
+        → length project.reservoirs.list ≡ 0 → HasTanks project true false
+        → map (high (law_of project (Full ∷ Between
         ∷ []) (record { from = 0; to = 1; kind = Tcv Linear; start = Open }) Open)) (neg_ℤ (pos 125) ∷ pos 0 ∷ pos 125
         ∷ [])
         ≡ neg_ℤ (pos 1003352) ∷ pos 0 ∷ pos 1003353 ∷ [] }
-    ensures overflowing_to_full_low { (network : Project) → length network.junctions.list ≡ 1
-        → length network.reservoirs.list ≡ 0 → HasTanks network true false
-        → map (low (law_of network (Full ∷ Full
+    ensures overflowing_to_full_low { (project : Project) → length project.junctions.list ≡ 1
+        → length project.reservoirs.list ≡ 0 → HasTanks project true false
+        → map (low (law_of project (Full ∷ Full
         ∷ []) (record { from = 1; to = 2; kind = Tcv Linear; start = Open }) Open)) (neg_ℤ (pos 125) ∷ pos 0 ∷ pos 125
         ∷ [])
         ≡ neg_ℤ (pos 1003353) ∷ pos 0 ∷ pos 0 ∷ [] }
@@ -260,11 +260,11 @@ pub fn tank_laws()
 
 /// Clauses on a pressure about the amount, which in pounds a square inch isn't a whole number of head ticks.
 pub fn pressure_clauses()
-    ensures pounds_less { (network : Project) (junction : Junction) (span : Span) (number : Decimal)
-        → length network.junctions.list ≡ 1 → length network.reservoirs.list ≡ 0
-        → slice_get network.junctions.list 0 ≡ Some junction → junction.elevation ≡ pos 40
-        → network.options.unit ≡ Gpm → number.nano ≡ pos 1
-        → map (λ head. holds_on network 1 0 (record {
+    ensures pounds_less { (project : Project) (junction : Junction) (span : Span) (number : Decimal)
+        → length project.junctions.list ≡ 1 → length project.reservoirs.list ≡ 0
+        → slice_get project.junctions.list 0 ≡ Some junction → junction.elevation ≡ pos 40
+        → project.options.unit ≡ Gpm → number.nano ≡ pos 1
+        → map (λ head. holds_on project 1 0 (record {
           heads = head
               ∷ [];
           levels = [];
@@ -272,11 +272,11 @@ pub fn pressure_clauses()
           links = [];
         }) (Pressure 0) Less (Amount span number)) (pos 7074 ∷ pos 7075 ∷ []) ≡ true
         ∷ false ∷ [] }
-    ensures pounds_notmore { (network : Project) (junction : Junction) (span : Span) (number : Decimal)
-        → length network.junctions.list ≡ 1 → length network.reservoirs.list ≡ 0
-        → slice_get network.junctions.list 0 ≡ Some junction → junction.elevation ≡ pos 40
-        → network.options.unit ≡ Gpm → number.nano ≡ pos 1
-        → map (λ head. holds_on network 1 0 (record {
+    ensures pounds_notmore { (project : Project) (junction : Junction) (span : Span) (number : Decimal)
+        → length project.junctions.list ≡ 1 → length project.reservoirs.list ≡ 0
+        → slice_get project.junctions.list 0 ≡ Some junction → junction.elevation ≡ pos 40
+        → project.options.unit ≡ Gpm → number.nano ≡ pos 1
+        → map (λ head. holds_on project 1 0 (record {
           heads = head
               ∷ [];
           levels = [];
@@ -284,11 +284,11 @@ pub fn pressure_clauses()
           links = [];
         }) (Pressure 0) NotMore (Amount span number)) (pos 7074 ∷ pos 7075 ∷ []) ≡ true
         ∷ false ∷ [] }
-    ensures pounds_more { (network : Project) (junction : Junction) (span : Span) (number : Decimal)
-        → length network.junctions.list ≡ 1 → length network.reservoirs.list ≡ 0
-        → slice_get network.junctions.list 0 ≡ Some junction → junction.elevation ≡ pos 40
-        → network.options.unit ≡ Gpm → number.nano ≡ pos 1
-        → map (λ head. holds_on network 1 0 (record {
+    ensures pounds_more { (project : Project) (junction : Junction) (span : Span) (number : Decimal)
+        → length project.junctions.list ≡ 1 → length project.reservoirs.list ≡ 0
+        → slice_get project.junctions.list 0 ≡ Some junction → junction.elevation ≡ pos 40
+        → project.options.unit ≡ Gpm → number.nano ≡ pos 1
+        → map (λ head. holds_on project 1 0 (record {
           heads = head
               ∷ [];
           levels = [];
@@ -296,11 +296,11 @@ pub fn pressure_clauses()
           links = [];
         }) (Pressure 0) More (Amount span number)) (pos 7074 ∷ pos 7075 ∷ []) ≡ false
         ∷ true ∷ [] }
-    ensures pounds_notless { (network : Project) (junction : Junction) (span : Span) (number : Decimal)
-        → length network.junctions.list ≡ 1 → length network.reservoirs.list ≡ 0
-        → slice_get network.junctions.list 0 ≡ Some junction → junction.elevation ≡ pos 40
-        → network.options.unit ≡ Gpm → number.nano ≡ pos 1
-        → map (λ head. holds_on network 1 0 (record {
+    ensures pounds_notless { (project : Project) (junction : Junction) (span : Span) (number : Decimal)
+        → length project.junctions.list ≡ 1 → length project.reservoirs.list ≡ 0
+        → slice_get project.junctions.list 0 ≡ Some junction → junction.elevation ≡ pos 40
+        → project.options.unit ≡ Gpm → number.nano ≡ pos 1
+        → map (λ head. holds_on project 1 0 (record {
           heads = head
               ∷ [];
           levels = [];
@@ -308,11 +308,11 @@ pub fn pressure_clauses()
           links = [];
         }) (Pressure 0) NotLess (Amount span number)) (pos 7074 ∷ pos 7075 ∷ []) ≡ false
         ∷ true ∷ [] }
-    ensures pounds_below_less { (network : Project) (junction : Junction) (span : Span) (number : Decimal)
-        → length network.junctions.list ≡ 1 → length network.reservoirs.list ≡ 0
-        → slice_get network.junctions.list 0 ≡ Some junction → junction.elevation ≡ pos 40
-        → network.options.unit ≡ Gpm → number.nano ≡ neg_ℤ (pos 1)
-        → map (λ head. holds_on network 1 0 (record {
+    ensures pounds_below_less { (project : Project) (junction : Junction) (span : Span) (number : Decimal)
+        → length project.junctions.list ≡ 1 → length project.reservoirs.list ≡ 0
+        → slice_get project.junctions.list 0 ≡ Some junction → junction.elevation ≡ pos 40
+        → project.options.unit ≡ Gpm → number.nano ≡ neg_ℤ (pos 1)
+        → map (λ head. holds_on project 1 0 (record {
           heads = head
               ∷ [];
           levels = [];
@@ -320,11 +320,11 @@ pub fn pressure_clauses()
           links = [];
         }) (Pressure 0) Less (Amount span number)) (neg_ℤ (pos 6995) ∷ neg_ℤ (pos 6994)
         ∷ []) ≡ true ∷ false ∷ [] }
-    ensures pounds_below_notmore { (network : Project) (junction : Junction) (span : Span) (number : Decimal)
-        → length network.junctions.list ≡ 1 → length network.reservoirs.list ≡ 0
-        → slice_get network.junctions.list 0 ≡ Some junction → junction.elevation ≡ pos 40
-        → network.options.unit ≡ Gpm → number.nano ≡ neg_ℤ (pos 1)
-        → map (λ head. holds_on network 1 0 (record {
+    ensures pounds_below_notmore { (project : Project) (junction : Junction) (span : Span) (number : Decimal)
+        → length project.junctions.list ≡ 1 → length project.reservoirs.list ≡ 0
+        → slice_get project.junctions.list 0 ≡ Some junction → junction.elevation ≡ pos 40
+        → project.options.unit ≡ Gpm → number.nano ≡ neg_ℤ (pos 1)
+        → map (λ head. holds_on project 1 0 (record {
           heads = head
               ∷ [];
           levels = [];
@@ -332,11 +332,11 @@ pub fn pressure_clauses()
           links = [];
         }) (Pressure 0) NotMore (Amount span number)) (neg_ℤ (pos 6995)
         ∷ neg_ℤ (pos 6994) ∷ []) ≡ true ∷ false ∷ [] }
-    ensures pounds_below_more { (network : Project) (junction : Junction) (span : Span) (number : Decimal)
-        → length network.junctions.list ≡ 1 → length network.reservoirs.list ≡ 0
-        → slice_get network.junctions.list 0 ≡ Some junction → junction.elevation ≡ pos 40
-        → network.options.unit ≡ Gpm → number.nano ≡ neg_ℤ (pos 1)
-        → map (λ head. holds_on network 1 0 (record {
+    ensures pounds_below_more { (project : Project) (junction : Junction) (span : Span) (number : Decimal)
+        → length project.junctions.list ≡ 1 → length project.reservoirs.list ≡ 0
+        → slice_get project.junctions.list 0 ≡ Some junction → junction.elevation ≡ pos 40
+        → project.options.unit ≡ Gpm → number.nano ≡ neg_ℤ (pos 1)
+        → map (λ head. holds_on project 1 0 (record {
           heads = head
               ∷ [];
           levels = [];
@@ -344,11 +344,11 @@ pub fn pressure_clauses()
           links = [];
         }) (Pressure 0) More (Amount span number)) (neg_ℤ (pos 6995) ∷ neg_ℤ (pos 6994)
         ∷ []) ≡ false ∷ true ∷ [] }
-    ensures pounds_below_notless { (network : Project) (junction : Junction) (span : Span) (number : Decimal)
-        → length network.junctions.list ≡ 1 → length network.reservoirs.list ≡ 0
-        → slice_get network.junctions.list 0 ≡ Some junction → junction.elevation ≡ pos 40
-        → network.options.unit ≡ Gpm → number.nano ≡ neg_ℤ (pos 1)
-        → map (λ head. holds_on network 1 0 (record {
+    ensures pounds_below_notless { (project : Project) (junction : Junction) (span : Span) (number : Decimal)
+        → length project.junctions.list ≡ 1 → length project.reservoirs.list ≡ 0
+        → slice_get project.junctions.list 0 ≡ Some junction → junction.elevation ≡ pos 40
+        → project.options.unit ≡ Gpm → number.nano ≡ neg_ℤ (pos 1)
+        → map (λ head. holds_on project 1 0 (record {
           heads = head
               ∷ [];
           levels = [];
@@ -356,11 +356,11 @@ pub fn pressure_clauses()
           links = [];
         }) (Pressure 0) NotLess (Amount span number)) (neg_ℤ (pos 6995)
         ∷ neg_ℤ (pos 6994) ∷ []) ≡ false ∷ true ∷ [] }
-    ensures metres_less { (network : Project) (junction : Junction) (span : Span) (number : Decimal)
-        → length network.junctions.list ≡ 1 → length network.reservoirs.list ≡ 0
-        → slice_get network.junctions.list 0 ≡ Some junction → junction.elevation ≡ pos 40
-        → network.options.unit ≡ Cmd → number.nano ≡ pos 1
-        → map (λ head. holds_on network 1 0 (record {
+    ensures metres_less { (project : Project) (junction : Junction) (span : Span) (number : Decimal)
+        → length project.junctions.list ≡ 1 → length project.reservoirs.list ≡ 0
+        → slice_get project.junctions.list 0 ≡ Some junction → junction.elevation ≡ pos 40
+        → project.options.unit ≡ Cmd → number.nano ≡ pos 1
+        → map (λ head. holds_on project 1 0 (record {
           heads = head
               ∷ [];
           levels = [];
@@ -368,11 +368,11 @@ pub fn pressure_clauses()
           links = [];
         }) (Pressure 0) Less (Amount span number)) (pos 10039 ∷ pos 10040 ∷ pos 10041
         ∷ []) ≡ true ∷ false ∷ false ∷ [] }
-    ensures metres_notmore { (network : Project) (junction : Junction) (span : Span) (number : Decimal)
-        → length network.junctions.list ≡ 1 → length network.reservoirs.list ≡ 0
-        → slice_get network.junctions.list 0 ≡ Some junction → junction.elevation ≡ pos 40
-        → network.options.unit ≡ Cmd → number.nano ≡ pos 1
-        → map (λ head. holds_on network 1 0 (record {
+    ensures metres_notmore { (project : Project) (junction : Junction) (span : Span) (number : Decimal)
+        → length project.junctions.list ≡ 1 → length project.reservoirs.list ≡ 0
+        → slice_get project.junctions.list 0 ≡ Some junction → junction.elevation ≡ pos 40
+        → project.options.unit ≡ Cmd → number.nano ≡ pos 1
+        → map (λ head. holds_on project 1 0 (record {
           heads = head
               ∷ [];
           levels = [];
@@ -380,11 +380,11 @@ pub fn pressure_clauses()
           links = [];
         }) (Pressure 0) NotMore (Amount span number)) (pos 10039 ∷ pos 10040 ∷ pos 10041
         ∷ []) ≡ true ∷ true ∷ false ∷ [] }
-    ensures metres_more { (network : Project) (junction : Junction) (span : Span) (number : Decimal)
-        → length network.junctions.list ≡ 1 → length network.reservoirs.list ≡ 0
-        → slice_get network.junctions.list 0 ≡ Some junction → junction.elevation ≡ pos 40
-        → network.options.unit ≡ Cmd → number.nano ≡ pos 1
-        → map (λ head. holds_on network 1 0 (record {
+    ensures metres_more { (project : Project) (junction : Junction) (span : Span) (number : Decimal)
+        → length project.junctions.list ≡ 1 → length project.reservoirs.list ≡ 0
+        → slice_get project.junctions.list 0 ≡ Some junction → junction.elevation ≡ pos 40
+        → project.options.unit ≡ Cmd → number.nano ≡ pos 1
+        → map (λ head. holds_on project 1 0 (record {
           heads = head
               ∷ [];
           levels = [];
@@ -392,11 +392,11 @@ pub fn pressure_clauses()
           links = [];
         }) (Pressure 0) More (Amount span number)) (pos 10039 ∷ pos 10040 ∷ pos 10041
         ∷ []) ≡ false ∷ false ∷ true ∷ [] }
-    ensures metres_notless { (network : Project) (junction : Junction) (span : Span) (number : Decimal)
-        → length network.junctions.list ≡ 1 → length network.reservoirs.list ≡ 0
-        → slice_get network.junctions.list 0 ≡ Some junction → junction.elevation ≡ pos 40
-        → network.options.unit ≡ Cmd → number.nano ≡ pos 1
-        → map (λ head. holds_on network 1 0 (record {
+    ensures metres_notless { (project : Project) (junction : Junction) (span : Span) (number : Decimal)
+        → length project.junctions.list ≡ 1 → length project.reservoirs.list ≡ 0
+        → slice_get project.junctions.list 0 ≡ Some junction → junction.elevation ≡ pos 40
+        → project.options.unit ≡ Cmd → number.nano ≡ pos 1
+        → map (λ head. holds_on project 1 0 (record {
           heads = head
               ∷ [];
           levels = [];
@@ -408,8 +408,8 @@ pub fn pressure_clauses()
 
 /// What clauses measure: heads, pressures, levels, flows and settings.
 pub fn measures()
-    ensures junction_head { (network : Project) → length network.junctions.list ≡ 1 → length network.reservoirs.list
-        ≡ 1 → measured network 1 (record {
+    ensures junction_head { (project : Project) → length project.junctions.list ≡ 1 → length project.reservoirs.list
+        ≡ 1 → measured project 1 (record {
           heads = pos 90
               ∷ pos 100 ∷ [];
           levels = whole (pos 33) ∷ [];
@@ -417,8 +417,8 @@ pub fn measures()
           links = Speed (pos 900000000)
               ∷ [];
         }) (Head 0) ≡ whole (pos 90) }
-    ensures reservoir_head { (network : Project) → length network.junctions.list ≡ 1 → length network.reservoirs.list
-        ≡ 1 → measured network 1 (record {
+    ensures reservoir_head { (project : Project) → length project.junctions.list ≡ 1 → length project.reservoirs.list
+        ≡ 1 → measured project 1 (record {
           heads = pos 90
               ∷ pos 100 ∷ [];
           levels = whole (pos 33) ∷ [];
@@ -426,9 +426,9 @@ pub fn measures()
           links = Speed (pos 900000000)
               ∷ [];
         }) (Head 1) ≡ whole (pos 100) }
-    ensures tank_head { (network : Project) (tank : Tank) → length network.junctions.list ≡ 1
-        → length network.reservoirs.list ≡ 1 → slice_get network.tanks.list 0 ≡ Some tank → tank.bottom ≡ pos 20
-        → measured network 1 (record {
+    ensures tank_head { (project : Project) (tank : Tank) → length project.junctions.list ≡ 1
+        → length project.reservoirs.list ≡ 1 → slice_get project.tanks.list 0 ≡ Some tank → tank.bottom ≡ pos 20
+        → measured project 1 (record {
           heads = pos 90
               ∷ pos 100 ∷ [];
           levels = whole (pos 33) ∷ [];
@@ -436,9 +436,9 @@ pub fn measures()
           links = Speed (pos 900000000)
               ∷ [];
         }) (Head 2) ≡ whole (pos 53) }
-    ensures junction_pressure { (network : Project) (junction : Junction) → length network.junctions.list ≡ 1
-        → length network.reservoirs.list ≡ 1 → slice_get network.junctions.list 0 ≡ Some junction
-        → junction.elevation ≡ pos 40 → measured network 1 (record {
+    ensures junction_pressure { (project : Project) (junction : Junction) → length project.junctions.list ≡ 1
+        → length project.reservoirs.list ≡ 1 → slice_get project.junctions.list 0 ≡ Some junction
+        → junction.elevation ≡ pos 40 → measured project 1 (record {
           heads = pos 90
               ∷ pos 100 ∷ [];
           levels = whole (pos 33) ∷ [];
@@ -446,8 +446,8 @@ pub fn measures()
           links = Speed (pos 900000000)
               ∷ [];
         }) (Pressure 0) ≡ whole (pos 50) }
-    ensures tank_pressure { (network : Project) → length network.junctions.list ≡ 1 → length network.reservoirs.list
-        ≡ 1 → measured network 1 (record {
+    ensures tank_pressure { (project : Project) → length project.junctions.list ≡ 1 → length project.reservoirs.list
+        ≡ 1 → measured project 1 (record {
           heads = pos 90
               ∷ pos 100 ∷ [];
           levels = whole (pos 33) ∷ [];
@@ -455,7 +455,7 @@ pub fn measures()
           links = Speed (pos 900000000)
               ∷ [];
         }) (Pressure 2) ≡ whole (pos 33) }
-    ensures level { (network : Project) → measured network 1 (record {
+    ensures level { (project : Project) → measured project 1 (record {
       heads = pos 90 ∷ pos 100 ∷ [];
       levels = whole (pos 33) ∷ [];
       flows = 7
@@ -463,7 +463,7 @@ pub fn measures()
       links = Speed (pos 900000000) ∷ [];
     }) (Level 0)
         ≡ whole (pos 33) }
-    ensures flow { (network : Project) → measured network 1 (record {
+    ensures flow { (project : Project) → measured project 1 (record {
       heads = pos 90 ∷ pos 100 ∷ [];
       levels = whole (pos 33) ∷ [];
       flows = 7
@@ -471,7 +471,7 @@ pub fn measures()
       links = Speed (pos 900000000) ∷ [];
     }) (Flow 0)
         ≡ whole (pos 7) }
-    ensures setting { (network : Project) → measured network 1 (record {
+    ensures setting { (project : Project) → measured project 1 (record {
       heads = pos 90 ∷ pos 100 ∷ [];
       levels = whole (pos 33) ∷ [];
       flows = 7

@@ -1,31 +1,22 @@
 -- The capacity of the pipe of 1000 feet is the one that its numbers stand for. The diameter is one foot, whose
 -- powers and roots are 1.
-use Rattle.std.proofs.Common.{◌≡◌, ℕ, ◌+◌, ◌*◌, ◌^◌, ◌<◌, ◌≤◌, neg_ℤ, pos, false, inl, inr, refl, sym, subst, arith}
-use Rattle.std.proofs.Common.{lit≤, lit<, mul-le-mul_right, mul-lt-mul_of_pos_right, lt_of_mul-lt-mul_right}
+use Rattle.std.proofs.Common.{◌≡◌, ℕ, ◌+◌, ◌*◌, ◌^◌, ◌<◌, ◌≤◌, neg_ℤ, pos, inl, inr, refl, sym, subst, arith, lit≤}
+use Rattle.std.proofs.Common.{lit<, mul-le-mul_right, mul-lt-mul_of_pos_right, lt_of_mul-lt-mul_right}
 use Rattle.std.proofs.lemmas.Bool.{cases_lt}
 use Rattle.std.proofs.lemmas.Nat.{pow_pos}
 use borrow.Author.Differences.{up, down}
 use Rattle.hyd_num.specs.declared.binary.Scaled.{Scaled}
 use Rattle.hyd_num.specs.declared.pairs.Pair.{Pair}
-use Rattle.hyd_num.specs.BinaryNumbers.{numerator, denominator, IsDown, IsUp}
+use Rattle.hyd_num.specs.BinaryNumbers.{numerator, denominator, IsUp}
 use Rattle.hyd_num.specs.Pairs.{IsProduct, IsPower, once as power_once, even, odd, IsOwnPower, RootsBelow, RootsAbove}
 use Rattle.hyd_num.specs.Pairs.{IsRoot533}
 use Rattle.hyd_num.specs.CapacityPairs.{IsMade}
-use Rattle.hyd_num.proofs.RoundingLemmas.{IsDown-from_cut, IsUp-exact, IsUp-next}
+use Rattle.hyd_num.proofs.RoundingLemmas.{IsUp-exact, IsUp-next}
 use Rattle.hyd_cases_of_histories.specs.Spurs.{long_pipe}
+use Rattle.hyd_lemmas.proofs.Enclosing.{IsDown-near}
 use Rattle.hyd_cases_of_histories.proofs.RoundPairs.{IsDown-exact, twice, ratio, product}
 
 -- ---- rounding
-
--- what lies above a number and below the next one
-IsDown-near : (p q : ℕ) (s : Scaled) → numerator s * q < p * denominator s
-    → p * denominator s < (s.mant + 1) * 2 ^ up s.exp * q → IsDown p q s
-IsDown-near p q s lost below = IsDown-from_cut p q s false (record {
-  at_most = omega (arith, lost);
-  below = below;
-  whole = λ e. absurd (cc);
-  lost = λ e. lost;
-})
 
 -- what lies above a number and below the next one, t
 IsUp-near : (p q : ℕ) (s t : Scaled) → 0 < q → numerator s * q < p * denominator s

@@ -1,6 +1,5 @@
 -- The history of a network of one link and no time to run, from its link and its junction, and back.
-use Rattle.std.proofs.Common.{◌≡◌, ℕ, ◌≤◌, ◌<◌, ℤ, ◌-ℤ◌, ◌≤ℤ◌, ◌<ℤ◌, List, [], ◌∷◌, true, false, int_le, int_lt, refl}
-use Rattle.std.proofs.Common.{arith}
+use Rattle.std.proofs.Common.{◌≡◌, ℕ, ◌≤◌, ◌<◌, ℤ, ◌-ℤ◌, ◌≤ℤ◌, List, [], ◌∷◌, false, int_le, refl, arith}
 use Rattle.std.specs.Prelude.{nat_le}
 use Rattle.std.proofs.lemmas.Int.{ints}
 use Rattle.std.proofs.lemmas.Bool.{leb-false}
@@ -15,25 +14,23 @@ use Rattle.hyd_spec.specs.Assignment.{Assignment, LinksFollow, none, more, Junct
 use Rattle.hyd_spec.specs.PeriodLength.{at_end}
 use Rattle.hyd_spec.specs.History.{IsHistory}
 use Rattle.hyd_cases_of_histories.specs.OneLink.{Spur, network_of, junction_of, link_of, period_of}
+use Rattle.hyd_lemmas.proofs.Trials.{lt-yes}
 
 -- ---- tests that fail
 
 pub more_than : (a b : ℕ) → nat_le a b ≡ false → a ≤ b → ⊥
-more_than a b e le = let less : b < a = leb-false a b e in omega (arith, less, le)
+more_than a b e le = let less : b < a = leb-false a b e in omega (arith, lt-yes, le)
 
 pub greater : (a b : ℤ) → int_le a b ≡ false → a ≤ℤ b → ⊥
 greater a b e le = grind (arith, ints)
 
-pub less : (a b : ℤ) → int_lt a b ≡ true → a <ℤ b
-less a b e = grind (arith, ints)
-
 -- ---- one link
 
-pub follows_one : (network : Project) (tanks : List TankState) (S : ℕ) (heads : List ℤ) (link : Link)
+pub follows_one : (project : Project) (tanks : List TankState) (S : ℕ) (heads : List ℤ) (link : Link)
     (state : LinkState) (q : ℤ)
-    → LinksFollow network tanks S heads (link ∷ []) (state ∷ []) (q ∷ [])
-    → Follows (law_of network tanks link state) S (head_at heads link.from -ℤ head_at heads link.to) q
-follows_one network tanks S heads link state q (more f rest) = f
+    → LinksFollow project tanks S heads (link ∷ []) (state ∷ []) (q ∷ [])
+    → Follows (law_of project tanks link state) S (head_at heads link.from -ℤ head_at heads link.to) q
+follows_one project tanks S heads link state q (more f rest) = f
 
 module _ (spur : Spur) (S : ℕ) (head flow taken emitted : ℤ) where
   abbrev assigned : Assignment

@@ -1,6 +1,6 @@
 -- The small networks are networks that a file can stand for.
-use Rattle.std.proofs.Common.{◌≡◌, ◌≢◌, ℕ, zero, suc, ◌<◌, ◌≤◌, ◌^◌, pos, List, [], ◌∷◌, refl, ap, arith}
-use Rattle.std.specs.Prelude.{slice_index_or, codes}
+use Rattle.std.proofs.Common.{◌≡◌, ◌≢◌, ℕ, zero, suc, ◌<◌, ◌≤◌, ◌^◌, pos, List, [], ◌∷◌, refl, arith}
+use Rattle.std.specs.Prelude.{codes}
 use Rattle.std.specs.Option.{IfSome}
 use Rattle.std.specs.List.{All}
 use Rattle.std.proofs.lemmas.List.Elements.{All-from_recursion}
@@ -13,16 +13,12 @@ use Rattle.hyd_net.specs.NumberRanges.{IsHead}
 use Rattle.hyd_net.specs.States.{CanHave}
 use Rattle.hyd_net.specs.ControlsAndRules.{IsControl, IsRule}
 use Rattle.hyd_net.specs.RoundedFileNumbers.{IsAreaMade, IsKindMade, IsStateMade, IsRuleMade, IsKindAcross}
-use Rattle.hyd_net.specs.RoundedFileNumbers.{IsStateAcross}
-use Rattle.hyd_net.specs.RoundedFileNumbers.{IsAcross}
-use Rattle.hyd_net.specs.RoundedFileNumbers.{IsAllMade}
+use Rattle.hyd_net.specs.RoundedFileNumbers.{IsStateAcross, IsAcross, IsAllMade}
 use Rattle.hyd_net.specs.declared.rules.Rule.{Rule}
 use Rattle.hyd_cases_of_histories.specs.OneLink.{Spur, network_of, junction_of}
+use Rattle.hyd_lemmas.proofs.ListsAndOptions.{differ}
 
 -- ---- IDs
-
-differ : (a b : List ℕ) → (slice_index_or a 0 0 ≡ slice_index_or b 0 0 → ⊥) → a ≢ b
-differ a b unlike e = unlike (ap (λ (l : List ℕ). slice_index_or l 0 0) e)
 
 nothing : AreDistinct []
 nothing i j d before within = absurd (omega (arith, within))

@@ -178,9 +178,9 @@ module _ (basin : Basin) where
 -- ---- lines
 
 module _ (basin : Basin) (grid : Grid) (standing : Standing) (row : Record) where
-  reservoir_line : (network : Project) → network.options.unit ≡ Cmd
-      → IsReservoirLine network 0 (pos 1000000000000000) (ReservoirLine 0 (exactly (pos 1000000)))
-  reservoir_line network unit = record {
+  reservoir_line : (project : Project) → project.options.unit ≡ Cmd
+      → IsReservoirLine project 0 (pos 1000000000000000) (ReservoirLine 0 (exactly (pos 1000000)))
+  reservoir_line project unit = record {
     head = exactly (pos 1000000);
     is_line = refl;
     head_is = rw unit (prints_heads (exactly (pos 1000000000000000)) (exactly (pos 1000000)) refl);

@@ -14,15 +14,14 @@ use Rattle.hyd_net.specs.NetworkRanges.{IsJunction, IsReservoir, IsTank, IsShape
 use Rattle.hyd_net.specs.States.{CanHave}
 use Rattle.hyd_net.specs.ControlsAndRules.{node_count, IsControl, IsRule}
 use Rattle.hyd_net.specs.RoundedFileNumbers.{IsAreaMade, IsKindMade, IsStateMade, IsRuleMade, IsKindAcross}
-use Rattle.hyd_net.specs.RoundedFileNumbers.{IsStateAcross}
-use Rattle.hyd_net.specs.RoundedFileNumbers.{IsAcross}
-use Rattle.hyd_net.specs.RoundedFileNumbers.{IsAllMade}
+use Rattle.hyd_net.specs.RoundedFileNumbers.{IsStateAcross, IsAcross, IsAllMade}
 use Rattle.hyd_spec.specs.ProgramTypes.{Cmd, VolumePoint}
 use Rattle.hyd_num.specs.CapacityPairs.{IsMade}
 use Rattle.std.specs.Option.{IfSome}
 use Rattle.hyd_lemmas.proofs.Trials.{le-yes}
 use Rattle.hyd_cases_of_runs.specs.Basin.{Basin, basin_network, feed, open_to, curved, spilling}
-use Rattle.hyd_cases_of_runs.proofs.VillageSound.{differ, nothing}
+use Rattle.hyd_lemmas.proofs.ListsAndOptions.{differ}
+use Rattle.hyd_cases_of_runs.proofs.VillageSound.{nothing}
 
 module _ (basin : Basin) where
   ids : HasIds (basin_network basin)

@@ -1,8 +1,7 @@
 -- The periods of the history have their lengths, and come one after another.
 use Rattle.std.proofs.Common.{◌≡◌, ◌≢◌, ℕ, zero, suc, ◌+◌, ◌%◌, ◌<◌, ◌≤◌, ℤ, pos, Bool, true, false, ◌&&◌, ◌||◌, not}
 use Rattle.std.proofs.Common.{[], ◌∷◌, eqb, ltb, lit<, refl, sym, ap, subst, arith}
-use Rattle.std.specs.Prelude.{slice_index_or}
-use Rattle.std.specs.Prelude.{slice_get, Option, Some, None}
+use Rattle.std.specs.Prelude.{slice_index_or, slice_get, Option, Some, None}
 use Rattle.std.specs.Option.{option_map_or}
 use Rattle.std.proofs.lemmas.Int.{ints}
 use Rattle.std.proofs.lemmas.Bool.{eq-eqb, lt-ltb}
@@ -11,7 +10,6 @@ use Rattle.hyd_spec.specs.ProgramTypes.{Tank}
 use Rattle.hyd_spec.specs.declared.TankState.{TankState}
 use Rattle.hyd_spec.specs.declared.TankState.TheVariants.{Empty, Between, Full}
 use Rattle.hyd_spec.specs.LinkLaw.{is_full, is_empty}
-use Rattle.hyd_spec.specs.Lists.{Each}
 use Rattle.hyd_spec.specs.Tank.{walls_of, content_bounds, reaches, is_at_maximum, is_at_minimum, IsNextStock}
 use Rattle.hyd_spec.specs.Tank.{tank_inflow}
 use Rattle.hyd_spec.specs.Rules.{rule_changes}
@@ -21,6 +19,7 @@ use Rattle.hyd_spec.specs.PeriodLength.{level_at_start, stock_at_start, exact_af
 use Rattle.hyd_spec.specs.History.{AreNextStocks, ComesAfter}
 use Rattle.hyd_cases_of_runs.specs.Village.{Choice, village_with, village, usual, tower, level_control}
 use Rattle.hyd_cases_of_runs.specs.VillageHistory.{period_0, period_1, period_2, period_3, period_4}
+use Rattle.hyd_lemmas.proofs.Each.{each_one}
 use Rattle.hyd_cases_of_runs.proofs.VillageSeconds.{only_control, not_before, is_empty_list, some_change}
 use Rattle.hyd_lemmas.proofs.Trials.{none_below, from, or-left, or-right, and-true}
 
@@ -167,10 +166,6 @@ pub fifth_lasts : HasItsLength village 1000 period_4
 fifth_lasts = at_end refl refl
 
 -- ---- the levels at their ends
-
-each_one : (X : Type 0) (P : ℕ → X → Type 0) (x : X) → P 0 x → Each (x ∷ []) P
-each_one X P x p zero y e = let same : x ≡ y = cc in subst (P 0) same p
-each_one X P x p (suc k) y e = absurd (cc)
 
 pub next_level : (choice : Choice) (period : Period) (level : ℤ)
     → IsNextStock 1000 (walls_of (village_with choice) choice.tank) choice.tank (stock_at_start period 0)

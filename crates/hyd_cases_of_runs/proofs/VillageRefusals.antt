@@ -132,33 +132,33 @@ control_open = left_open unsure_control (grid_at unsure_control standing_0 _ _ _
 
 -- ---- the end of the run
 
-not_last : (network : Project) (grid : Grid) (standing : Standing) (row : Record) (e : End)
-    → EndsBy network grid standing row e
-    → standing.time ≢ network.times.duration
-not_last network grid standing row _ (by_rules m f) = m.not_last
-not_last network grid standing row _ (rule_is_open m is) = m.not_last
-not_last network grid standing row _ (by_clock n l) = n.not_last
-not_last network grid standing row _ (event_is_open n l ne) = n.not_last
+not_last : (project : Project) (grid : Grid) (standing : Standing) (row : Record) (e : End)
+    → EndsBy project grid standing row e
+    → standing.time ≢ project.times.duration
+not_last project grid standing row _ (by_rules m f) = m.not_last
+not_last project grid standing row _ (rule_is_open m is) = m.not_last
+not_last project grid standing row _ (by_clock n l) = n.not_last
+not_last project grid standing row _ (event_is_open n l ne) = n.not_last
 
-leaves_not_last : (network : Project) (grid : Grid) (standing : Standing) (row : Record) (seconds : ℕ)
+leaves_not_last : (project : Project) (grid : Grid) (standing : Standing) (row : Record) (seconds : ℕ)
     (links : List LinkState)
-    → LeavesLinks network grid standing row seconds links → standing.time ≢ network.times.duration
-leaves_not_last network grid standing row seconds _ (left_by_rules e) = not_last network grid standing row
+    → LeavesLinks project grid standing row seconds links → standing.time ≢ project.times.duration
+leaves_not_last project grid standing row seconds _ (left_by_rules e) = not_last project grid standing row
     (ByRules seconds) e
-leaves_not_last network grid standing row seconds _ (left_by_clock e) = not_last network grid standing row
+leaves_not_last project grid standing row seconds _ (left_by_clock e) = not_last project grid standing row
     (WithoutRules seconds) e
 
-no_matters : (network : Project) (grid : Grid) (standing : Standing) (row : Record)
-    → standing.time ≡ network.times.duration
-    → LeavesOpen network grid standing row → ⊥
-no_matters network grid standing row last (rule open_rule e) = not_last network grid standing row
+no_matters : (project : Project) (grid : Grid) (standing : Standing) (row : Record)
+    → standing.time ≡ project.times.duration
+    → LeavesOpen project grid standing row → ⊥
+no_matters project grid standing row last (rule open_rule e) = not_last project grid standing row
     (RuleIsOpen open_rule) e last
-no_matters network grid standing row last (event earliest latest e) = not_last network grid standing row
+no_matters project grid standing row last (event earliest latest e) = not_last project grid standing row
     (EventIsOpen earliest latest) e last
-no_matters network grid standing row last (tank seconds links number leaves is) =
-    leaves_not_last network grid standing row seconds links leaves last
-no_matters network grid standing row last (control seconds links number leaves is) =
-    leaves_not_last network grid standing row seconds links leaves last
+no_matters project grid standing row last (tank seconds links number leaves is) =
+    leaves_not_last project grid standing row seconds links leaves last
+no_matters project grid standing row last (control seconds links number leaves is) =
+    leaves_not_last project grid standing row seconds links leaves last
 
 pub other_length : IsRefused village standing_4 (record row_4 { length = 5 }) (Length 4)
 other_length = record {

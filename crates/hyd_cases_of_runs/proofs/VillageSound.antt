@@ -1,6 +1,6 @@
 -- The village is a network that a file can stand for.
-use Rattle.std.proofs.Common.{◌≡◌, ◌≢◌, ℕ, zero, suc, ◌<◌, ◌*◌, ◌^◌, pos, List, [], ◌∷◌, refl, ap, arith}
-use Rattle.std.specs.Prelude.{slice_index_or, codes}
+use Rattle.std.proofs.Common.{◌≡◌, ◌≢◌, ℕ, zero, suc, ◌<◌, ◌*◌, ◌^◌, pos, [], ◌∷◌, refl, arith}
+use Rattle.std.specs.Prelude.{codes}
 use Rattle.std.specs.List.{All, HoldsAt}
 use Rattle.std.proofs.lemmas.Int.{ints}
 use Rattle.std.proofs.lemmas.List.Elements.{All-from_recursion}
@@ -17,14 +17,12 @@ use Rattle.hyd_cases_of_runs.specs.Village.{usual, village, mill, farm, refill_r
 use Rattle.hyd_spec.specs.ProgramTypes.{Cmd, Rule}
 use Rattle.hyd_num.specs.CapacityPairs.{IsMade}
 use Rattle.std.specs.Option.{IfSome}
+use Rattle.hyd_lemmas.proofs.ListsAndOptions.{differ}
 
 abbrev the_rule : Rule
 the_rule = refill_rule usual.clauses
 
 -- ---- IDs
-
-pub differ : (a b : List ℕ) → (slice_index_or a 0 0 ≡ slice_index_or b 0 0 → ⊥) → a ≢ b
-differ a b unlike e = unlike (ap (λ (l : List ℕ). slice_index_or l 0 0) e)
 
 pub nothing : AreDistinct []
 nothing i j d before within = absurd (omega (arith, within))

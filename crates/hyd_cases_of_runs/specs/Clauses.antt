@@ -15,8 +15,8 @@ use Rattle.hyd_cases_of_runs.specs.Hamlet.{standing_at_start, grid_at_start, row
 
 -- A clause after six minutes.
 abbrev pub hamlet_truth : Project → Standing → Record → What → Relation → Value → Verdict
-hamlet_truth network standing row what relation value =
-    clause_truth network grid_at_start standing row 360 (compared what relation value)
+hamlet_truth project standing row what relation value =
+    clause_truth project grid_at_start standing row 360 (compared what relation value)
 
 -- Its first period with other heads of the junction, and with other levels of the tank.
 abbrev pub hamlet_row : Interval → Record
@@ -66,12 +66,12 @@ levels_about_4_333 =
 
 -- A clause a minute after 2:00, and one some seconds after a standing, with the flows of the period after that.
 abbrev pub truth_at_two : Project → Standing → Record → What → Relation → Value → Verdict
-truth_at_two network standing row what relation value =
-    clause_truth network grid_at_two standing row 60 (compared what relation value)
+truth_at_two project standing row what relation value =
+    clause_truth project grid_at_two standing row 60 (compared what relation value)
 
 abbrev pub town_truth : Project → Standing → ℕ → What → Relation → Value → Verdict
-town_truth network standing seconds what relation value =
-    clause_truth network grid_when_full standing row_when_full seconds (compared what relation value)
+town_truth project standing seconds what relation value =
+    clause_truth project grid_when_full standing row_when_full seconds (compared what relation value)
 
 -- Its period from 2:00 on with other heads of the first junction, and with other levels of the upper tank.
 abbrev pub town_row : Interval → Record

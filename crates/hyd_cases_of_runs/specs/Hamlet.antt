@@ -113,21 +113,21 @@ rule room = record {
 }
 
 -- The network is the hamlet's.
-pub record IsHamlet (network : Project) : Type 0 where
+pub record IsHamlet (project : Project) : Type 0 where
   pub room : ℕ → ℕ
-  pub options_are : network.options ≡ options
-  pub times_are : network.times ≡ times
-  pub node_ids : network.node_ids ≡ codes "J" ∷ codes "R" ∷ codes "T" ∷ []
-  pub link_ids : network.link_ids ≡ codes "FILL" ∷ codes "DOWN" ∷ []
-  pub junctions : network.junctions.list ≡ junction (room 4) ∷ []
-  pub reservoirs : network.reservoirs.list ≡ reservoir ∷ []
-  pub tanks : network.tanks.list ≡ tank ∷ []
-  pub links_are : network.links.list ≡ links
-  pub patterns : network.patterns.list ≡ []
-  pub shapes : network.shapes.list ≡ []
-  pub bends : network.bends.list ≡ []
-  pub controls : network.controls.list ≡ []
-  pub rules : network.rules.list ≡ rule room ∷ []
+  pub options_are : project.options ≡ options
+  pub times_are : project.times ≡ times
+  pub node_ids : project.node_ids ≡ codes "J" ∷ codes "R" ∷ codes "T" ∷ []
+  pub link_ids : project.link_ids ≡ codes "FILL" ∷ codes "DOWN" ∷ []
+  pub junctions : project.junctions.list ≡ junction (room 4) ∷ []
+  pub reservoirs : project.reservoirs.list ≡ reservoir ∷ []
+  pub tanks : project.tanks.list ≡ tank ∷ []
+  pub links_are : project.links.list ≡ links
+  pub patterns : project.patterns.list ≡ []
+  pub shapes : project.shapes.list ≡ []
+  pub bends : project.bends.list ≡ []
+  pub controls : project.controls.list ≡ []
+  pub rules : project.rules.list ≡ rule room ∷ []
 
 -- One such network: its lists have no room.
 abbrev pub hamlet : Project

@@ -259,22 +259,22 @@ later priority = record { rule = 1; priority = priority; link = 0; to = Closed }
 -- ---- the town
 
 -- The network is the town's, whatever the capacity of the pump's curve.
-pub record IsTown (network : Project) : Type 0 where
+pub record IsTown (project : Project) : Type 0 where
   pub room : ℕ → ℕ
   pub capacity : Capacity
-  pub options_are : network.options ≡ options
-  pub times_are : network.times ≡ times
-  pub node_ids : network.node_ids ≡ codes "EAST" ∷ codes "WEST" ∷ codes "SPRING" ∷ codes "NORTH" ∷ codes "SOUTH" ∷ []
-  pub link_ids : network.link_ids ≡ codes "LIFT" ∷ codes "FILL" ∷ codes "UPPER" ∷ codes "MAIN" ∷ codes "LOWER" ∷ []
-  pub junctions : network.junctions.list ≡ east (room 16) ∷ west (room 17) ∷ []
-  pub reservoirs : network.reservoirs.list ≡ spring ∷ []
-  pub tanks : network.tanks.list ≡ north ∷ south ∷ []
-  pub links_are : network.links.list ≡ links capacity
-  pub patterns : network.patterns.list ≡ speeds (room 18) ∷ []
-  pub shapes : network.shapes.list ≡ []
-  pub bends : network.bends.list ≡ []
-  pub controls_are : network.controls.list ≡ controls
-  pub rules : network.rules.list ≡ low room ∷ night room ∷ rest room ∷ idle room ∷ []
+  pub options_are : project.options ≡ options
+  pub times_are : project.times ≡ times
+  pub node_ids : project.node_ids ≡ codes "EAST" ∷ codes "WEST" ∷ codes "SPRING" ∷ codes "NORTH" ∷ codes "SOUTH" ∷ []
+  pub link_ids : project.link_ids ≡ codes "LIFT" ∷ codes "FILL" ∷ codes "UPPER" ∷ codes "MAIN" ∷ codes "LOWER" ∷ []
+  pub junctions : project.junctions.list ≡ east (room 16) ∷ west (room 17) ∷ []
+  pub reservoirs : project.reservoirs.list ≡ spring ∷ []
+  pub tanks : project.tanks.list ≡ north ∷ south ∷ []
+  pub links_are : project.links.list ≡ links capacity
+  pub patterns : project.patterns.list ≡ speeds (room 18) ∷ []
+  pub shapes : project.shapes.list ≡ []
+  pub bends : project.bends.list ≡ []
+  pub controls_are : project.controls.list ≡ controls
+  pub rules : project.rules.list ≡ low room ∷ night room ∷ rest room ∷ idle room ∷ []
 
 -- One such network: its lists have no room.
 abbrev pub no_room : ℕ → ℕ

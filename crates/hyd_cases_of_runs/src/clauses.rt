@@ -26,158 +26,158 @@ pub fn hamlets()
 
 /// The boxes of the hamlet.
 pub fn boxes()
-    ensures links { (network : Project) → IsHamlet network
-        → grid_links network hamlet_start.tanks network.links.list (links_at network hamlet_start)
+    ensures links { (project : Project) → IsHamlet project
+        → grid_links project hamlet_start.tanks project.links.list (links_at project hamlet_start)
         ≡ grid_at_start.links }
     ensures flows { flow_boxes grid_at_start row_at_start
         ≡ record { lo = pos 5450992958; hi = pos 5450992978 } ∷ record {
           lo = pos 3270593095;
           hi = pos 3270601143;
         } ∷ [] }
-    ensures inflow { (network : Project) → IsHamlet network
-        → inflow_boxes network grid_at_start row_at_start ≡ record { lo = pos 2180391815; hi = pos 2180399883 } ∷ [] }
+    ensures inflow { (project : Project) → IsHamlet project
+        → inflow_boxes project grid_at_start row_at_start ≡ record { lo = pos 2180391815; hi = pos 2180399883 } ∷ [] }
 {}
 
 /// A pressure of a junction about 12.9 pounds a square inch, which lies between two ticks.
 pub fn pounds()
-    ensures less { (network : Project) → IsHamlet network
-        → map (λ heads. hamlet_truth network hamlet_start (hamlet_row heads) (Pressure 0) Less pounds_12_9)
+    ensures less { (project : Project) → IsHamlet project
+        → map (λ heads. hamlet_truth project hamlet_start (hamlet_row heads) (Pressure 0) Less pounds_12_9)
         heads_about_12_9
         ≡ Yes ∷ Yes ∷ Unknown ∷ No ∷ No ∷ [] }
-    ensures at_most { (network : Project) → IsHamlet network
-        → map (λ heads. hamlet_truth network hamlet_start (hamlet_row heads) (Pressure 0) NotMore pounds_12_9)
+    ensures at_most { (project : Project) → IsHamlet project
+        → map (λ heads. hamlet_truth project hamlet_start (hamlet_row heads) (Pressure 0) NotMore pounds_12_9)
         heads_about_12_9
         ≡ Yes ∷ Yes ∷ Unknown ∷ No ∷ No ∷ [] }
-    ensures more { (network : Project) → IsHamlet network
-        → map (λ heads. hamlet_truth network hamlet_start (hamlet_row heads) (Pressure 0) More pounds_12_9)
+    ensures more { (project : Project) → IsHamlet project
+        → map (λ heads. hamlet_truth project hamlet_start (hamlet_row heads) (Pressure 0) More pounds_12_9)
         heads_about_12_9
         ≡ No ∷ No ∷ Unknown ∷ Yes ∷ Yes ∷ [] }
-    ensures at_least { (network : Project) → IsHamlet network
-        → map (λ heads. hamlet_truth network hamlet_start (hamlet_row heads) (Pressure 0) NotLess pounds_12_9)
+    ensures at_least { (project : Project) → IsHamlet project
+        → map (λ heads. hamlet_truth project hamlet_start (hamlet_row heads) (Pressure 0) NotLess pounds_12_9)
         heads_about_12_9
         ≡ No ∷ No ∷ Unknown ∷ Yes ∷ Yes ∷ [] }
 {}
 
 /// A pressure of a junction about 12.999 pounds a square inch, which is a whole number of ticks.
 pub fn whole_pounds()
-    ensures less { (network : Project) → IsHamlet network
-        → map (λ heads. hamlet_truth network hamlet_start (hamlet_row heads) (Pressure 0) Less pounds_12_999)
+    ensures less { (project : Project) → IsHamlet project
+        → map (λ heads. hamlet_truth project hamlet_start (hamlet_row heads) (Pressure 0) Less pounds_12_999)
         heads_about_12_999
         ≡ Yes ∷ Unknown ∷ No ∷ No ∷ Unknown ∷ No ∷ [] }
-    ensures at_most { (network : Project) → IsHamlet network
-        → map (λ heads. hamlet_truth network hamlet_start (hamlet_row heads) (Pressure 0) NotMore pounds_12_999)
+    ensures at_most { (project : Project) → IsHamlet project
+        → map (λ heads. hamlet_truth project hamlet_start (hamlet_row heads) (Pressure 0) NotMore pounds_12_999)
         heads_about_12_999
         ≡ Yes ∷ Yes ∷ Yes ∷ Unknown ∷ Unknown ∷ No ∷ [] }
-    ensures more { (network : Project) → IsHamlet network
-        → map (λ heads. hamlet_truth network hamlet_start (hamlet_row heads) (Pressure 0) More pounds_12_999)
+    ensures more { (project : Project) → IsHamlet project
+        → map (λ heads. hamlet_truth project hamlet_start (hamlet_row heads) (Pressure 0) More pounds_12_999)
         heads_about_12_999
         ≡ No ∷ No ∷ No ∷ Unknown ∷ Unknown ∷ Yes ∷ [] }
-    ensures at_least { (network : Project) → IsHamlet network
-        → map (λ heads. hamlet_truth network hamlet_start (hamlet_row heads) (Pressure 0) NotLess pounds_12_999)
+    ensures at_least { (project : Project) → IsHamlet project
+        → map (λ heads. hamlet_truth project hamlet_start (hamlet_row heads) (Pressure 0) NotLess pounds_12_999)
         heads_about_12_999
         ≡ No ∷ Unknown ∷ Yes ∷ Yes ∷ Unknown ∷ Yes ∷ [] }
 {}
 
 /// A pressure of a tank about 4.3 pounds a square inch, which lies between two ticks.
 pub fn tank_pounds()
-    ensures less { (network : Project) → IsHamlet network
-        → map (λ level. hamlet_truth network (hamlet_standing level) row_at_start (Pressure 2) Less pounds_4_3)
+    ensures less { (project : Project) → IsHamlet project
+        → map (λ level. hamlet_truth project (hamlet_standing level) row_at_start (Pressure 2) Less pounds_4_3)
         levels_about_4_3
         ≡ Yes ∷ Yes ∷ Unknown ∷ Unknown ∷ No ∷ No ∷ Unknown ∷ [] }
-    ensures at_most { (network : Project) → IsHamlet network
-        → map (λ level. hamlet_truth network (hamlet_standing level) row_at_start (Pressure 2) NotMore pounds_4_3)
+    ensures at_most { (project : Project) → IsHamlet project
+        → map (λ level. hamlet_truth project (hamlet_standing level) row_at_start (Pressure 2) NotMore pounds_4_3)
         levels_about_4_3
         ≡ Yes ∷ Yes ∷ Unknown ∷ Unknown ∷ No ∷ No ∷ Unknown ∷ [] }
-    ensures more { (network : Project) → IsHamlet network
-        → map (λ level. hamlet_truth network (hamlet_standing level) row_at_start (Pressure 2) More pounds_4_3)
+    ensures more { (project : Project) → IsHamlet project
+        → map (λ level. hamlet_truth project (hamlet_standing level) row_at_start (Pressure 2) More pounds_4_3)
         levels_about_4_3
         ≡ No ∷ No ∷ Unknown ∷ Unknown ∷ Yes ∷ Yes ∷ Unknown ∷ [] }
-    ensures at_least { (network : Project) → IsHamlet network
-        → map (λ level. hamlet_truth network (hamlet_standing level) row_at_start (Pressure 2) NotLess pounds_4_3)
+    ensures at_least { (project : Project) → IsHamlet project
+        → map (λ level. hamlet_truth project (hamlet_standing level) row_at_start (Pressure 2) NotLess pounds_4_3)
         levels_about_4_3
         ≡ No ∷ No ∷ Unknown ∷ Unknown ∷ Yes ∷ Yes ∷ Unknown ∷ [] }
 {}
 
 /// A pressure of a tank about 4.333 pounds a square inch, which is a whole number of ticks.
 pub fn tank_whole_pounds()
-    ensures less { (network : Project) → IsHamlet network
-        → map (λ level. hamlet_truth network (hamlet_standing level) row_at_start (Pressure 2) Less pounds_4_333)
+    ensures less { (project : Project) → IsHamlet project
+        → map (λ level. hamlet_truth project (hamlet_standing level) row_at_start (Pressure 2) Less pounds_4_333)
         levels_about_4_333
         ≡ Yes ∷ Unknown ∷ Unknown ∷ No ∷ No ∷ [] }
-    ensures at_most { (network : Project) → IsHamlet network
-        → map (λ level. hamlet_truth network (hamlet_standing level) row_at_start (Pressure 2) NotMore pounds_4_333)
+    ensures at_most { (project : Project) → IsHamlet project
+        → map (λ level. hamlet_truth project (hamlet_standing level) row_at_start (Pressure 2) NotMore pounds_4_333)
         levels_about_4_333
         ≡ Yes ∷ Yes ∷ Unknown ∷ Unknown ∷ No ∷ [] }
-    ensures more { (network : Project) → IsHamlet network
-        → map (λ level. hamlet_truth network (hamlet_standing level) row_at_start (Pressure 2) More pounds_4_333)
+    ensures more { (project : Project) → IsHamlet project
+        → map (λ level. hamlet_truth project (hamlet_standing level) row_at_start (Pressure 2) More pounds_4_333)
         levels_about_4_333
         ≡ No ∷ No ∷ Unknown ∷ Unknown ∷ Yes ∷ [] }
-    ensures at_least { (network : Project) → IsHamlet network
-        → map (λ level. hamlet_truth network (hamlet_standing level) row_at_start (Pressure 2) NotLess pounds_4_333)
+    ensures at_least { (project : Project) → IsHamlet project
+        → map (λ level. hamlet_truth project (hamlet_standing level) row_at_start (Pressure 2) NotLess pounds_4_333)
         levels_about_4_333
         ≡ No ∷ Unknown ∷ Unknown ∷ Yes ∷ Yes ∷ [] }
 {}
 
 /// A pressure of a junction about a number of metres.
 pub fn metres()
-    ensures less { (network : Project) → IsTown network
-        → map (λ heads. truth_at_two network standing_at_two (town_row heads) (Pressure 0) Less metres_34_9923185)
+    ensures less { (project : Project) → IsTown project
+        → map (λ heads. truth_at_two project standing_at_two (town_row heads) (Pressure 0) Less metres_34_9923185)
         heads_about_34_9923185
         ≡ Yes ∷ Unknown ∷ No ∷ No ∷ Unknown ∷ No ∷ [] }
-    ensures at_most { (network : Project) → IsTown network
-        → map (λ heads. truth_at_two network standing_at_two (town_row heads) (Pressure 0) NotMore metres_34_9923185)
+    ensures at_most { (project : Project) → IsTown project
+        → map (λ heads. truth_at_two project standing_at_two (town_row heads) (Pressure 0) NotMore metres_34_9923185)
         heads_about_34_9923185
         ≡ Yes ∷ Yes ∷ Yes ∷ Unknown ∷ Unknown ∷ No ∷ [] }
-    ensures more { (network : Project) → IsTown network
-        → map (λ heads. truth_at_two network standing_at_two (town_row heads) (Pressure 0) More metres_34_9923185)
+    ensures more { (project : Project) → IsTown project
+        → map (λ heads. truth_at_two project standing_at_two (town_row heads) (Pressure 0) More metres_34_9923185)
         heads_about_34_9923185
         ≡ No ∷ No ∷ No ∷ Unknown ∷ Unknown ∷ Yes ∷ [] }
-    ensures at_least { (network : Project) → IsTown network
-        → map (λ heads. truth_at_two network standing_at_two (town_row heads) (Pressure 0) NotLess metres_34_9923185)
+    ensures at_least { (project : Project) → IsTown project
+        → map (λ heads. truth_at_two project standing_at_two (town_row heads) (Pressure 0) NotLess metres_34_9923185)
         heads_about_34_9923185
         ≡ No ∷ Unknown ∷ Yes ∷ Yes ∷ Unknown ∷ Yes ∷ [] }
 {}
 
 /// A pressure of a tank about a number of metres.
 pub fn tank_metres()
-    ensures less { (network : Project) → IsTown network
-        → map (λ level. truth_at_two network (town_standing level) row_at_two (Pressure 3) Less metres_4_9965)
+    ensures less { (project : Project) → IsTown project
+        → map (λ level. truth_at_two project (town_standing level) row_at_two (Pressure 3) Less metres_4_9965)
         levels_about_4_9965
         ≡ Yes ∷ Unknown ∷ Unknown ∷ No ∷ No ∷ [] }
-    ensures at_most { (network : Project) → IsTown network
-        → map (λ level. truth_at_two network (town_standing level) row_at_two (Pressure 3) NotMore metres_4_9965)
+    ensures at_most { (project : Project) → IsTown project
+        → map (λ level. truth_at_two project (town_standing level) row_at_two (Pressure 3) NotMore metres_4_9965)
         levels_about_4_9965
         ≡ Yes ∷ Yes ∷ Unknown ∷ Unknown ∷ No ∷ [] }
-    ensures more { (network : Project) → IsTown network
-        → map (λ level. truth_at_two network (town_standing level) row_at_two (Pressure 3) More metres_4_9965)
+    ensures more { (project : Project) → IsTown project
+        → map (λ level. truth_at_two project (town_standing level) row_at_two (Pressure 3) More metres_4_9965)
         levels_about_4_9965
         ≡ No ∷ No ∷ Unknown ∷ Unknown ∷ Yes ∷ [] }
-    ensures at_least { (network : Project) → IsTown network
-        → map (λ level. truth_at_two network (town_standing level) row_at_two (Pressure 3) NotLess metres_4_9965)
+    ensures at_least { (project : Project) → IsTown project
+        → map (λ level. truth_at_two project (town_standing level) row_at_two (Pressure 3) NotLess metres_4_9965)
         levels_about_4_9965
         ≡ No ∷ Unknown ∷ Unknown ∷ Yes ∷ Yes ∷ [] }
 {}
 
 /// The rule of the hamlet at some heads of the junction and levels of the tank.
 pub fn rules()
-    ensures high { (network : Project) → IsHamlet network
-        → map (λ level. rule_truths network grid_at_start (hamlet_standing level) (hamlet_row
+    ensures high { (project : Project) → IsHamlet project
+        → map (λ level. rule_truths project grid_at_start (hamlet_standing level) (hamlet_row
         (record { lo = pos 396240000000001; hi = pos 396240000000002 })) 360)
         (record { lo = pos 30402181382335; hi = pos 30402182094386 }
         ∷ record { lo = pos 30222181382334; hi = pos 30222182094385 }
         ∷ record { lo = pos 30170045602735; hi = pos 30170046314786 }
         ∷ record { lo = pos 30170045602735; hi = pos 30170046314787 } ∷ [])
         ≡ (Yes ∷ []) ∷ (No ∷ []) ∷ (Yes ∷ []) ∷ (Unknown ∷ []) ∷ [] }
-    ensures edge { (network : Project) → IsHamlet network
-        → map (λ level. rule_truths network grid_at_start (hamlet_standing level) (hamlet_row
+    ensures edge { (project : Project) → IsHamlet project
+        → map (λ level. rule_truths project grid_at_start (hamlet_standing level) (hamlet_row
         (record { lo = pos 396240000000000; hi = pos 396240000000001 })) 360)
         (record { lo = pos 30402181382335; hi = pos 30402182094386 }
         ∷ record { lo = pos 30222181382334; hi = pos 30222182094385 }
         ∷ record { lo = pos 30170045602735; hi = pos 30170046314786 }
         ∷ record { lo = pos 30170045602735; hi = pos 30170046314787 } ∷ [])
         ≡ (Unknown ∷ []) ∷ (No ∷ []) ∷ (Unknown ∷ []) ∷ (Unknown ∷ []) ∷ [] }
-    ensures low { (network : Project) → IsHamlet network
-        → map (λ level. rule_truths network grid_at_start (hamlet_standing level) (hamlet_row
+    ensures low { (project : Project) → IsHamlet project
+        → map (λ level. rule_truths project grid_at_start (hamlet_standing level) (hamlet_row
         (record { lo = pos 395543595661204; hi = pos 395543595661204 })) 360)
         (record { lo = pos 30402181382335; hi = pos 30402182094386 }
         ∷ record { lo = pos 30222181382334; hi = pos 30222182094385 }
@@ -188,64 +188,64 @@ pub fn rules()
 
 /// Settings of a running pump, of a valve with a setting, of an open valve and of a throttle valve.
 pub fn settings()
-    ensures pump_less { (network : Project) → IsTown network
-        → map (λ nano. town_truth network standing_at_three 0 (Setting 0) Less (amount nano))
+    ensures pump_less { (project : Project) → IsTown project
+        → map (λ nano. town_truth project standing_at_three 0 (Setting 0) Less (amount nano))
         (pos 899999999 ∷ pos 900000000
         ∷ pos 900000001 ∷ [])
         ≡ No ∷ No ∷ Yes ∷ [] }
-    ensures pump_at_most { (network : Project) → IsTown network
-        → map (λ nano. town_truth network standing_at_three 0 (Setting 0) NotMore (amount nano))
+    ensures pump_at_most { (project : Project) → IsTown project
+        → map (λ nano. town_truth project standing_at_three 0 (Setting 0) NotMore (amount nano))
         (pos 899999999 ∷ pos 900000000
         ∷ pos 900000001 ∷ [])
         ≡ No ∷ Yes ∷ Yes ∷ [] }
-    ensures pump_more { (network : Project) → IsTown network
-        → map (λ nano. town_truth network standing_at_three 0 (Setting 0) More (amount nano))
+    ensures pump_more { (project : Project) → IsTown project
+        → map (λ nano. town_truth project standing_at_three 0 (Setting 0) More (amount nano))
         (pos 899999999 ∷ pos 900000000
         ∷ pos 900000001 ∷ [])
         ≡ Yes ∷ No ∷ No ∷ [] }
-    ensures pump_at_least { (network : Project) → IsTown network
-        → map (λ nano. town_truth network standing_at_three 0 (Setting 0) NotLess (amount nano))
+    ensures pump_at_least { (project : Project) → IsTown project
+        → map (λ nano. town_truth project standing_at_three 0 (Setting 0) NotLess (amount nano))
         (pos 899999999 ∷ pos 900000000
         ∷ pos 900000001 ∷ [])
         ≡ Yes ∷ Yes ∷ No ∷ [] }
-    ensures valve_less { (network : Project) → IsTown network
-        → map (λ nano. town_truth network standing_at_three 0 (Setting 1) Less (amount nano)) (pos 1399999999999
+    ensures valve_less { (project : Project) → IsTown project
+        → map (λ nano. town_truth project standing_at_three 0 (Setting 1) Less (amount nano)) (pos 1399999999999
         ∷ pos 1400000000000 ∷ pos 1400000000001 ∷ [])
         ≡ No ∷ No ∷ Yes ∷ [] }
-    ensures valve_at_most { (network : Project) → IsTown network
-        → map (λ nano. town_truth network standing_at_three 0 (Setting 1) NotMore (amount nano)) (pos 1399999999999
+    ensures valve_at_most { (project : Project) → IsTown project
+        → map (λ nano. town_truth project standing_at_three 0 (Setting 1) NotMore (amount nano)) (pos 1399999999999
         ∷ pos 1400000000000 ∷ pos 1400000000001 ∷ [])
         ≡ No ∷ Yes ∷ Yes ∷ [] }
-    ensures valve_more { (network : Project) → IsTown network
-        → map (λ nano. town_truth network standing_at_three 0 (Setting 1) More (amount nano)) (pos 1399999999999
+    ensures valve_more { (project : Project) → IsTown project
+        → map (λ nano. town_truth project standing_at_three 0 (Setting 1) More (amount nano)) (pos 1399999999999
         ∷ pos 1400000000000 ∷ pos 1400000000001 ∷ [])
         ≡ Yes ∷ No ∷ No ∷ [] }
-    ensures valve_at_least { (network : Project) → IsTown network
-        → map (λ nano. town_truth network standing_at_three 0 (Setting 1) NotLess (amount nano)) (pos 1399999999999
+    ensures valve_at_least { (project : Project) → IsTown project
+        → map (λ nano. town_truth project standing_at_three 0 (Setting 1) NotLess (amount nano)) (pos 1399999999999
         ∷ pos 1400000000000 ∷ pos 1400000000001 ∷ [])
         ≡ Yes ∷ Yes ∷ No ∷ [] }
-    ensures opened_less { (network : Project) → IsTown network
-        → map (λ nano. town_truth network standing_at_three 0 (Setting 2) Less (amount nano))
+    ensures opened_less { (project : Project) → IsTown project
+        → map (λ nano. town_truth project standing_at_three 0 (Setting 2) Less (amount nano))
         (neg_ℤ (pos 1) ∷ pos 0 ∷ pos 1
         ∷ [])
         ≡ No ∷ No ∷ Yes ∷ [] }
-    ensures opened_at_most { (network : Project) → IsTown network
-        → map (λ nano. town_truth network standing_at_three 0 (Setting 2) NotMore (amount nano))
+    ensures opened_at_most { (project : Project) → IsTown project
+        → map (λ nano. town_truth project standing_at_three 0 (Setting 2) NotMore (amount nano))
         (neg_ℤ (pos 1) ∷ pos 0 ∷ pos 1
         ∷ [])
         ≡ No ∷ Yes ∷ Yes ∷ [] }
-    ensures opened_more { (network : Project) → IsTown network
-        → map (λ nano. town_truth network standing_at_three 0 (Setting 2) More (amount nano))
+    ensures opened_more { (project : Project) → IsTown project
+        → map (λ nano. town_truth project standing_at_three 0 (Setting 2) More (amount nano))
         (neg_ℤ (pos 1) ∷ pos 0 ∷ pos 1
         ∷ [])
         ≡ Yes ∷ No ∷ No ∷ [] }
-    ensures opened_at_least { (network : Project) → IsTown network
-        → map (λ nano. town_truth network standing_at_three 0 (Setting 2) NotLess (amount nano))
+    ensures opened_at_least { (project : Project) → IsTown project
+        → map (λ nano. town_truth project standing_at_three 0 (Setting 2) NotLess (amount nano))
         (neg_ℤ (pos 1) ∷ pos 0 ∷ pos 1
         ∷ [])
         ≡ Yes ∷ Yes ∷ No ∷ [] }
-    ensures unthrottled { (network : Project) → IsTown network
-        → map (λ nano. town_truth network standing_when_full 0 (Setting 4) NotMore (amount nano)) (neg_ℤ (pos 1) ∷ pos 0
+    ensures unthrottled { (project : Project) → IsTown project
+        → map (λ nano. town_truth project standing_when_full 0 (Setting 4) NotMore (amount nano)) (neg_ℤ (pos 1) ∷ pos 0
         ∷ pos 1 ∷ [])
         ≡ No ∷ Yes ∷ Yes ∷ [] }
 {}
@@ -253,106 +253,106 @@ pub fn settings()
 /// Statuses of a running pump, valves with a setting and an open valve, and of a closed pump, a closed and a throttled
 /// valve.
 pub fn statuses()
-    ensures at_three_equal_open { (network : Project) → IsTown network
-        → map (λ link. town_truth network standing_at_three 0 (Status link) Equal ValueOpen) numbers
+    ensures at_three_equal_open { (project : Project) → IsTown project
+        → map (λ link. town_truth project standing_at_three 0 (Status link) Equal ValueOpen) numbers
         ≡ Yes ∷ No ∷ Yes ∷ No ∷ Yes ∷ [] }
-    ensures at_three_unequal_open { (network : Project) → IsTown network
-        → map (λ link. town_truth network standing_at_three 0 (Status link) Unequal ValueOpen) numbers
+    ensures at_three_unequal_open { (project : Project) → IsTown project
+        → map (λ link. town_truth project standing_at_three 0 (Status link) Unequal ValueOpen) numbers
         ≡ No ∷ Yes ∷ No ∷ Yes ∷ No ∷ [] }
-    ensures at_three_equal_closed { (network : Project) → IsTown network
-        → map (λ link. town_truth network standing_at_three 0 (Status link) Equal ValueClosed) numbers
+    ensures at_three_equal_closed { (project : Project) → IsTown project
+        → map (λ link. town_truth project standing_at_three 0 (Status link) Equal ValueClosed) numbers
         ≡ No ∷ No ∷ No ∷ No ∷ No ∷ [] }
-    ensures at_three_unequal_closed { (network : Project) → IsTown network
-        → map (λ link. town_truth network standing_at_three 0 (Status link) Unequal ValueClosed) numbers
+    ensures at_three_unequal_closed { (project : Project) → IsTown project
+        → map (λ link. town_truth project standing_at_three 0 (Status link) Unequal ValueClosed) numbers
         ≡ Yes ∷ Yes ∷ Yes ∷ Yes ∷ Yes ∷ [] }
-    ensures at_three_equal_active { (network : Project) → IsTown network
-        → map (λ link. town_truth network standing_at_three 0 (Status link) Equal ValueActive) numbers
+    ensures at_three_equal_active { (project : Project) → IsTown project
+        → map (λ link. town_truth project standing_at_three 0 (Status link) Equal ValueActive) numbers
         ≡ No ∷ Yes ∷ No ∷ Yes ∷ No ∷ [] }
-    ensures at_three_unequal_active { (network : Project) → IsTown network
-        → map (λ link. town_truth network standing_at_three 0 (Status link) Unequal ValueActive) numbers
+    ensures at_three_unequal_active { (project : Project) → IsTown project
+        → map (λ link. town_truth project standing_at_three 0 (Status link) Unequal ValueActive) numbers
         ≡ Yes ∷ No ∷ Yes ∷ No ∷ Yes ∷ [] }
-    ensures when_full_equal_open { (network : Project) → IsTown network
-        → map (λ link. town_truth network standing_when_full 0 (Status link) Equal ValueOpen) numbers
+    ensures when_full_equal_open { (project : Project) → IsTown project
+        → map (λ link. town_truth project standing_when_full 0 (Status link) Equal ValueOpen) numbers
         ≡ No ∷ No ∷ Yes ∷ No ∷ No ∷ [] }
-    ensures when_full_equal_closed { (network : Project) → IsTown network
-        → map (λ link. town_truth network standing_when_full 0 (Status link) Equal ValueClosed) numbers
+    ensures when_full_equal_closed { (project : Project) → IsTown project
+        → map (λ link. town_truth project standing_when_full 0 (Status link) Equal ValueClosed) numbers
         ≡ Yes ∷ Yes ∷ No ∷ No ∷ No ∷ [] }
-    ensures when_full_equal_active { (network : Project) → IsTown network
-        → map (λ link. town_truth network standing_when_full 0 (Status link) Equal ValueActive) numbers
+    ensures when_full_equal_active { (project : Project) → IsTown project
+        → map (λ link. town_truth project standing_when_full 0 (Status link) Equal ValueActive) numbers
         ≡ No ∷ No ∷ No ∷ Yes ∷ Yes ∷ [] }
 {}
 
 /// The time about 2:00, with a rule step of six minutes.
 pub fn times()
-    ensures less { (network : Project) → IsTown network
-        → map (λ seconds. town_truth network standing_at_start seconds Time Less (amount (pos 7200)))
+    ensures less { (project : Project) → IsTown project
+        → map (λ seconds. town_truth project standing_at_start seconds Time Less (amount (pos 7200)))
         (7199 ∷ 7200 ∷ 7201
         ∷ 7559 ∷ 7560 ∷ [])
         ≡ Yes ∷ No ∷ No ∷ No ∷ No ∷ [] }
-    ensures at_most { (network : Project) → IsTown network
-        → map (λ seconds. town_truth network standing_at_start seconds Time NotMore (amount (pos 7200)))
+    ensures at_most { (project : Project) → IsTown project
+        → map (λ seconds. town_truth project standing_at_start seconds Time NotMore (amount (pos 7200)))
         (7199 ∷ 7200 ∷ 7201
         ∷ 7559 ∷ 7560 ∷ [])
         ≡ Yes ∷ Yes ∷ No ∷ No ∷ No ∷ [] }
-    ensures more { (network : Project) → IsTown network
-        → map (λ seconds. town_truth network standing_at_start seconds Time More (amount (pos 7200)))
+    ensures more { (project : Project) → IsTown project
+        → map (λ seconds. town_truth project standing_at_start seconds Time More (amount (pos 7200)))
         (7199 ∷ 7200 ∷ 7201
         ∷ 7559 ∷ 7560 ∷ [])
         ≡ No ∷ No ∷ Yes ∷ Yes ∷ Yes ∷ [] }
-    ensures at_least { (network : Project) → IsTown network
-        → map (λ seconds. town_truth network standing_at_start seconds Time NotLess (amount (pos 7200)))
+    ensures at_least { (project : Project) → IsTown project
+        → map (λ seconds. town_truth project standing_at_start seconds Time NotLess (amount (pos 7200)))
         (7199 ∷ 7200 ∷ 7201
         ∷ 7559 ∷ 7560 ∷ [])
         ≡ No ∷ Yes ∷ Yes ∷ Yes ∷ Yes ∷ [] }
-    ensures equal { (network : Project) → IsTown network
-        → map (λ seconds. town_truth network standing_at_start seconds Time Equal (amount (pos 7200)))
+    ensures equal { (project : Project) → IsTown project
+        → map (λ seconds. town_truth project standing_at_start seconds Time Equal (amount (pos 7200)))
         (7199 ∷ 7200 ∷ 7201
         ∷ 7559 ∷ 7560 ∷ [])
         ≡ No ∷ Yes ∷ Yes ∷ Yes ∷ No ∷ [] }
-    ensures unequal { (network : Project) → IsTown network
-        → map (λ seconds. town_truth network standing_at_start seconds Time Unequal (amount (pos 7200)))
+    ensures unequal { (project : Project) → IsTown project
+        → map (λ seconds. town_truth project standing_at_start seconds Time Unequal (amount (pos 7200)))
         (7199 ∷ 7200 ∷ 7201
         ∷ 7559 ∷ 7560 ∷ [])
         ≡ Yes ∷ No ∷ No ∷ No ∷ Yes ∷ [] }
-    ensures equal_start { (network : Project) → IsTown network
-        → map (λ seconds. town_truth network standing_at_start seconds Time Equal (amount (pos 0)))
+    ensures equal_start { (project : Project) → IsTown project
+        → map (λ seconds. town_truth project standing_at_start seconds Time Equal (amount (pos 0)))
         (0 ∷ 1 ∷ 359 ∷ 360 ∷ [])
         ≡ Yes ∷ Yes ∷ Yes ∷ No ∷ [] }
-    ensures unequal_start { (network : Project) → IsTown network
-        → map (λ seconds. town_truth network standing_at_start seconds Time Unequal (amount (pos 0)))
+    ensures unequal_start { (project : Project) → IsTown project
+        → map (λ seconds. town_truth project standing_at_start seconds Time Unequal (amount (pos 0)))
         (0 ∷ 1 ∷ 359 ∷ 360 ∷ [])
         ≡ No ∷ No ∷ No ∷ Yes ∷ [] }
 {}
 
 /// The clock, which shows midnight at 1:00, about 0:00:10.
 pub fn clock_after()
-    ensures less { (network : Project) → IsTown network
-        → map (λ seconds. town_truth network standing_at_start seconds Clock Less (amount (pos 10)))
+    ensures less { (project : Project) → IsTown project
+        → map (λ seconds. town_truth project standing_at_start seconds Clock Less (amount (pos 10)))
         (3599 ∷ 3600 ∷ 3609 ∷ 3610
         ∷ 3969 ∷ 3970 ∷ [])
         ≡ No ∷ Yes ∷ Yes ∷ No ∷ No ∷ No ∷ [] }
-    ensures at_most { (network : Project) → IsTown network
-        → map (λ seconds. town_truth network standing_at_start seconds Clock NotMore (amount (pos 10)))
+    ensures at_most { (project : Project) → IsTown project
+        → map (λ seconds. town_truth project standing_at_start seconds Clock NotMore (amount (pos 10)))
         (3599 ∷ 3600 ∷ 3609
         ∷ 3610 ∷ 3969 ∷ 3970 ∷ [])
         ≡ No ∷ Yes ∷ Yes ∷ Yes ∷ No ∷ No ∷ [] }
-    ensures more { (network : Project) → IsTown network
-        → map (λ seconds. town_truth network standing_at_start seconds Clock More (amount (pos 10)))
+    ensures more { (project : Project) → IsTown project
+        → map (λ seconds. town_truth project standing_at_start seconds Clock More (amount (pos 10)))
         (3599 ∷ 3600 ∷ 3609 ∷ 3610
         ∷ 3969 ∷ 3970 ∷ [])
         ≡ Yes ∷ No ∷ No ∷ No ∷ Yes ∷ Yes ∷ [] }
-    ensures at_least { (network : Project) → IsTown network
-        → map (λ seconds. town_truth network standing_at_start seconds Clock NotLess (amount (pos 10)))
+    ensures at_least { (project : Project) → IsTown project
+        → map (λ seconds. town_truth project standing_at_start seconds Clock NotLess (amount (pos 10)))
         (3599 ∷ 3600 ∷ 3609
         ∷ 3610 ∷ 3969 ∷ 3970 ∷ [])
         ≡ Yes ∷ No ∷ No ∷ Yes ∷ Yes ∷ Yes ∷ [] }
-    ensures equal { (network : Project) → IsTown network
-        → map (λ seconds. town_truth network standing_at_start seconds Clock Equal (amount (pos 10)))
+    ensures equal { (project : Project) → IsTown project
+        → map (λ seconds. town_truth project standing_at_start seconds Clock Equal (amount (pos 10)))
         (3599 ∷ 3600 ∷ 3609
         ∷ 3610 ∷ 3969 ∷ 3970 ∷ [])
         ≡ No ∷ No ∷ No ∷ Yes ∷ Yes ∷ No ∷ [] }
-    ensures unequal { (network : Project) → IsTown network
-        → map (λ seconds. town_truth network standing_at_start seconds Clock Unequal (amount (pos 10)))
+    ensures unequal { (project : Project) → IsTown project
+        → map (λ seconds. town_truth project standing_at_start seconds Clock Unequal (amount (pos 10)))
         (3599 ∷ 3600 ∷ 3609
         ∷ 3610 ∷ 3969 ∷ 3970 ∷ [])
         ≡ Yes ∷ Yes ∷ Yes ∷ No ∷ No ∷ Yes ∷ [] }
@@ -360,33 +360,33 @@ pub fn clock_after()
 
 /// The same about 23:59:50: a clause that is equal then is so across midnight.
 pub fn clock_across()
-    ensures less { (network : Project) → IsTown network
-        → map (λ seconds. town_truth network standing_at_start seconds Clock Less (amount (pos 86390)))
+    ensures less { (project : Project) → IsTown project
+        → map (λ seconds. town_truth project standing_at_start seconds Clock Less (amount (pos 86390)))
         (3589 ∷ 3590 ∷ 3599
         ∷ 3600 ∷ 3949 ∷ 3950 ∷ [])
         ≡ Yes ∷ No ∷ No ∷ Yes ∷ Yes ∷ Yes ∷ [] }
-    ensures at_most { (network : Project) → IsTown network
-        → map (λ seconds. town_truth network standing_at_start seconds Clock NotMore (amount (pos 86390)))
+    ensures at_most { (project : Project) → IsTown project
+        → map (λ seconds. town_truth project standing_at_start seconds Clock NotMore (amount (pos 86390)))
         (3589 ∷ 3590 ∷ 3599
         ∷ 3600 ∷ 3949 ∷ 3950 ∷ [])
         ≡ Yes ∷ Yes ∷ No ∷ Yes ∷ Yes ∷ Yes ∷ [] }
-    ensures more { (network : Project) → IsTown network
-        → map (λ seconds. town_truth network standing_at_start seconds Clock More (amount (pos 86390)))
+    ensures more { (project : Project) → IsTown project
+        → map (λ seconds. town_truth project standing_at_start seconds Clock More (amount (pos 86390)))
         (3589 ∷ 3590 ∷ 3599
         ∷ 3600 ∷ 3949 ∷ 3950 ∷ [])
         ≡ No ∷ No ∷ Yes ∷ No ∷ No ∷ No ∷ [] }
-    ensures at_least { (network : Project) → IsTown network
-        → map (λ seconds. town_truth network standing_at_start seconds Clock NotLess (amount (pos 86390)))
+    ensures at_least { (project : Project) → IsTown project
+        → map (λ seconds. town_truth project standing_at_start seconds Clock NotLess (amount (pos 86390)))
         (3589 ∷ 3590 ∷ 3599
         ∷ 3600 ∷ 3949 ∷ 3950 ∷ [])
         ≡ No ∷ Yes ∷ Yes ∷ No ∷ No ∷ No ∷ [] }
-    ensures equal { (network : Project) → IsTown network
-        → map (λ seconds. town_truth network standing_at_start seconds Clock Equal (amount (pos 86390)))
+    ensures equal { (project : Project) → IsTown project
+        → map (λ seconds. town_truth project standing_at_start seconds Clock Equal (amount (pos 86390)))
         (3589 ∷ 3590 ∷ 3599
         ∷ 3600 ∷ 3949 ∷ 3950 ∷ [])
         ≡ No ∷ Yes ∷ Yes ∷ Yes ∷ Yes ∷ No ∷ [] }
-    ensures unequal { (network : Project) → IsTown network
-        → map (λ seconds. town_truth network standing_at_start seconds Clock Unequal (amount (pos 86390)))
+    ensures unequal { (project : Project) → IsTown project
+        → map (λ seconds. town_truth project standing_at_start seconds Clock Unequal (amount (pos 86390)))
         (3589 ∷ 3590 ∷ 3599
         ∷ 3600 ∷ 3949 ∷ 3950 ∷ [])
         ≡ Yes ∷ No ∷ No ∷ No ∷ No ∷ Yes ∷ [] }
@@ -394,23 +394,23 @@ pub fn clock_across()
 
 /// The same at midnight, and a day later.
 pub fn clock_midnight()
-    ensures less { (network : Project) → IsTown network
-        → map (λ seconds. town_truth network standing_at_start seconds Clock Less (amount (pos 0)))
+    ensures less { (project : Project) → IsTown project
+        → map (λ seconds. town_truth project standing_at_start seconds Clock Less (amount (pos 0)))
         (3599 ∷ 3600 ∷ 3959 ∷ 3960
         ∷ 90000 ∷ 90360 ∷ [])
         ≡ No ∷ No ∷ No ∷ No ∷ No ∷ No ∷ [] }
-    ensures at_most { (network : Project) → IsTown network
-        → map (λ seconds. town_truth network standing_at_start seconds Clock NotMore (amount (pos 0)))
+    ensures at_most { (project : Project) → IsTown project
+        → map (λ seconds. town_truth project standing_at_start seconds Clock NotMore (amount (pos 0)))
         (3599 ∷ 3600 ∷ 3959
         ∷ 3960 ∷ 90000 ∷ 90360 ∷ [])
         ≡ No ∷ Yes ∷ No ∷ No ∷ Yes ∷ No ∷ [] }
-    ensures equal { (network : Project) → IsTown network
-        → map (λ seconds. town_truth network standing_at_start seconds Clock Equal (amount (pos 0)))
+    ensures equal { (project : Project) → IsTown project
+        → map (λ seconds. town_truth project standing_at_start seconds Clock Equal (amount (pos 0)))
         (3599 ∷ 3600 ∷ 3959 ∷ 3960
         ∷ 90000 ∷ 90360 ∷ [])
         ≡ No ∷ Yes ∷ Yes ∷ No ∷ Yes ∷ No ∷ [] }
-    ensures unequal { (network : Project) → IsTown network
-        → map (λ seconds. town_truth network standing_at_start seconds Clock Unequal (amount (pos 0)))
+    ensures unequal { (project : Project) → IsTown project
+        → map (λ seconds. town_truth project standing_at_start seconds Clock Unequal (amount (pos 0)))
         (3599 ∷ 3600 ∷ 3959
         ∷ 3960 ∷ 90000 ∷ 90360 ∷ [])
         ≡ Yes ∷ No ∷ No ∷ Yes ∷ No ∷ Yes ∷ [] }

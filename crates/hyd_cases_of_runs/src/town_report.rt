@@ -20,17 +20,17 @@ ghost use Rattle.hyd_cases_of_runs.specs.TownReport.{lift, lines_at_two};
 
 /// The status words of all links.
 pub fn statuses()
-    ensures at_two { (network : Project) → IsTown network
-        → map_from (λ l link. status_of (is_us network) network.bends.list link.kind
-        (state_of_link (links_at network standing_at_two) l)
+    ensures at_two { (project : Project) → IsTown project
+        → map_from (λ l link. status_of (is_us project) project.bends.list link.kind
+        (state_of_link (links_at project standing_at_two) l)
         (difference (slice_index_or grid_at_two.links l lift) (heads_below grid_at_two row_at_two)
-        (heads_above grid_at_two row_at_two))) 0 network.links.list
+        (heads_above grid_at_two row_at_two))) 0 project.links.list
         ≡ WordClosed ∷ WordActive ∷ WordOpen ∷ WordActive ∷ WordActive ∷ [] }
-    ensures when_full { (network : Project) → IsTown network
-        → map_from (λ l link. status_of (is_us network) network.bends.list link.kind
-        (state_of_link (links_at network standing_when_full) l)
+    ensures when_full { (project : Project) → IsTown project
+        → map_from (λ l link. status_of (is_us project) project.bends.list link.kind
+        (state_of_link (links_at project standing_when_full) l)
         (difference (slice_index_or grid_when_full.links l lift) (heads_below grid_when_full row_when_full)
-        (heads_above grid_when_full row_when_full))) 0 network.links.list
+        (heads_above grid_when_full row_when_full))) 0 project.links.list
         ≡ WordClosed ∷ WordClosed ∷ WordOpen ∷ WordActive ∷ WordActive ∷ [] }
 {}
 
@@ -52,15 +52,15 @@ pub fn outflows()
 
 /// The report times among the starts of periods.
 pub fn times()
-    ensures { (network : Project) → IsTown network
-        → map (is_report_time network) (0 ∷ 3600 ∷ 7200 ∷ 7313 ∷ 8640 ∷ 9720 ∷ 10080 ∷ 10800 ∷ [])
+    ensures { (project : Project) → IsTown project
+        → map (is_report_time project) (0 ∷ 3600 ∷ 7200 ∷ 7313 ∷ 8640 ∷ 9720 ∷ 10080 ∷ 10800 ∷ [])
         ≡ true ∷ true ∷ true ∷ false ∷ false ∷ false ∷ false ∷ true ∷ [] }
 {}
 
 /// The texts of all lines of the period from 2:00 on.
 pub fn texts()
-    ensures text_state { (network : Project) → IsTown network
-        → map (line_text network) lines_at_two
+    ensures text_state { (project : Project) → IsTown project
+        → map (line_text project) lines_at_two
         ≡ codes "TIME 2:00:00\n"
         ∷ codes "JUNCTION EAST head 44.9923 44.9924 pressure 34.9923 34.9924 outflow 299.9999 300.0001\n"
         ∷ codes "JUNCTION WEST head 21.5076 21.5077 pressure 16.5076 16.5077 outflow 863.9999 864.0001\n"
@@ -72,9 +72,9 @@ pub fn texts()
         ∷ codes "LINK UPPER flow -6171.3263 7571.3270 status OPEN\n"
         ∷ codes "LINK MAIN flow 399.9999 400.0001 status ACTIVE\n"
         ∷ codes "LINK LOWER flow -6390.2924 7318.2919 status ACTIVE\n" ∷ [] }
-    ensures text_report { (network : Project) → IsTown network
-        → report_text network (control_lines network standing_at_two ++
-        (lines_at_two ++ map (event_line 7313) (events_of network grid_at_two standing_at_two row_at_two)))
+    ensures text_report { (project : Project) → IsTown project
+        → report_text project (control_lines project standing_at_two ++
+        (lines_at_two ++ map (event_line 7313) (events_of project grid_at_two standing_at_two row_at_two)))
         (done_line 1)
         ≡ joined (codes "HYD 1\n" ∷ codes "TIME 2:00:00\n"
         ∷ codes "JUNCTION EAST head 44.9923 44.9924 pressure 34.9923 34.9924 outflow 299.9999 300.0001\n"

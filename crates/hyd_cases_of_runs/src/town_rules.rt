@@ -23,8 +23,8 @@ ghost use Rattle.hyd_cases_of_runs.specs.TownReadings.{readings_of_halves};
 
 /// What the rules look at, from below and above.
 pub fn readings()
-    ensures below_at_two { (network : Project) → IsTown network
-        → readings_below network grid_at_two standing_at_two row_at_two 60
+    ensures below_at_two { (project : Project) → IsTown project
+        → readings_below project grid_at_two standing_at_two row_at_two 60
         ≡ record {
           heads = pos 449923184137361 ∷ pos 215076805275904 ∷ pos 600000000000000 ∷ pos 449923185009438
               ∷ pos 215076805853966 ∷ [];
@@ -33,8 +33,8 @@ pub fn readings()
               ∷ 11639999990 ∷ 0 ∷ 3999999990 ∷ 0 ∷ [];
           links = Closed ∷ filling ∷ Open ∷ narrow_main ∷ unthrottled ∷ [];
         } }
-    ensures above_at_two { (network : Project) → IsTown network
-        → readings_above network grid_at_two standing_at_two row_at_two 60
+    ensures above_at_two { (project : Project) → IsTown project
+        → readings_above project grid_at_two standing_at_two row_at_two 60
         ≡ record {
           heads = pos 449923192697818 ∷ pos 215076813815139 ∷ pos 600000000000000 ∷ pos 449923193569894
               ∷ pos 215076814393200 ∷ [];
@@ -44,8 +44,8 @@ pub fn readings()
           links = Closed ∷ filling ∷ Open ∷ narrow_main
               ∷ unthrottled ∷ [];
         } }
-    ensures below_when_full { (network : Project) → IsTown network
-        → readings_below network grid_when_full standing_when_full row_when_full 247
+    ensures below_when_full { (project : Project) → IsTown project
+        → readings_below project grid_when_full standing_when_full row_when_full 247
         ≡ record {
           heads = pos 449999998505012 ∷ pos 215000000044849 ∷ pos 600000000000000 ∷ pos 450000000000000
               ∷ pos 215000000000000 ∷ [];
@@ -54,8 +54,8 @@ pub fn readings()
               ∷ 11999995512 ∷ 8999999990 ∷ 359994959 ∷ [];
           links = Closed ∷ Closed ∷ Open ∷ wide_main ∷ unthrottled ∷ [];
         } }
-    ensures above_when_full { (network : Project) → IsTown network
-        → readings_above network grid_when_full standing_when_full row_when_full 247
+    ensures above_when_full { (project : Project) → IsTown project
+        → readings_above project grid_when_full standing_when_full row_when_full 247
         ≡ record {
           heads = pos 449999998505013 ∷ pos 215000000044850 ∷ pos 600000000000000 ∷ pos 450000000000000
               ∷ pos 215000000000000 ∷ [];
@@ -68,37 +68,37 @@ pub fn readings()
 
 /// The truths of the rules at seconds of a period.
 pub fn truths()
-    ensures when_full { (network : Project) → IsTown network
-        → map (rule_truths network grid_when_full standing_when_full row_when_full) (247 ∷ 967 ∷ 1327 ∷ 1687 ∷ [])
+    ensures when_full { (project : Project) → IsTown project
+        → map (rule_truths project grid_when_full standing_when_full row_when_full) (247 ∷ 967 ∷ 1327 ∷ 1687 ∷ [])
         ≡ (No ∷ No ∷ Yes ∷ No ∷ []) ∷ (No ∷ No ∷ Yes ∷ No ∷ []) ∷ (Yes ∷ Yes ∷ No ∷ No ∷ [])
         ∷ (Yes ∷ Yes ∷ No ∷ No ∷ []) ∷ [] }
-    ensures at_two { (network : Project) → IsTown network
-        → map (rule_truths network grid_at_two standing_at_two row_at_two) (0 ∷ 60 ∷ 360 ∷ [])
+    ensures at_two { (project : Project) → IsTown project
+        → map (rule_truths project grid_at_two standing_at_two row_at_two) (0 ∷ 60 ∷ 360 ∷ [])
         ≡ (No ∷ No ∷ Yes ∷ No ∷ []) ∷ (No ∷ No ∷ Yes ∷ No ∷ []) ∷ (No ∷ No ∷ Yes ∷ No ∷ []) ∷ [] }
 {}
 
 /// The truths of the rules where levels are less certain.
 pub fn open_truths()
-    ensures upper { (network : Project) → IsTown network
-        → map (rule_truths network grid_when_full (record standing_when_full {
+    ensures upper { (project : Project) → IsTown project
+        → map (rule_truths project grid_when_full (record standing_when_full {
           levels = record { lo = pos 47000000000000; hi = pos 49000000000000 }
               ∷ record { lo = pos 15000000000000; hi = pos 18000000000000 } ∷ [];
         }) row_when_full) (247 ∷ 967 ∷ 1327 ∷ [])
         ≡ (Unknown ∷ No ∷ Yes ∷ No ∷ []) ∷ (Yes ∷ No ∷ Yes ∷ No ∷ []) ∷ (Yes ∷ Yes ∷ No ∷ No ∷ []) ∷ [] }
-    ensures lower { (network : Project) → IsTown network
-        → map (rule_truths network grid_when_full (record standing_when_full {
+    ensures lower { (project : Project) → IsTown project
+        → map (rule_truths project grid_when_full (record standing_when_full {
           levels = record { lo = pos 46000000000000; hi = pos 47000000000000 }
               ∷ record { lo = pos 18000000000000; hi = pos 20000000000000 } ∷ [];
         }) row_when_full) (247 ∷ 967 ∷ 1327 ∷ [])
         ≡ (Yes ∷ No ∷ Yes ∷ No ∷ []) ∷ (Yes ∷ No ∷ Yes ∷ No ∷ []) ∷ (Yes ∷ Yes ∷ Unknown ∷ No ∷ []) ∷ [] }
-    ensures both { (network : Project) → IsTown network
-        → map (rule_truths network grid_when_full (record standing_when_full {
+    ensures both { (project : Project) → IsTown project
+        → map (rule_truths project grid_when_full (record standing_when_full {
           levels = record { lo = pos 47000000000000; hi = pos 49000000000000 }
               ∷ record { lo = pos 18000000000000; hi = pos 20000000000000 } ∷ [];
         }) row_when_full) (247 ∷ 967 ∷ 1327 ∷ [])
         ≡ (Unknown ∷ No ∷ Yes ∷ No ∷ []) ∷ (Yes ∷ No ∷ Yes ∷ No ∷ []) ∷ (Yes ∷ Yes ∷ Unknown ∷ No ∷ []) ∷ [] }
-    ensures earlier { (network : Project) → IsTown network
-        → rule_truths network grid_when_full (record standing_when_full {
+    ensures earlier { (project : Project) → IsTown project
+        → rule_truths project grid_when_full (record standing_when_full {
           time = 3600;
           levels =
               record { lo = pos 47000000000000; hi = pos 49000000000000 }
@@ -109,53 +109,53 @@ pub fn open_truths()
 
 /// What the rules change at seconds of a period.
 pub fn changes()
-    ensures when_full_247 { (network : Project) → IsTown network
-        → decided_changes network grid_when_full standing_when_full row_when_full 247 ≡ [] }
-    ensures when_full_967 { (network : Project) → IsTown network
-        → decided_changes network grid_when_full standing_when_full row_when_full 967 ≡ [] }
-    ensures when_full_1327 { (network : Project) → IsTown network
-        → decided_changes network grid_when_full standing_when_full row_when_full 1327
+    ensures when_full_247 { (project : Project) → IsTown project
+        → decided_changes project grid_when_full standing_when_full row_when_full 247 ≡ [] }
+    ensures when_full_967 { (project : Project) → IsTown project
+        → decided_changes project grid_when_full standing_when_full row_when_full 967 ≡ [] }
+    ensures when_full_1327 { (project : Project) → IsTown project
+        → decided_changes project grid_when_full standing_when_full row_when_full 1327
         ≡ record { source = ByRule 0; link = 1; to = fast_filling } ∷ record {
           source = ByRule 1;
           link = 3;
           to = night_main;
         }
         ∷ record { source = ByRule 2; link = 4; to = Open } ∷ [] }
-    ensures when_full_1687 { (network : Project) → IsTown network
-        → decided_changes network grid_when_full standing_when_full row_when_full 1687
+    ensures when_full_1687 { (project : Project) → IsTown project
+        → decided_changes project grid_when_full standing_when_full row_when_full 1687
         ≡ record { source = ByRule 0; link = 1; to = fast_filling } ∷ record {
           source = ByRule 1;
           link = 3;
           to = night_main;
         }
         ∷ record { source = ByRule 2; link = 4; to = Open } ∷ [] }
-    ensures at_two_60 { (network : Project) → IsTown network
-        → decided_changes network grid_at_two standing_at_two row_at_two 60 ≡ [] }
+    ensures at_two_60 { (project : Project) → IsTown project
+        → decided_changes project grid_at_two standing_at_two row_at_two 60 ≡ [] }
 {}
 
 /// The states of the links after the rules.
 pub fn states()
-    ensures when_full_247 { (network : Project) → IsTown network
-        → acted network (map is_yes (rule_truths network grid_when_full standing_when_full row_when_full 247))
-        (links_at network standing_when_full)
+    ensures when_full_247 { (project : Project) → IsTown project
+        → acted project (map is_yes (rule_truths project grid_when_full standing_when_full row_when_full 247))
+        (links_at project standing_when_full)
         ≡ Closed ∷ Closed ∷ Open ∷ wide_main ∷ unthrottled ∷ [] }
-    ensures when_full_1327 { (network : Project) → IsTown network
-        → acted network (map is_yes (rule_truths network grid_when_full standing_when_full row_when_full 1327))
-        (links_at network standing_when_full)
+    ensures when_full_1327 { (project : Project) → IsTown project
+        → acted project (map is_yes (rule_truths project grid_when_full standing_when_full row_when_full 1327))
+        (links_at project standing_when_full)
         ≡ Closed ∷ fast_filling ∷ Open ∷ night_main ∷ Open ∷ [] }
 {}
 
 /// The lines of the rules at the end of a period, and their texts.
 pub fn lines()
-    ensures when_full { (network : Project) → IsTown network
-        → map (change_line 8640) (decided_changes network grid_when_full standing_when_full row_when_full
+    ensures when_full { (project : Project) → IsTown project
+        → map (change_line 8640) (decided_changes project grid_when_full standing_when_full row_when_full
         row_when_full.length)
         ≡ RuleLine 8640 0 1 fast_filling ∷ RuleLine 8640 1 3 night_main ∷ RuleLine 8640 2 4 Open ∷ [] }
-    ensures before { (network : Project) → IsTown network
-        → map (change_line 8280) (decided_changes network grid_when_full standing_when_full
+    ensures before { (project : Project) → IsTown project
+        → map (change_line 8280) (decided_changes project grid_when_full standing_when_full
         (record row_when_full { length = 967 }) 967) ≡ [] }
-    ensures text_when_full { (network : Project) → IsTown network
-        → map (line_text network) (map (change_line 8640) (decided_changes network grid_when_full standing_when_full
+    ensures text_when_full { (project : Project) → IsTown project
+        → map (line_text project) (map (change_line 8640) (decided_changes project grid_when_full standing_when_full
         row_when_full row_when_full.length))
         ≡ codes "RULE LOW 2:24:00 LINK FILL SETTING 1400.000000000\n"
         ∷ codes "RULE NIGHT 2:24:00 LINK MAIN SETTING 880.000000000\n" ∷ codes "RULE REST 2:24:00 LINK LOWER OPEN\n"
@@ -164,108 +164,108 @@ pub fn lines()
 
 /// The values of the rules at an instant, where all is exact.
 pub fn values()
-    ensures none { (network : Project) → IsTown network
-        → rule_values network 1 7560 readings_none ≡ false ∷ false ∷ true ∷ false ∷ [] }
-    ensures three { (network : Project) → IsTown network
-        → rule_values network 1 8640 readings_three ≡ true ∷ true ∷ false ∷ true ∷ [] }
-    ensures edges { (network : Project) → IsTown network
-        → rule_values network 1 8640 readings_edges ≡ false ∷ true ∷ false ∷ true ∷ [] }
-    ensures past_edges { (network : Project) → IsTown network
-        → rule_values network 1 8640 readings_past_edges ≡ true ∷ true ∷ true ∷ false ∷ [] }
+    ensures none { (project : Project) → IsTown project
+        → rule_values project 1 7560 readings_none ≡ false ∷ false ∷ true ∷ false ∷ [] }
+    ensures three { (project : Project) → IsTown project
+        → rule_values project 1 8640 readings_three ≡ true ∷ true ∷ false ∷ true ∷ [] }
+    ensures edges { (project : Project) → IsTown project
+        → rule_values project 1 8640 readings_edges ≡ false ∷ true ∷ false ∷ true ∷ [] }
+    ensures past_edges { (project : Project) → IsTown project
+        → rule_values project 1 8640 readings_past_edges ≡ true ∷ true ∷ true ∷ false ∷ [] }
 {}
 
 /// Heads of all nodes, pressures of junctions and tanks, and states of links, as rules read them.
 pub fn measures()
-    ensures heads { (network : Project) → IsTown network
-        → map (head_of network 1 readings_of_halves) numbers
+    ensures heads { (project : Project) → IsTown project
+        → map (head_of project 1 readings_of_halves) numbers
         ≡ whole (pos 449999998505013) ∷ whole (pos 215000000044850) ∷ whole (pos 600000000000000)
         ∷ record { num = pos 899126415941547; den = 2 } ∷ record { num = pos 430026207146981; den = 2 } ∷ [] }
-    ensures pressures { (network : Project) → IsTown network
-        → map (pressure_of network 1 readings_of_halves) (0 ∷ 1 ∷ 3 ∷ 4 ∷ [])
+    ensures pressures { (project : Project) → IsTown project
+        → map (pressure_of project 1 readings_of_halves) (0 ∷ 1 ∷ 3 ∷ 4 ∷ [])
         ≡ whole (pos 349999998505013) ∷ whole (pos 165000000044850) ∷ record { num = pos 99126415941547; den = 2 }
         ∷ record { num = pos 30026207146981; den = 2 } ∷ [] }
-    ensures states { (network : Project) → IsTown network
-        → map (state_of_link (links_at network standing_when_full)) numbers
+    ensures states { (project : Project) → IsTown project
+        → map (state_of_link (links_at project standing_when_full)) numbers
         ≡ Closed ∷ Closed ∷ Open ∷ wide_main ∷ unthrottled ∷ [] }
 {}
 
 /// What the rules offer with some values, in order.
 pub fn offers()
-    ensures three { (network : Project) → IsTown network
-        → offers_from 0 network.rules.list (true ∷ true ∷ false ∷ false ∷ [])
+    ensures three { (project : Project) → IsTown project
+        → offers_from 0 project.rules.list (true ∷ true ∷ false ∷ false ∷ [])
         ≡ record { rule = 0; priority = Some (pos 2000000000); link = 1; to = fast_filling }
         ∷ record { rule = 1; priority = Some (pos 1000000000); link = 1; to = Closed }
         ∷ record { rule = 1; priority = Some (pos 1000000000); link = 3; to = night_main }
         ∷ record { rule = 2; priority = None; link = 4; to = Open } ∷ [] }
-    ensures all { (network : Project) → IsTown network
-        → offers_from 0 network.rules.list (true ∷ true ∷ true ∷ true ∷ [])
+    ensures all { (project : Project) → IsTown project
+        → offers_from 0 project.rules.list (true ∷ true ∷ true ∷ true ∷ [])
         ≡ record { rule = 0; priority = Some (pos 2000000000); link = 1; to = fast_filling }
         ∷ record { rule = 1; priority = Some (pos 1000000000); link = 1; to = Closed }
         ∷ record { rule = 1; priority = Some (pos 1000000000); link = 3; to = night_main }
         ∷ record { rule = 2; priority = None; link = 4; to = unthrottled }
         ∷ record { rule = 3; priority = None; link = 0; to = Speed (pos 500000000) } ∷ [] }
-    ensures none { (network : Project) → IsTown network
-        → offers_from 0 network.rules.list (false ∷ false ∷ false ∷ false ∷ [])
+    ensures none { (project : Project) → IsTown project
+        → offers_from 0 project.rules.list (false ∷ false ∷ false ∷ false ∷ [])
         ≡ record { rule = 2; priority = None; link = 4; to = Open } ∷ [] }
 {}
 
 /// The offer of highest rank to each link.
 pub fn best_offers()
-    ensures three { (network : Project) → IsTown network
-        → map (λ link. best_offer link (offers_from 0 network.rules.list (true ∷ true ∷ false ∷ false ∷ []))) numbers
+    ensures three { (project : Project) → IsTown project
+        → map (λ link. best_offer link (offers_from 0 project.rules.list (true ∷ true ∷ false ∷ false ∷ []))) numbers
         ≡ None ∷ Some (record { rule = 0; priority = Some (pos 2000000000); link = 1; to = fast_filling }) ∷ None
         ∷ Some (record { rule = 1; priority = Some (pos 1000000000); link = 3; to = night_main })
         ∷ Some (record { rule = 2; priority = None; link = 4; to = Open }) ∷ [] }
-    ensures all { (network : Project) → IsTown network
-        → map (λ link. best_offer link (offers_from 0 network.rules.list (true ∷ true ∷ true ∷ true ∷ []))) numbers
+    ensures all { (project : Project) → IsTown project
+        → map (λ link. best_offer link (offers_from 0 project.rules.list (true ∷ true ∷ true ∷ true ∷ []))) numbers
         ≡ Some (record { rule = 3; priority = None; link = 0; to = Speed (pos 500000000) })
         ∷ Some (record { rule = 0; priority = Some (pos 2000000000); link = 1; to = fast_filling }) ∷ None
         ∷ Some (record { rule = 1; priority = Some (pos 1000000000); link = 3; to = night_main })
         ∷ Some (record { rule = 2; priority = None; link = 4; to = unthrottled }) ∷ [] }
-    ensures none { (network : Project) → IsTown network
-        → map (λ link. best_offer link (offers_from 0 network.rules.list (false ∷ false ∷ false ∷ false ∷ []))) numbers
+    ensures none { (project : Project) → IsTown project
+        → map (λ link. best_offer link (offers_from 0 project.rules.list (false ∷ false ∷ false ∷ false ∷ []))) numbers
         ≡ None ∷ None ∷ None ∷ None ∷ Some (record { rule = 2; priority = None; link = 4; to = Open }) ∷ [] }
 {}
 
 /// What the rules change of each link, and of all.
 pub fn changed()
-    ensures three { (network : Project) → IsTown network
-        → map (λ link. change_of network (true ∷ true ∷ false ∷ false
-        ∷ []) link (state_of_link (links_at network standing_when_full) link)) numbers
+    ensures three { (project : Project) → IsTown project
+        → map (λ link. change_of project (true ∷ true ∷ false ∷ false
+        ∷ []) link (state_of_link (links_at project standing_when_full) link)) numbers
         ≡ None ∷ Some (record { source = ByRule 0; link = 1; to = fast_filling }) ∷ None
         ∷ Some (record { source = ByRule 1; link = 3; to = night_main }) ∷ Some (record {
           source = ByRule 2;
           link = 4;
           to = Open;
         }) ∷ [] }
-    ensures three_in_order { (network : Project) → IsTown network
-        → rule_changes network (true ∷ true ∷ false ∷ false ∷ []) (links_at network standing_when_full)
+    ensures three_in_order { (project : Project) → IsTown project
+        → rule_changes project (true ∷ true ∷ false ∷ false ∷ []) (links_at project standing_when_full)
         ≡ record { source = ByRule 0; link = 1; to = fast_filling } ∷ record {
           source = ByRule 1;
           link = 3;
           to = night_main;
         }
         ∷ record { source = ByRule 2; link = 4; to = Open } ∷ [] }
-    ensures all { (network : Project) → IsTown network
-        → map (λ link. change_of network (true ∷ true ∷ true ∷ true
-        ∷ []) link (state_of_link (links_at network standing_when_full) link)) numbers
+    ensures all { (project : Project) → IsTown project
+        → map (λ link. change_of project (true ∷ true ∷ true ∷ true
+        ∷ []) link (state_of_link (links_at project standing_when_full) link)) numbers
         ≡ Some (record { source = ByRule 3; link = 0; to = Speed (pos 500000000) })
         ∷ Some (record { source = ByRule 0; link = 1; to = fast_filling }) ∷ None
         ∷ Some (record { source = ByRule 1; link = 3; to = night_main }) ∷ None ∷ [] }
-    ensures all_in_order { (network : Project) → IsTown network
-        → rule_changes network (true ∷ true ∷ true ∷ true ∷ []) (links_at network standing_when_full)
+    ensures all_in_order { (project : Project) → IsTown project
+        → rule_changes project (true ∷ true ∷ true ∷ true ∷ []) (links_at project standing_when_full)
         ≡ record { source = ByRule 3; link = 0; to = Speed (pos 500000000) } ∷ record {
           source = ByRule 0;
           link = 1;
           to = fast_filling;
         }
         ∷ record { source = ByRule 1; link = 3; to = night_main } ∷ [] }
-    ensures none { (network : Project) → IsTown network
-        → map (λ link. change_of network (false ∷ false ∷ false ∷ false
-        ∷ []) link (state_of_link (links_at network standing_when_full) link)) numbers
+    ensures none { (project : Project) → IsTown project
+        → map (λ link. change_of project (false ∷ false ∷ false ∷ false
+        ∷ []) link (state_of_link (links_at project standing_when_full) link)) numbers
         ≡ None ∷ None ∷ None ∷ None ∷ Some (record { source = ByRule 2; link = 4; to = Open }) ∷ [] }
-    ensures none_in_order { (network : Project) → IsTown network
-        → rule_changes network (false ∷ false ∷ false ∷ false ∷ []) (links_at network standing_when_full)
+    ensures none_in_order { (project : Project) → IsTown project
+        → rule_changes project (false ∷ false ∷ false ∷ false ∷ []) (links_at project standing_when_full)
         ≡ record { source = ByRule 2; link = 4; to = Open } ∷ [] }
 {}
 

@@ -1,7 +1,7 @@
 -- A text that is at fault goes on to no certificate, and the lines before do.
 use Rattle.std.proofs.Common.{◌≡◌, ◌≢◌, ℕ, suc, ◌+◌, ◌/◌, ◌<◌, List, [], ◌∷◌, ◌++◌, get_or, Option, Some, None, refl}
-use Rattle.std.proofs.Common.{sym, ap, ◌∙◌, subst, inl, inr, codes, append_assoc, arith, zero, ◌≤◌, ◌^◌, pos, Bool}
-use Rattle.std.proofs.Common.{true, false, nat_lt, ◌==◌, if◌then◌else◌}
+use Rattle.std.proofs.Common.{sym, ap, ◌∙◌, subst, inl, inr, codes, append_assoc, arith, zero, ◌≤◌, pos, Bool, true}
+use Rattle.std.proofs.Common.{false, nat_lt, ◌==◌, if◌then◌else◌}
 use Rattle.std.specs.Fmt.{decimal, signed_decimal}
 use Rattle.std.proofs.lemmas.Int.{ints}
 use Rattle.std.proofs.lemmas.Bool.Decides.{Decides-ltb}
@@ -10,20 +10,16 @@ use Rattle.hyd_cert.specs.Lines.{Header, IsHeaderLine, end_word}
 use Rattle.hyd_io.specs.DeskBytes.{prepend_known}
 use Rattle.hyd_cert.specs.TextsWithoutLine.{HasNo}
 use Rattle.hyd_cert.specs.PlacesOfLines.{Place, First, Between, Head, Over, CanStand, MayStand, IsFault, here, later}
-use Rattle.hyd_cert.specs.PlacesOfLines.{front_at}
-use Rattle.hyd_cert.specs.PlacesOfLines.{heads_in, place_after, Goes, ends, goes}
+use Rattle.hyd_cert.specs.PlacesOfLines.{front_at, heads_in, place_after, Goes, ends, goes}
+use Rattle.hyd_lemmas.proofs.ListsAndOptions.{same_item}
+use Rattle.hyd_theorems_on_definitions.proofs.CertificateLines.{decimal-same}
 use Rattle.hyd_cert.proofs.Pieces.{cut-same}
 use Rattle.std.proofs.lemmas.Bool.{eqb-true}
 use Rattle.std.proofs.lemmas.List.{append_cancel_left}
-use Rattle.std.proofs.lemmas.Fmt.{decimal_is_IsNumeral_wide}
-use Rattle.std.specs.Str.Parse.{digits_value}
 use Rattle.hyd_cert.specs.PlacesOfLines.{Lacks}
 use Rattle.hyd_cert.specs.FaultyLine.{IsLines, HasFirstLine, ended, unended}
 use Rattle.hyd_cert.proofs.LineLemmas.{header_is_line, next_is_line, head_is_line, known_short, wide_free}
 use Rattle.hyd_cert.proofs.HeadLemmas.{is_front, end_is}
-
-some_same : (a b : List ℕ) → Some a ≡ Some b → a ≡ b
-some_same a b e = cc
 
 -- a line that can stand has no line feed
 pub stands_alone : (header : Header) (place next : Place) (l : List ℕ) → CanStand header place l next → HasNo 10 l
@@ -87,11 +83,7 @@ pub record HasRest (a : List ℕ) (rest : Option (List ℕ)) (text : List ℕ) :
 pub has_rest : (a : List ℕ) (rest : Option (List ℕ)) (text : List ℕ) → prepend_known a rest ≡ Some text
     → HasRest a rest text
 has_rest a None text e = absurd (cc)
-has_rest a (Some left) text e = record { left = left; told = refl; whole = sym (some_same (a ++ left) text e) }
-
-over_empty : (header : Header) (place : Place) (text : List ℕ) → Goes header place text → place ≡ Over → text ≡ []
-over_empty header _ _ ends e = refl
-over_empty header _ _ (goes line can rest) e = absurd (none_over header _ _ line e can)
+has_rest a (Some left) text e = record { left = left; told = refl; whole = sym (same_item _ (a ++ left) text e) }
 
 -- a text at fault doesn't go on to the end
 pub no_certificate : (header : Header) (place : Place) (t : Option (List ℕ)) (number : ℕ) (text : List ℕ)
@@ -162,10 +154,6 @@ can_go_on header Over line is = record { text = []; goes_on = ends }
 
 -- ---- one header for a line
 
-number_same : (m n : ℕ) → m < 10 ^ 64 → n < 10 ^ 64 → decimal m ≡ decimal n → m ≡ n
-number_same m n fits_m fits_n e = sym (decimal_is_IsNumeral_wide m fits_m).1
-    ∙ (ap (digits_value 10) e ∙ (decimal_is_IsNumeral_wide n fits_n).1)
-
 pub header_same : (header other : Header) (l m : List ℕ) → IsHeaderLine header l → IsHeaderLine other m → l ≡ m
     → header ≡ other
 header_same header other l m p q e =
@@ -180,12 +168,12 @@ header_same header other l m p q e =
     let second = cut-same 32 (decimal header.junctions) (decimal other.junctions) (decimal header.tanks)
     (decimal other.tanks) (wide_free 32 header.junctions (omega arith) p.junctions_fit)
     (wide_free 32 other.junctions (omega arith) q.junctions_fit) first.1 in
-    ap (λ v. record header { version = v }) (number_same header.version other.version version version' first.0)
+    ap (λ v. record header { version = v }) (decimal-same header.version other.version version version' first.0)
     ∙ (ap (λ n. record other {
       junctions = n;
       tanks = header.tanks;
-    }) (number_same header.junctions other.junctions p.junctions_fit q.junctions_fit second.0)
-    ∙ ap (λ k. record other { tanks = k }) (number_same header.tanks other.tanks p.tanks_fit q.tanks_fit second.1))
+    }) (decimal-same header.junctions other.junctions p.junctions_fit q.junctions_fit second.0)
+    ∙ ap (λ k. record other { tanks = k }) (decimal-same header.tanks other.tanks p.tanks_fit q.tanks_fit second.1))
 
 -- ---- the first line that is at fault
 

@@ -19,6 +19,7 @@ use Rattle.hyd_cert.specs.PlacesOfLines.{Lacks}
 use Rattle.hyd_cert.specs.Faults.{IsFront, IsLineFault}
 use Rattle.hyd_cert.specs.NextLine.{IsPeriodOrEnd}
 use Rattle.hyd_cert.specs.Lines.{Header, IsHeadLine, IsPeriodLine, IsEndLine, IsHeaderLine, end_word}
+use Rattle.hyd_lemmas.proofs.ListsAndOptions.{same_item}
 use Rattle.hyd_cert.proofs.Numerals.{short_numeral}
 use Rattle.hyd_cert.proofs.Pieces.{cut-same, has_none}
 
@@ -196,9 +197,6 @@ line_fault_of IsSuch IsOther line text before now (Grammar number) all h =
     (h.0, λ l rest is. h.1 l rest (all l is), h.2)
 line_fault_of IsSuch IsOther line text before now (Count number) all h = h
 
-some_same : (a b : List ℕ) → Some a ≡ Some b → a ≡ b
-some_same a b e = cc
-
 -- a text that begins with another line
 pub other_lacks : (IsSuch : List ℕ → Type 0) (held first more : List ℕ) (old new : Option (List ℕ))
     → ((l : List ℕ) → IsSuch l → HasNo 10 l × (length l < 64))
@@ -206,7 +204,7 @@ pub other_lacks : (IsSuch : List ℕ → Type 0) (held first more : List ℕ) (o
     → prepend_known held new ≡ old → Lacks IsSuch old
 other_lacks IsSuch held first more old None lines cut free apart same l after is e = absurd (cc (same, e))
 other_lacks IsSuch held first more old (Some known) lines cut free apart same l after is e =
-    let whole : held ++ known ≡ l ++ (10 ∷ after) = some_same (held ++ known) (l ++ (10 ∷ after)) (same ∙ e) in
+    let whole : held ++ known ≡ l ++ (10 ∷ after) = same_item _ (held ++ known) (l ++ (10 ∷ after)) (same ∙ e) in
     let text : first ++ (10 ∷ (more ++ known)) ≡ l ++ (10 ∷ after) = sym (append_assoc first (10 ∷ more) known)
     ∙ (ap (λ h. h ++ known) (sym cut) ∙ whole) in
     apart l is (cut-same 10 first l (more ++ known) after free (lines l is).0 text).0
@@ -293,5 +291,5 @@ none_of_both line a b l (inr p) e = b l p e
 pub not_over : (held : List ℕ) (rest : Option (List ℕ)) → 0 < length held → prepend_known held rest ≢ Some []
 not_over held None some e = absurd (cc)
 not_over [] (Some rest) some e = absurd (omega arith)
-not_over (c ∷ held) (Some rest) some e = let same : c ∷ (held ++ rest) ≡ [] = some_same (c ∷ (held ++ rest)) [] e in
+not_over (c ∷ held) (Some rest) some e = let same : c ∷ (held ++ rest) ≡ [] = same_item _ (c ∷ (held ++ rest)) [] e in
     absurd (cc)

@@ -16,10 +16,10 @@ use Rattle.hyd_spec_reports.specs.CertificateText.{IsCertificateText, certificat
 use Rattle.hyd_cert.specs.Lines.{Header, header_text, IsHeaderLine, IsPeriodLine, IsHeadLine, IsEndLine, end_word}
 use Rattle.hyd_cert.specs.Lines.{header_words}
 use Rattle.hyd_cert.specs.PlacesOfLines.{Place, First, Between, Head, Over, CanStand, IsFault, later, front_at}
-use Rattle.hyd_cert.specs.PlacesOfLines.{heads_in}
-use Rattle.hyd_cert.specs.PlacesOfLines.{place_after, head_text, Goes, ends, goes}
+use Rattle.hyd_cert.specs.PlacesOfLines.{heads_in, place_after, head_text, Goes, ends, goes}
 use Rattle.hyd_cert.specs.Vectors.{AreVectors, two_vectors, behind_two, problems_in}
 use Rattle.hyd_cert.specs.FaultyLine.{IsCertificate, lines_of, BeginsWith}
+use Rattle.hyd_lemmas.proofs.Trials.{nat-lt-no}
 use Rattle.hyd_cert.proofs.HeadLemmas.{place_head, period_is, end_is}
 use Rattle.hyd_cert.proofs.VectorLemmas.{row_with, row_text, row_is}
 
@@ -269,9 +269,6 @@ no_heads header i text e others = record {
   others = others;
 }
 
-not_less : (a b : ℕ) → nat_lt a b ≡ false → b ≤ a
-not_less a b e = search (arith, e)
-
 heads_by_test : (header : Header) (i : ℕ) (text : List ℕ) (b : Bool)
     → nat_lt i (heads_in header.junctions header.tanks) ≡ b → i ≤ heads_in header.junctions header.tanks
     → ReadFrom header (place_after (heads_in header.junctions header.tanks) i) text → HeadsOn header i text
@@ -281,7 +278,7 @@ heads_by_test header i text true e within reads =
     subst (λ (p : Place). ReadFrom header p text) (place_head heads i less) reads less
 heads_by_test header i text false e within reads =
     let heads = heads_in header.junctions header.tanks in
-    let far : heads ≤ i = not_less i heads e in
+    let far : heads ≤ i = nat-lt-no i heads e in
     no_heads header i text (omega (arith, far, within)) (subst (λ (p : Place). ReadFrom header p text)
     (place_end heads i far) reads)
 
@@ -392,9 +389,9 @@ goes_certificate header text goes_on = read_from header First text goes_on
 
 -- ---- a fault behind records
 
-nothing : (o : Option (List ℕ)) → prepend_known [] o ≡ o
-nothing None = refl
-nothing (Some xs) = refl
+pub nothing-before : (o : Option (List ℕ)) → prepend_known [] o ≡ o
+nothing-before None = refl
+nothing-before (Some xs) = refl
 
 line_fault : (header : Header) (place next : Place) (line : List ℕ) (text rest : Option (List ℕ)) (number : ℕ)
     → CanStand header place line next → text ≡ prepend_known (line ++ (10 ∷ [])) rest
@@ -412,7 +409,7 @@ heads_fault header i [] text rest number within box e fault =
     let here : i + length {A = ℤ} [] ≡ i = omega arith in
     let count : number ≡ length {A = ℤ} [] + number = omega arith in
     subst (λ (t : Option (List ℕ)). IsFault header (place_after heads i) t (length {A = ℤ} [] + number))
-    (sym (e ∙ nothing rest))
+    (sym (e ∙ nothing-before rest))
     (subst (λ (k : ℕ). IsFault header (place_after heads i) rest k) count
     (subst (λ (k : ℕ). IsFault header (place_after heads k) rest number) here fault))
 heads_fault header i (u ∷ us) text rest number within box e fault =
@@ -466,7 +463,7 @@ rows_fault header [] text rest number all e fault =
     let lines = 1 + heads_in header.junctions header.tanks in
     let count : number ≡ length {A = Row} [] * lines + number = omega arith in
     subst (λ (t : Option (List ℕ)). IsFault header Between t (length {A = Row} [] * lines + number))
-    (sym (e ∙ nothing rest))
+    (sym (e ∙ nothing-before rest))
     (subst (λ (k : ℕ). IsFault header Between rest k) count fault)
 rows_fault header (row ∷ rows) text rest number all e fault =
     let IsGood = IsRow header.junctions header.tanks in

@@ -1,6 +1,6 @@
 -- What a fault says of the whole text.
-use Rattle.std.proofs.Common.{◌≡◌, ◌≢◌, ℕ, zero, suc, ◌+◌, ◌<◌, ◌==◌, Bool, true, false, if◌then◌else◌, ◌⊎◌, List, []}
-use Rattle.std.proofs.Common.{◌∷◌, ◌++◌, Option, Some, refl, sym, ap, ap₂, subst, ◌∙◌, append_assoc, inl, inr, arith}
+use Rattle.std.proofs.Common.{◌≡◌, ◌≢◌, ℕ, suc, ◌+◌, ◌<◌, ◌==◌, Bool, true, false, if◌then◌else◌, ◌⊎◌, List, [], ◌∷◌}
+use Rattle.std.proofs.Common.{◌++◌, Option, Some, refl, sym, ap, ap₂, subst, ◌∙◌, append_assoc, inl, inr, arith}
 use Rattle.std.proofs.lemmas.Bool.{eqb-true}
 use Rattle.hyd_spec_reports.specs.CertificateText.{line_feeds}
 use Rattle.hyd_cert.specs.Lines.{Header, IsHeaderLine}
@@ -9,14 +9,12 @@ use Rattle.hyd_cert.specs.PlacesOfLines.{Place, First, Between, MayStand, IsFaul
 use Rattle.hyd_cert.specs.PlacesOfLines.{goes}
 use Rattle.hyd_cert.specs.Faults.{HasOtherHeader}
 use Rattle.hyd_cert.specs.FaultyLine.{IsCertificate, IsLines, HasFirstLine, ended, unended, IsFirstFault}
+use Rattle.hyd_lemmas.proofs.Trials.{equal_by_order}
 use Rattle.hyd_cert.proofs.Pieces.{cut-same, has_none}
 use Rattle.hyd_cert.proofs.LineLemmas.{header_is_line}
 use Rattle.hyd_cert.proofs.GoesLemmas.{HasRest, between_goes, can_go_on, FaultFrom, fault_from, later_fault}
 use Rattle.hyd_cert.proofs.GoesLemmas.{no_certificate, GoesOn, opened, has_rest, header_same, goes_behind}
 use Rattle.hyd_cert.proofs.ReadingLemmas.{certificate_goes, goes_certificate}
-
-some_same : (a b : List ℕ) → Some a ≡ Some b → a ≡ b
-some_same a b e = cc
 
 -- a certificate, seen from its header line
 first_line : (other : Header) (text : List ℕ) → IsCertificate other text → GoesOn other First text
@@ -174,7 +172,7 @@ pub fault_no_certificate : (header other : Header) (text : List ℕ) (number : �
 fault_no_certificate header other text number k certificate = k.stops other k.rest
     (own_line k.rest (first_feed k.rest)) (subst (IsCertificate other) k.parts certificate)
 
-feeds_append : (a b : List ℕ) → line_feeds (a ++ b) ≡ line_feeds a + line_feeds b
+pub feeds_append : (a b : List ℕ) → line_feeds (a ++ b) ≡ line_feeds a + line_feeds b
 feeds_append [] b = omega arith
 feeds_append (c ∷ a) b = let k = feeds_append a b in omega (arith, k)
 
@@ -246,13 +244,6 @@ not_earlier header text a b k m less = go (prefixes k.front k.rest m.front m.res
     go : Begins k.front k.rest m.front m.rest ⊎ Begins m.front m.rest k.front k.rest → ⊥
     go (inl begins) = not_before header text a b k m begins less
     go (inr begins) = fewer header text a b k m begins less
-
-equal_by_order : (a b : ℕ) → (a < b → ⊥) → (b < a → ⊥) → a ≡ b
-equal_by_order zero zero low high = refl
-equal_by_order zero (suc b) low high = absurd (low (omega arith))
-equal_by_order (suc a) zero low high = absurd (high (omega arith))
-equal_by_order (suc a) (suc b) low high = ap suc (equal_by_order a b (λ less. low (omega (arith, less)))
-    (λ less. high (omega (arith, less))))
 
 pub one_fault : (header : Header) (text : List ℕ) (a b : ℕ) → IsFirstFault header text a → IsFirstFault header text b
     → a ≡ b

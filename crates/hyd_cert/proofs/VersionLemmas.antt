@@ -10,5 +10,5 @@ use Rattle.hyd_spec_reports.specs.CertificateText.{version_of}
 abbrev pub IsNew : Tank → Bool
 IsNew tank = is_some tank.shape || tank.overflow
 
-pub first_version : (network : Project) → All (λ tank. IsNew tank ≡ false) network.tanks.list → 1 ≡ version_of network
-first_version network none = sym (ap (λ (b : Bool). if b then 2 else 1) (list_any_none IsNew network.tanks.list none))
+pub first_version : (project : Project) → All (λ tank. IsNew tank ≡ false) project.tanks.list → 1 ≡ version_of project
+first_version project none = sym (ap (λ (b : Bool). if b then 2 else 1) (list_any_none IsNew project.tanks.list none))

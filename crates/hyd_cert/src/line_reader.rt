@@ -2,15 +2,14 @@
 
 ghost use Rattle.std.specs.Prelude.{◌≡◌, ◌≢◌, ℕ, ◌+◌, ◌-◌, ◌<◌, ◌≤◌, List, [], ◌∷◌, ◌++◌, length, take, drop};
 ghost use Rattle.std.specs.Prelude.{slice_index, false, IsTrue, Some, IfSome, IfNone, IfOk, OnOk, OnErr};
+ghost use Rattle.hyd_io.specs.Buffers.{buffer_bytes};
 ghost use Rattle.hyd_io.specs.DeskBytes.{where_told, prepend_known};
-ghost use Rattle.hyd_io.specs.FailureCounts.{NeverFall, with_read_fault};
+ghost use Rattle.hyd_io.specs.FailureCounts.{with_read_fault};
+ghost use Rattle.hyd_io.specs.Keeping.{KeepsOutput};
 ghost use Rattle.hyd_cert.specs.TextsWithoutLine.{HasNo, HasNoLine};
 
-use hyd_io::{Desk, Failed};
+use hyd_io::{BUFFER_BYTES, Desk, Failed};
 use std::marker::Model;
-
-/// How many bytes a source reads ahead at most.
-const SIZE: usize = 8192;
 
 /// How many bytes a line has at most, with its line feed.
 const LINE: usize = 64;
@@ -18,19 +17,20 @@ const LINE: usize = 64;
 /// Bytes that were read ahead.
 #[derive(Drop)]
 pub(crate) struct Source {
-    block: [u8; SIZE],
+    block: [u8; BUFFER_BYTES],
     at: usize,
     end: usize,
 }
 
 impl Model for Source {
     ghost use Rattle.std.specs.Prelude.{List, ℕ, ◌-◌, ◌≤◌, take, drop};
+    ghost use Rattle.hyd_io.specs.Buffers.{buffer_bytes};
 
     ghost Value = { List ℕ };
 
     ghost view = { λ s. take (s.end - s.at) (drop s.at s.block) };
 
-    ghost invariant = { λ s. (s.at ≤ s.end) × (s.end ≤ 8192) };
+    ghost invariant = { λ s. (s.at ≤ s.end) × (s.end ≤ buffer_bytes) };
 }
 
 impl Source {
@@ -39,7 +39,7 @@ impl Source {
         ensures { result ≡ [] }
     {
         Source {
-            block: [0; SIZE],
+            block: [0; BUFFER_BYTES],
             at: 0,
             end: 0,
         }
@@ -70,13 +70,8 @@ impl Source {
         ensures idle { IfOk result (λ n. n ≡ 0 → self.new ≡ self.old) }
         ensures fault { OnErr result (D.counts desk.new ≡ with_read_fault (D.counts desk.old)) }
         ensures steady { OnOk result (D.counts desk.new ≡ D.counts desk.old) }
-        ensures never_fall { NeverFall (D.counts desk.old) (D.counts desk.new) }
-        ensures files_stay { D.files desk.new ≡ D.files desk.old }
-        ensures written_stays { D.written desk.new ≡ D.written desk.old }
-        ensures printed_stays { D.printed desk.new ≡ D.printed desk.old }
-        ensures target_stays { D.target desk.new ≡ D.target desk.old }
-        ensures ready_stays { D.ready desk.new ≡ D.ready desk.old }
-        ensures openings_stay { D.openings desk.new ≡ D.openings desk.old }
+        ensures stays { KeepsOutput D.files D.written D.printed D.target D.ready D.counts D.openings
+            desk.old desk.new }
     {
         let held = move_to_front(&mut self.block, self.at, self.end);
         self.at = 0;
@@ -102,13 +97,8 @@ impl Source {
         ensures none { IfOk result (λ o. IfNone o (HasNoLine (prepend_known self.new (D.rest desk.new)))) }
         ensures fault { OnErr result (D.counts desk.new ≡ with_read_fault (D.counts desk.old)) }
         ensures steady { OnOk result (D.counts desk.new ≡ D.counts desk.old) }
-        ensures never_fall { NeverFall (D.counts desk.old) (D.counts desk.new) }
-        ensures files_stay { D.files desk.new ≡ D.files desk.old }
-        ensures written_stays { D.written desk.new ≡ D.written desk.old }
-        ensures printed_stays { D.printed desk.new ≡ D.printed desk.old }
-        ensures target_stays { D.target desk.new ≡ D.target desk.old }
-        ensures ready_stays { D.ready desk.new ≡ D.ready desk.old }
-        ensures openings_stay { D.openings desk.new ≡ D.openings desk.old }
+        ensures stays { KeepsOutput D.files D.written D.printed D.target D.ready D.counts D.openings
+            desk.old desk.new }
     {
         loop {
             let held = self.held();
@@ -137,13 +127,8 @@ impl Source {
         ensures more { IfOk result (λ over. over ≡ false → prepend_known self.old (D.rest desk.old) ≢ Some []) }
         ensures fault { OnErr result (D.counts desk.new ≡ with_read_fault (D.counts desk.old)) }
         ensures steady { OnOk result (D.counts desk.new ≡ D.counts desk.old) }
-        ensures never_fall { NeverFall (D.counts desk.old) (D.counts desk.new) }
-        ensures files_stay { D.files desk.new ≡ D.files desk.old }
-        ensures written_stays { D.written desk.new ≡ D.written desk.old }
-        ensures printed_stays { D.printed desk.new ≡ D.printed desk.old }
-        ensures target_stays { D.target desk.new ≡ D.target desk.old }
-        ensures ready_stays { D.ready desk.new ≡ D.ready desk.old }
-        ensures openings_stay { D.openings desk.new ≡ D.openings desk.old }
+        ensures stays { KeepsOutput D.files D.written D.printed D.target D.ready D.counts D.openings
+            desk.old desk.new }
     {
         if !self.held().is_empty() {
             return Ok(false);
@@ -156,9 +141,9 @@ impl Source {
 }
 
 /// Moves the bytes from `at` to `end` to the front, and returns how many they are.
-fn move_to_front(block: &mut [u8; SIZE], at: usize, end: usize) -> usize
+fn move_to_front(block: &mut [u8; BUFFER_BYTES], at: usize, end: usize) -> usize
     requires order { at ≤ end }
-    requires within { end ≤ SIZE }
+    requires within { end ≤ buffer_bytes }
     ensures count { result ≡ end - at }
     ensures moved { take result block.new ≡ take result (drop at block.old) }
 {
@@ -167,22 +152,21 @@ fn move_to_front(block: &mut [u8; SIZE], at: usize, end: usize) -> usize
 }
 
 /// Reads into the block behind the first `used` bytes, and returns how many bytes.
-fn read_behind<D: Desk>(desk: &mut D, block: &mut [u8; SIZE], used: usize) -> Result<usize, Failed>
-    requires room { used < SIZE }
-    ensures within { IfOk result (λ n. used + n ≤ SIZE) }
+fn read_behind<D: Desk>(
+    desk: &mut D,
+    block: &mut [u8; BUFFER_BYTES],
+    used: usize,
+) -> Result<usize, Failed>
+    requires room { used < buffer_bytes }
+    ensures within { IfOk result (λ n. used + n ≤ buffer_bytes) }
     ensures same { IfOk result (λ n. prepend_known (take (used + n) block.new) (D.rest desk.new)
         ≡ prepend_known (take used block.old) (D.rest desk.old)) }
     ensures idle { IfOk result (λ n. n ≡ 0 → take used block.new ≡ take used block.old) }
     ensures end { IfOk result (λ n. n ≡ 0 → D.rest desk.old ≡ where_told (D.rest desk.old) []) }
     ensures fault { OnErr result (D.counts desk.new ≡ with_read_fault (D.counts desk.old)) }
     ensures steady { OnOk result (D.counts desk.new ≡ D.counts desk.old) }
-    ensures never_fall { NeverFall (D.counts desk.old) (D.counts desk.new) }
-    ensures files_stay { D.files desk.new ≡ D.files desk.old }
-    ensures written_stays { D.written desk.new ≡ D.written desk.old }
-    ensures printed_stays { D.printed desk.new ≡ D.printed desk.old }
-    ensures target_stays { D.target desk.new ≡ D.target desk.old }
-    ensures ready_stays { D.ready desk.new ≡ D.ready desk.old }
-    ensures openings_stay { D.openings desk.new ≡ D.openings desk.old }
+    ensures stays { KeepsOutput D.files D.written D.printed D.target D.ready D.counts D.openings
+        desk.old desk.new }
 {
     match desk.read(&mut block[used..]) {
         Ok(n) => Ok(n),

@@ -4,7 +4,8 @@ ghost use Rattle.std.specs.Prelude.{◌≡◌, ◌≢◌, ℕ, ◌+◌, ◌<◌,
 ghost use Rattle.std.specs.Prelude.{slice_set, Some, All, IfOk, IfErr, OnOk};
 ghost use Rattle.std.specs.Fmt.{signed_decimal};
 ghost use Rattle.hyd_io.specs.DeskBytes.{where_told, prepend_known};
-ghost use Rattle.hyd_io.specs.FailureCounts.{NeverFall, with_read_fault};
+ghost use Rattle.hyd_io.specs.FailureCounts.{with_read_fault};
+ghost use Rattle.hyd_io.specs.Keeping.{KeepsOutput};
 ghost use Rattle.hyd_spec_certificates.specs.Certificate.{IsInBox};
 ghost use Rattle.hyd_spec_reports.specs.CertificateText.{IsRow, record_text, end_line};
 ghost use Rattle.hyd_cert.specs.TextsWithoutLine.{HasNo};
@@ -55,13 +56,8 @@ impl Lines {
             (prepend_known self.old.source (D.rest desk.old)) (D.counts desk.old) (D.counts desk.new) f) }
         ensures line { self.new.line ≡ self.old.line }
         ensures steady { OnOk result (D.counts desk.new ≡ D.counts desk.old) }
-        ensures never_fall { NeverFall (D.counts desk.old) (D.counts desk.new) }
-        ensures files_stay { D.files desk.new ≡ D.files desk.old }
-        ensures written_stays { D.written desk.new ≡ D.written desk.old }
-        ensures printed_stays { D.printed desk.new ≡ D.printed desk.old }
-        ensures target_stays { D.target desk.new ≡ D.target desk.old }
-        ensures ready_stays { D.ready desk.new ≡ D.ready desk.old }
-        ensures openings_stay { D.openings desk.new ≡ D.openings desk.old }
+        ensures stays { KeepsOutput D.files D.written D.printed D.target D.ready D.counts D.openings
+            desk.old desk.new }
     {
         match self.source.line(desk) {
             Err(_) => Err(CertFault::Read),
@@ -93,13 +89,8 @@ impl Lines {
         ensures fault { IfErr result (λ f. IsLineFault (IsHeadLine front.now) self.old.line
             (prepend_known self.old.source (D.rest desk.old)) (D.counts desk.old) (D.counts desk.new) f) }
         ensures steady { OnOk result (D.counts desk.new ≡ D.counts desk.old) }
-        ensures never_fall { NeverFall (D.counts desk.old) (D.counts desk.new) }
-        ensures files_stay { D.files desk.new ≡ D.files desk.old }
-        ensures written_stays { D.written desk.new ≡ D.written desk.old }
-        ensures printed_stays { D.printed desk.new ≡ D.printed desk.old }
-        ensures target_stays { D.target desk.new ≡ D.target desk.old }
-        ensures ready_stays { D.ready desk.new ≡ D.ready desk.old }
-        ensures openings_stay { D.openings desk.new ≡ D.openings desk.old }
+        ensures stays { KeepsOutput D.files D.written D.printed D.target D.ready D.counts D.openings
+            desk.old desk.new }
     {
         let n = match self.next_line(desk) {
             Ok(n) => n,
@@ -130,13 +121,8 @@ impl Lines {
             → length into.old ≡ heads_in junctions header.tanks → IsHeadsFault header self.old.line
             (prepend_known self.old.source (D.rest desk.old)) (D.counts desk.old) (D.counts desk.new) f) }
         ensures steady { OnOk result (D.counts desk.new ≡ D.counts desk.old) }
-        ensures never_fall { NeverFall (D.counts desk.old) (D.counts desk.new) }
-        ensures files_stay { D.files desk.new ≡ D.files desk.old }
-        ensures written_stays { D.written desk.new ≡ D.written desk.old }
-        ensures printed_stays { D.printed desk.new ≡ D.printed desk.old }
-        ensures target_stays { D.target desk.new ≡ D.target desk.old }
-        ensures ready_stays { D.ready desk.new ≡ D.ready desk.old }
-        ensures openings_stay { D.openings desk.new ≡ D.openings desk.old }
+        ensures stays { KeepsOutput D.files D.written D.printed D.target D.ready D.counts D.openings
+            desk.old desk.new }
     {
         for i in 0..into.len() {
             match self.head(desk, front_of(i / junctions)) {
@@ -155,13 +141,8 @@ impl Lines {
         ensures fault { IfErr result (IsHeaderFault (header_of row.now) self.old.line
             (prepend_known self.old.source (D.rest desk.old)) (D.counts desk.old) (D.counts desk.new)) }
         ensures steady { OnOk result (D.counts desk.new ≡ D.counts desk.old) }
-        ensures never_fall { NeverFall (D.counts desk.old) (D.counts desk.new) }
-        ensures files_stay { D.files desk.new ≡ D.files desk.old }
-        ensures written_stays { D.written desk.new ≡ D.written desk.old }
-        ensures printed_stays { D.printed desk.new ≡ D.printed desk.old }
-        ensures target_stays { D.target desk.new ≡ D.target desk.old }
-        ensures ready_stays { D.ready desk.new ≡ D.ready desk.old }
-        ensures openings_stay { D.openings desk.new ≡ D.openings desk.old }
+        ensures stays { KeepsOutput D.files D.written D.printed D.target D.ready D.counts D.openings
+            desk.old desk.new }
     {
         let n = match self.next_line(desk) {
             Ok(n) => n,
@@ -191,13 +172,8 @@ impl Lines {
         ensures fault { IfErr result (λ f. IsLineFault IsPeriodOrEnd self.old.line
             (prepend_known self.old.source (D.rest desk.old)) (D.counts desk.old) (D.counts desk.new) f) }
         ensures steady { OnOk result (D.counts desk.new ≡ D.counts desk.old) }
-        ensures never_fall { NeverFall (D.counts desk.old) (D.counts desk.new) }
-        ensures files_stay { D.files desk.new ≡ D.files desk.old }
-        ensures written_stays { D.written desk.new ≡ D.written desk.old }
-        ensures printed_stays { D.printed desk.new ≡ D.printed desk.old }
-        ensures target_stays { D.target desk.new ≡ D.target desk.old }
-        ensures ready_stays { D.ready desk.new ≡ D.ready desk.old }
-        ensures openings_stay { D.openings desk.new ≡ D.openings desk.old }
+        ensures stays { KeepsOutput D.files D.written D.printed D.target D.ready D.counts D.openings
+            desk.old desk.new }
     {
         let n = match self.next_line(desk) {
             Ok(n) => n,
@@ -221,13 +197,8 @@ impl Lines {
             × (D.counts desk.new ≡ with_read_fault (D.counts desk.old))) }
         ensures line { self.new.line ≡ self.old.line }
         ensures steady { OnOk result (D.counts desk.new ≡ D.counts desk.old) }
-        ensures never_fall { NeverFall (D.counts desk.old) (D.counts desk.new) }
-        ensures files_stay { D.files desk.new ≡ D.files desk.old }
-        ensures written_stays { D.written desk.new ≡ D.written desk.old }
-        ensures printed_stays { D.printed desk.new ≡ D.printed desk.old }
-        ensures target_stays { D.target desk.new ≡ D.target desk.old }
-        ensures ready_stays { D.ready desk.new ≡ D.ready desk.old }
-        ensures openings_stay { D.openings desk.new ≡ D.openings desk.old }
+        ensures stays { KeepsOutput D.files D.written D.printed D.target D.ready D.counts D.openings
+            desk.old desk.new }
     {
         match self.source.is_over(desk) {
             Ok(over) => Ok(over),
@@ -297,14 +268,9 @@ impl CertReader {
         ensures again { IsDone self.old.stand
             → (result ≡ answer_of self.old.stand) × (self.new ≡ self.old) × (desk.new ≡ desk.old) }
         ensures header { header_of into.new ≡ header_of into.old }
-        ensures never_fall { NeverFall (D.counts desk.old) (D.counts desk.new) }
         ensures steady { OnOk result (D.counts desk.new ≡ D.counts desk.old) }
-        ensures files_stay { D.files desk.new ≡ D.files desk.old }
-        ensures written_stays { D.written desk.new ≡ D.written desk.old }
-        ensures printed_stays { D.printed desk.new ≡ D.printed desk.old }
-        ensures target_stays { D.target desk.new ≡ D.target desk.old }
-        ensures ready_stays { D.ready desk.new ≡ D.ready desk.old }
-        ensures openings_stay { D.openings desk.new ≡ D.openings desk.old }
+        ensures stays { KeepsOutput D.files D.written D.printed D.target D.ready D.counts D.openings
+            desk.old desk.new }
     {
         let read = match self.stand {
             Stand::Stuck(fault) => return Err(fault),
@@ -369,14 +335,9 @@ fn read_first<D: Desk>(
     ensures no_record { IfErr result (λ fault. OnGrammar fault
         (LacksRecord stand.First (header_of into.old) (prepend_known lines.old.source (D.rest desk.old)))) }
     ensures header { header_of into.new ≡ header_of into.old }
-    ensures never_fall { NeverFall (D.counts desk.old) (D.counts desk.new) }
     ensures steady { OnOk result (D.counts desk.new ≡ D.counts desk.old) }
-    ensures files_stay { D.files desk.new ≡ D.files desk.old }
-    ensures written_stays { D.written desk.new ≡ D.written desk.old }
-    ensures printed_stays { D.printed desk.new ≡ D.printed desk.old }
-    ensures target_stays { D.target desk.new ≡ D.target desk.old }
-    ensures ready_stays { D.ready desk.new ≡ D.ready desk.old }
-    ensures openings_stay { D.openings desk.new ≡ D.openings desk.old }
+    ensures stays { KeepsOutput D.files D.written D.printed D.target D.ready D.counts D.openings
+        desk.old desk.new }
 {
     has_small_counts(into);
     match lines.header(desk, into) {
@@ -404,14 +365,9 @@ fn read_record<D: Desk>(
     ensures no_record { IfErr result (λ fault. OnGrammar fault
         (LacksRecord stand.Between (header_of into.old) (prepend_known lines.old.source (D.rest desk.old)))) }
     ensures header { header_of into.new ≡ header_of into.old }
-    ensures never_fall { NeverFall (D.counts desk.old) (D.counts desk.new) }
     ensures steady { OnOk result (D.counts desk.new ≡ D.counts desk.old) }
-    ensures files_stay { D.files desk.new ≡ D.files desk.old }
-    ensures written_stays { D.written desk.new ≡ D.written desk.old }
-    ensures printed_stays { D.printed desk.new ≡ D.printed desk.old }
-    ensures target_stays { D.target desk.new ≡ D.target desk.old }
-    ensures ready_stays { D.ready desk.new ≡ D.ready desk.old }
-    ensures openings_stay { D.openings desk.new ≡ D.openings desk.old }
+    ensures stays { KeepsOutput D.files D.written D.printed D.target D.ready D.counts D.openings
+        desk.old desk.new }
 {
     match lines.period_or_end(desk) {
         Err(fault) => Err(fault),

@@ -7,8 +7,10 @@ ghost use Rattle.hyd_cert.specs.TextsWithoutLine.{HasNo};
 ghost use Rattle.std.specs.Str.Parse.{AllDigits, digits_value};
 ghost use Rattle.hyd_spec_certificates.specs.Certificate.{IsInBox};
 
+use hyd_spec_certificates::BOX_LIMIT;
+
 /// The greatest magnitude of a head.
-const BOX: u64 = 1_000_000_000_000_000_000;
+const BOX: u64 = BOX_LIMIT as u64;
 
 /// What follows that front of the line, if the line begins with it.
 pub(crate) fn after<'a>(line: &'a [u8], front: &[u8]) -> Option<&'a [u8]>

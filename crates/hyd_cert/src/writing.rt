@@ -1,16 +1,14 @@
 //! Putting out a certificate text.
 
 ghost use Rattle.std.specs.Prelude.{◌≡◌, ◌≢◌, ℕ, ◌+◌, ◌<◌, ◌≤◌, ◌^◌, Bool, false, List, [], ◌∷◌, ◌++◌, length, take};
-ghost use Rattle.std.specs.Prelude.{codes, decimal, Option, Some, None, Err, IfErr, IfSome, IsSome, OnOk, OnErr};
-ghost use Rattle.std.specs.Prelude.{IsTrue, is_some};
+ghost use Rattle.std.specs.Prelude.{codes, decimal, Option, Some, None, IsTrue};
 ghost use Rattle.std.specs.Fmt.{signed_decimal};
 ghost use Rattle.hyd_spec_reports.specs.CertificateText.{period_line, record_text, end_line};
 ghost use Rattle.hyd_cert.specs.Lines.{header_words, header_text, end_word};
 ghost use Rattle.hyd_cert.specs.PlacesOfLines.{front_of, head_text};
 ghost use Rattle.hyd_cert.specs.RecordView.{header_of, row_of};
-ghost use Rattle.hyd_io.specs.DeskBytes.{file_at, Moves, PutOut};
-ghost use Rattle.hyd_io.specs.FailureCounts.{NeverFall};
-ghost use Rattle.hyd_io.specs.Output.{by_channel, OnCert, OnReport, HasOutCause};
+ghost use Rattle.hyd_io.specs.Output.{OnCert};
+ghost use Rattle.hyd_io.specs.Putting.{Puts};
 
 use crate::record::Record;
 use hyd_io::{Desk, OutFault, Pen};
@@ -144,33 +142,8 @@ fn last_words(finished: bool) -> &'static [u8]
 /// Puts the header line, with the record's version and counts. Its faults and its needs are those of `Pen::put`.
 pub fn put_head<D: Desk>(row: &Record, pen: &mut Pen, desk: &mut D) -> Result<(), OutFault>
     requires { OnCert pen.old.to (IsTrue (D.ready desk.old)) }
-    ensures moves { OnOk result (Moves
-        (by_channel pen.old.to (D.written desk.old) (D.printed desk.old))
-        (by_channel pen.old.to (D.written desk.new) (D.printed desk.new))
-        (pen.old.held ++ header_text (header_of row.now)) pen.new.held) }
-    ensures prefix { OnErr result (PutOut
-        (by_channel pen.old.to (D.written desk.old) (D.printed desk.old))
-        (by_channel pen.old.to (D.written desk.new) (D.printed desk.new))
-        (pen.old.held ++ header_text (header_of row.now))) }
-    ensures to_stays { pen.new.to ≡ pen.old.to }
-    ensures no_fault { OnOk result (pen.new.fault ≡ None) }
-    ensures keeps_fault { IfErr result (λ fault. pen.new.fault ≡ Some fault) }
-    ensures again { IfSome pen.old.fault (λ fault. result ≡ Err fault) }
-    ensures does_nothing { IsSome pen.old.fault → (pen.new ≡ pen.old) × (desk.new ≡ desk.old) }
-    ensures cause { pen.old.fault ≡ None → IfErr result (λ fault.
-        HasOutCause pen.old.to fault (D.counts desk.old) (D.counts desk.new)) }
-    ensures steady { OnOk result (D.counts desk.new ≡ D.counts desk.old) }
-    ensures never_fall { NeverFall (D.counts desk.old) (D.counts desk.new) }
-    ensures report_files { OnReport pen.old.to (D.files desk.new ≡ D.files desk.old) }
-    ensures report_written { OnReport pen.old.to (D.written desk.new ≡ D.written desk.old) }
-    ensures cert_printed { OnCert pen.old.to (D.printed desk.new ≡ D.printed desk.old) }
-    ensures others { (other : List ℕ) → D.target desk.old ≢ Some other
-        → file_at (D.files desk.new) other ≡ file_at (D.files desk.old) other }
-    ensures still_told { is_some (D.files desk.new) ≡ is_some (D.files desk.old) }
-    ensures rest_stays { D.rest desk.new ≡ D.rest desk.old }
-    ensures target_stays { D.target desk.new ≡ D.target desk.old }
-    ensures ready_stays { D.ready desk.new ≡ D.ready desk.old }
-    ensures openings_stay { D.openings desk.new ≡ D.openings desk.old }
+    ensures { Puts D.files D.rest D.written D.printed D.target D.ready D.counts D.openings
+        (header_text (header_of row.now)) result pen.old pen.new desk.old desk.new }
 {
     let mut buffer = [0; LINE];
     let used = make_header_line(&mut buffer, row);
@@ -181,33 +154,8 @@ pub fn put_head<D: Desk>(row: &Record, pen: &mut Pen, desk: &mut D) -> Result<()
 /// after a fault, what went out is a front of what was put in before and of the record's lines.
 pub fn put_record<D: Desk>(row: &Record, pen: &mut Pen, desk: &mut D) -> Result<(), OutFault>
     requires { OnCert pen.old.to (IsTrue (D.ready desk.old)) }
-    ensures moves { OnOk result (Moves
-        (by_channel pen.old.to (D.written desk.old) (D.printed desk.old))
-        (by_channel pen.old.to (D.written desk.new) (D.printed desk.new))
-        (pen.old.held ++ record_text (row_of row.now)) pen.new.held) }
-    ensures prefix { OnErr result (PutOut
-        (by_channel pen.old.to (D.written desk.old) (D.printed desk.old))
-        (by_channel pen.old.to (D.written desk.new) (D.printed desk.new))
-        (pen.old.held ++ record_text (row_of row.now))) }
-    ensures to_stays { pen.new.to ≡ pen.old.to }
-    ensures no_fault { OnOk result (pen.new.fault ≡ None) }
-    ensures keeps_fault { IfErr result (λ fault. pen.new.fault ≡ Some fault) }
-    ensures again { IfSome pen.old.fault (λ fault. result ≡ Err fault) }
-    ensures does_nothing { IsSome pen.old.fault → (pen.new ≡ pen.old) × (desk.new ≡ desk.old) }
-    ensures cause { pen.old.fault ≡ None → IfErr result (λ fault.
-        HasOutCause pen.old.to fault (D.counts desk.old) (D.counts desk.new)) }
-    ensures steady { OnOk result (D.counts desk.new ≡ D.counts desk.old) }
-    ensures never_fall { NeverFall (D.counts desk.old) (D.counts desk.new) }
-    ensures report_files { OnReport pen.old.to (D.files desk.new ≡ D.files desk.old) }
-    ensures report_written { OnReport pen.old.to (D.written desk.new ≡ D.written desk.old) }
-    ensures cert_printed { OnCert pen.old.to (D.printed desk.new ≡ D.printed desk.old) }
-    ensures others { (other : List ℕ) → D.target desk.old ≢ Some other
-        → file_at (D.files desk.new) other ≡ file_at (D.files desk.old) other }
-    ensures still_told { is_some (D.files desk.new) ≡ is_some (D.files desk.old) }
-    ensures rest_stays { D.rest desk.new ≡ D.rest desk.old }
-    ensures target_stays { D.target desk.new ≡ D.target desk.old }
-    ensures ready_stays { D.ready desk.new ≡ D.ready desk.old }
-    ensures openings_stay { D.openings desk.new ≡ D.openings desk.old }
+    ensures { Puts D.files D.rest D.written D.printed D.target D.ready D.counts D.openings
+        (record_text (row_of row.now)) result pen.old pen.new desk.old desk.new }
 {
     match put_period(row, pen, desk) {
         Ok(()) => put_heads(row.junctions as usize, row.vectors.as_slice(), pen, desk),
@@ -218,33 +166,8 @@ pub fn put_record<D: Desk>(row: &Record, pen: &mut Pen, desk: &mut D) -> Result<
 /// Puts the PERIOD line of the record.
 fn put_period<D: Desk>(row: &Record, pen: &mut Pen, desk: &mut D) -> Result<(), OutFault>
     requires { OnCert pen.old.to (IsTrue (D.ready desk.old)) }
-    ensures moves { OnOk result (Moves
-        (by_channel pen.old.to (D.written desk.old) (D.printed desk.old))
-        (by_channel pen.old.to (D.written desk.new) (D.printed desk.new))
-        (pen.old.held ++ period_line (row_of row.now)) pen.new.held) }
-    ensures prefix { OnErr result (PutOut
-        (by_channel pen.old.to (D.written desk.old) (D.printed desk.old))
-        (by_channel pen.old.to (D.written desk.new) (D.printed desk.new))
-        (pen.old.held ++ period_line (row_of row.now))) }
-    ensures to_stays { pen.new.to ≡ pen.old.to }
-    ensures no_fault { OnOk result (pen.new.fault ≡ None) }
-    ensures keeps_fault { IfErr result (λ fault. pen.new.fault ≡ Some fault) }
-    ensures again { IfSome pen.old.fault (λ fault. result ≡ Err fault) }
-    ensures does_nothing { IsSome pen.old.fault → (pen.new ≡ pen.old) × (desk.new ≡ desk.old) }
-    ensures cause { pen.old.fault ≡ None → IfErr result (λ fault.
-        HasOutCause pen.old.to fault (D.counts desk.old) (D.counts desk.new)) }
-    ensures steady { OnOk result (D.counts desk.new ≡ D.counts desk.old) }
-    ensures never_fall { NeverFall (D.counts desk.old) (D.counts desk.new) }
-    ensures report_files { OnReport pen.old.to (D.files desk.new ≡ D.files desk.old) }
-    ensures report_written { OnReport pen.old.to (D.written desk.new ≡ D.written desk.old) }
-    ensures cert_printed { OnCert pen.old.to (D.printed desk.new ≡ D.printed desk.old) }
-    ensures others { (other : List ℕ) → D.target desk.old ≢ Some other
-        → file_at (D.files desk.new) other ≡ file_at (D.files desk.old) other }
-    ensures still_told { is_some (D.files desk.new) ≡ is_some (D.files desk.old) }
-    ensures rest_stays { D.rest desk.new ≡ D.rest desk.old }
-    ensures target_stays { D.target desk.new ≡ D.target desk.old }
-    ensures ready_stays { D.ready desk.new ≡ D.ready desk.old }
-    ensures openings_stay { D.openings desk.new ≡ D.openings desk.old }
+    ensures { Puts D.files D.rest D.written D.printed D.target D.ready D.counts D.openings
+        (period_line (row_of row.now)) result pen.old pen.new desk.old desk.new }
 {
     let mut buffer = [0; LINE];
     let used = make_period_line(&mut buffer, row);
@@ -261,31 +184,8 @@ fn put_heads<D: Desk>(
     requires some { 0 < length heads.now → 0 < junctions }
     requires ready { OnCert pen.old.to (IsTrue (D.ready desk.old)) }
     requires unbroken { pen.old.fault ≡ None }
-    ensures moves { OnOk result (Moves
-        (by_channel pen.old.to (D.written desk.old) (D.printed desk.old))
-        (by_channel pen.old.to (D.written desk.new) (D.printed desk.new))
-        (pen.old.held ++ head_text junctions 0 heads.now) pen.new.held) }
-    ensures prefix { OnErr result (PutOut
-        (by_channel pen.old.to (D.written desk.old) (D.printed desk.old))
-        (by_channel pen.old.to (D.written desk.new) (D.printed desk.new))
-        (pen.old.held ++ head_text junctions 0 heads.now)) }
-    ensures to_stays { pen.new.to ≡ pen.old.to }
-    ensures no_fault { OnOk result (pen.new.fault ≡ None) }
-    ensures keeps_fault { IfErr result (λ fault. pen.new.fault ≡ Some fault) }
-    ensures cause { IfErr result (λ fault.
-        HasOutCause pen.old.to fault (D.counts desk.old) (D.counts desk.new)) }
-    ensures steady { OnOk result (D.counts desk.new ≡ D.counts desk.old) }
-    ensures never_fall { NeverFall (D.counts desk.old) (D.counts desk.new) }
-    ensures report_files { OnReport pen.old.to (D.files desk.new ≡ D.files desk.old) }
-    ensures report_written { OnReport pen.old.to (D.written desk.new ≡ D.written desk.old) }
-    ensures cert_printed { OnCert pen.old.to (D.printed desk.new ≡ D.printed desk.old) }
-    ensures others { (other : List ℕ) → D.target desk.old ≢ Some other
-        → file_at (D.files desk.new) other ≡ file_at (D.files desk.old) other }
-    ensures still_told { is_some (D.files desk.new) ≡ is_some (D.files desk.old) }
-    ensures rest_stays { D.rest desk.new ≡ D.rest desk.old }
-    ensures target_stays { D.target desk.new ≡ D.target desk.old }
-    ensures ready_stays { D.ready desk.new ≡ D.ready desk.old }
-    ensures openings_stay { D.openings desk.new ≡ D.openings desk.old }
+    ensures { Puts D.files D.rest D.written D.printed D.target D.ready D.counts D.openings
+        (head_text junctions 0 heads.now) result pen.old pen.new desk.old desk.new }
 {
     for i in 0..heads.len() {
         match put_head_line(front_of(i / junctions), &heads[i], pen, desk) {
@@ -305,33 +205,8 @@ fn put_head_line<D: Desk>(
 ) -> Result<(), OutFault>
     requires short { length front.now ≤ 4 }
     requires ready { OnCert pen.old.to (IsTrue (D.ready desk.old)) }
-    ensures moves { OnOk result (Moves
-        (by_channel pen.old.to (D.written desk.old) (D.printed desk.old))
-        (by_channel pen.old.to (D.written desk.new) (D.printed desk.new))
-        (pen.old.held ++ (front.now ++ (signed_decimal head.now ++ (10 ∷ [])))) pen.new.held) }
-    ensures prefix { OnErr result (PutOut
-        (by_channel pen.old.to (D.written desk.old) (D.printed desk.old))
-        (by_channel pen.old.to (D.written desk.new) (D.printed desk.new))
-        (pen.old.held ++ (front.now ++ (signed_decimal head.now ++ (10 ∷ []))))) }
-    ensures to_stays { pen.new.to ≡ pen.old.to }
-    ensures no_fault { OnOk result (pen.new.fault ≡ None) }
-    ensures keeps_fault { IfErr result (λ fault. pen.new.fault ≡ Some fault) }
-    ensures again { IfSome pen.old.fault (λ fault. result ≡ Err fault) }
-    ensures does_nothing { IsSome pen.old.fault → (pen.new ≡ pen.old) × (desk.new ≡ desk.old) }
-    ensures cause { pen.old.fault ≡ None → IfErr result (λ fault.
-        HasOutCause pen.old.to fault (D.counts desk.old) (D.counts desk.new)) }
-    ensures steady { OnOk result (D.counts desk.new ≡ D.counts desk.old) }
-    ensures never_fall { NeverFall (D.counts desk.old) (D.counts desk.new) }
-    ensures report_files { OnReport pen.old.to (D.files desk.new ≡ D.files desk.old) }
-    ensures report_written { OnReport pen.old.to (D.written desk.new ≡ D.written desk.old) }
-    ensures cert_printed { OnCert pen.old.to (D.printed desk.new ≡ D.printed desk.old) }
-    ensures others { (other : List ℕ) → D.target desk.old ≢ Some other
-        → file_at (D.files desk.new) other ≡ file_at (D.files desk.old) other }
-    ensures still_told { is_some (D.files desk.new) ≡ is_some (D.files desk.old) }
-    ensures rest_stays { D.rest desk.new ≡ D.rest desk.old }
-    ensures target_stays { D.target desk.new ≡ D.target desk.old }
-    ensures ready_stays { D.ready desk.new ≡ D.ready desk.old }
-    ensures openings_stay { D.openings desk.new ≡ D.openings desk.old }
+    ensures { Puts D.files D.rest D.written D.printed D.target D.ready D.counts D.openings
+        (front.now ++ (signed_decimal head.now ++ (10 ∷ []))) result pen.old pen.new desk.old desk.new }
 {
     let mut buffer = [0; LINE];
     let used = make_head_line(&mut buffer, front, *head);
@@ -346,33 +221,8 @@ pub fn put_end<D: Desk>(
     desk: &mut D,
 ) -> Result<(), OutFault>
     requires { OnCert pen.old.to (IsTrue (D.ready desk.old)) }
-    ensures moves { OnOk result (Moves
-        (by_channel pen.old.to (D.written desk.old) (D.printed desk.old))
-        (by_channel pen.old.to (D.written desk.new) (D.printed desk.new))
-        (pen.old.held ++ end_line periods finished) pen.new.held) }
-    ensures prefix { OnErr result (PutOut
-        (by_channel pen.old.to (D.written desk.old) (D.printed desk.old))
-        (by_channel pen.old.to (D.written desk.new) (D.printed desk.new))
-        (pen.old.held ++ end_line periods finished)) }
-    ensures to_stays { pen.new.to ≡ pen.old.to }
-    ensures no_fault { OnOk result (pen.new.fault ≡ None) }
-    ensures keeps_fault { IfErr result (λ fault. pen.new.fault ≡ Some fault) }
-    ensures again { IfSome pen.old.fault (λ fault. result ≡ Err fault) }
-    ensures does_nothing { IsSome pen.old.fault → (pen.new ≡ pen.old) × (desk.new ≡ desk.old) }
-    ensures cause { pen.old.fault ≡ None → IfErr result (λ fault.
-        HasOutCause pen.old.to fault (D.counts desk.old) (D.counts desk.new)) }
-    ensures steady { OnOk result (D.counts desk.new ≡ D.counts desk.old) }
-    ensures never_fall { NeverFall (D.counts desk.old) (D.counts desk.new) }
-    ensures report_files { OnReport pen.old.to (D.files desk.new ≡ D.files desk.old) }
-    ensures report_written { OnReport pen.old.to (D.written desk.new ≡ D.written desk.old) }
-    ensures cert_printed { OnCert pen.old.to (D.printed desk.new ≡ D.printed desk.old) }
-    ensures others { (other : List ℕ) → D.target desk.old ≢ Some other
-        → file_at (D.files desk.new) other ≡ file_at (D.files desk.old) other }
-    ensures still_told { is_some (D.files desk.new) ≡ is_some (D.files desk.old) }
-    ensures rest_stays { D.rest desk.new ≡ D.rest desk.old }
-    ensures target_stays { D.target desk.new ≡ D.target desk.old }
-    ensures ready_stays { D.ready desk.new ≡ D.ready desk.old }
-    ensures openings_stay { D.openings desk.new ≡ D.openings desk.old }
+    ensures { Puts D.files D.rest D.written D.printed D.target D.ready D.counts D.openings
+        (end_line periods finished) result pen.old pen.new desk.old desk.new }
 {
     let mut buffer = [0; LINE];
     let used = make_end_line(&mut buffer, periods, finished);

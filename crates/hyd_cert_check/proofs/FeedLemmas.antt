@@ -1,23 +1,20 @@
 -- How many lines the records of a certificate have.
-use Rattle.std.proofs.Common.{◌≡◌, ◌≢◌, ℕ, ◌+◌, ◌*◌, ◌<◌, ◌^◌, suc, ℤ, Bool, List, [], ◌∷◌, ◌++◌, length, map}
-use Rattle.std.proofs.Common.{All, codes, refl, ap, ap₂, ◌∙◌, inl, inr, arith}
+use Rattle.std.proofs.Common.{◌≡◌, ◌≢◌, ℕ, ◌+◌, ◌*◌, ◌<◌, ◌^◌, suc, ℤ, Bool, List, [], ◌∷◌, ◌++◌, length, map, All}
+use Rattle.std.proofs.Common.{codes, refl, ap, ap₂, ◌∙◌, inl, inr, arith}
 use Rattle.std.specs.Fmt.{decimal, signed_decimal}
 use Rattle.std.proofs.lemmas.List.Elements.{All-head, All-tail}
 use Rattle.hyd_spec.specs.Lists.{joined}
 use Rattle.hyd_spec_certificates.specs.Certificate.{IsInBox}
 use Rattle.hyd_spec_certificates.specs.RecordAndStanding.{Record, Vectors}
-use Rattle.hyd_spec_reports.specs.CertificateText.{words, head_lines, vectors_text, record_text}
-use Rattle.hyd_spec_reports.specs.CertificateText.{line_feeds, IsVector, IsRow, certificate_text}
+use Rattle.hyd_spec_reports.specs.CertificateText.{words, head_lines, vectors_text, record_text, line_feeds, IsVector}
+use Rattle.hyd_spec_reports.specs.CertificateText.{IsRow, certificate_text}
 use Rattle.hyd_cert.specs.TextsWithoutLine.{HasNo}
 use Rattle.hyd_cert.specs.Lines.{Header, IsHeaderLine, header_words, end_word}
 use Rattle.hyd_cert.specs.PlacesOfLines.{heads_in}
 use Rattle.hyd_cert.proofs.LineLemmas.{head_free, header_is_line, next_is_line}
 use Rattle.hyd_cert.proofs.HeadLemmas.{period_is, end_is}
 use Rattle.hyd_cert.proofs.GoesLemmas.{no_feeds}
-
-feeds-append : (a b : List ℕ) → line_feeds (a ++ b) ≡ line_feeds a + line_feeds b
-feeds-append [] b = omega arith
-feeds-append (c ∷ a) b = let e = feeds-append a b in omega (arith, e)
+use Rattle.hyd_cert.proofs.SentenceLemmas.{feeds_append}
 
 -- a line and its line feed
 one-feed : (line : List ℕ) → HasNo 10 line → line_feeds (line ++ (10 ∷ [])) ≡ 1
@@ -41,7 +38,7 @@ heads-feeds : (key : List ℕ) (heads : List ℤ) → HasNo 10 (key ++ (32 ∷ [
     → line_feeds (head_lines key heads) ≡ length heads
 heads-feeds key [] free box = refl
 heads-feeds key (h ∷ heads) free box =
-    one-more _ _ _ (length heads) (feeds-append (words (key ∷ (signed_decimal h ∷ [])) ++ (10 ∷ []))
+    one-more _ _ _ (length heads) (feeds_append (words (key ∷ (signed_decimal h ∷ [])) ++ (10 ∷ []))
     (head_lines key heads))
     (one-feed (words (key ∷ (signed_decimal h ∷ []))) (key-free key h free (All-head IsInBox h heads box)))
     (heads-feeds key heads free (All-tail IsInBox h heads box))
@@ -52,7 +49,7 @@ vectors-feeds : (upper lower : List ℕ) (n : ℕ) (vectors : Vectors) → HasNo
     → HasNo 10 (lower ++ (32 ∷ [])) → IsVector n vectors.upper → IsVector n vectors.lower
     → line_feeds (vectors_text upper lower vectors) ≡ n + n
 vectors-feeds upper lower n vectors free other over under =
-    feeds-append (head_lines upper vectors.upper) (head_lines lower vectors.lower)
+    feeds_append (head_lines upper vectors.upper) (head_lines lower vectors.lower)
     ∙ ap₂ (λ a b. a + b) (heads-feeds upper vectors.upper free over.in_box ∙ over.one_each)
     (heads-feeds lower vectors.lower other under.in_box ∙ under.one_each)
 
@@ -67,7 +64,7 @@ pinned-feeds : (n : ℕ) (pinned : List Vectors) → All (λ vectors. IsVector n
 pinned-feeds n [] over under = omega arith
 pinned-feeds n (vectors ∷ pinned) over under =
     tank-more _ _ _ n (length pinned)
-    (feeds-append (vectors_text (codes "PU") (codes "PL") vectors) (joined (map (vectors_text (codes "PU") (codes "PL"))
+    (feeds_append (vectors_text (codes "PU") (codes "PL") vectors) (joined (map (vectors_text (codes "PU") (codes "PL"))
     pinned)))
     (vectors-feeds (codes "PU") (codes "PL") n vectors (key-is 80 85 (λ e. omega (arith, e)) (λ e. omega (arith, e)))
     (key-is 80 76 (λ e. omega (arith, e)) (λ e. omega (arith, e)))
@@ -92,10 +89,10 @@ record-feeds n k row is =
     let pinned = joined (map (vectors_text (codes "PU") (codes "PL")) row.pinned) in
     record-sum (line_feeds (record_text row)) (line_feeds (period ++ (10 ∷ []))) (line_feeds (main ++ pinned))
     (line_feeds main) (line_feeds pinned) n k (length row.pinned)
-    (feeds-append (period ++ (10 ∷ [])) (main ++ pinned))
+    (feeds_append (period ++ (10 ∷ [])) (main ++ pinned))
     (one-feed period (next_is_line period (inl (period_is row.number row.time row.length is.number_fits is.time_fits
     is.length_fits))).0)
-    (feeds-append main pinned)
+    (feeds_append main pinned)
     (vectors-feeds (codes "MU") (codes "ML") n row.main (key-is 77 85 (λ e. omega (arith, e)) (λ e. omega (arith, e)))
     (key-is 77 76 (λ e. omega (arith, e)) (λ e. omega (arith, e))) is.main_upper is.main_lower)
     (pinned-feeds n row.pinned is.pinned_upper is.pinned_lower) is.pinned_each
@@ -108,7 +105,7 @@ rows-feeds : (n k : ℕ) (rows : List Record) → All (IsRow n k) rows
     → line_feeds (joined (map record_text rows)) ≡ length rows * (1 + heads_in n k)
 rows-feeds n k [] all = omega arith
 rows-feeds n k (row ∷ rows) all =
-    row-more _ _ _ (1 + heads_in n k) (length rows) (feeds-append (record_text row) (joined (map record_text rows)))
+    row-more _ _ _ (1 + heads_in n k) (length rows) (feeds_append (record_text row) (joined (map record_text rows)))
     (record-feeds n k row (All-head (IsRow n k) row rows all))
     (rows-feeds n k rows (All-tail (IsRow n k) row rows all))
 
@@ -130,8 +127,8 @@ end-number-is header rows periods finished is all fits =
     text-sum (line_feeds (certificate_text header.version header.junctions header.tanks rows periods finished))
     (line_feeds (header_words header ++ (10 ∷ []))) (line_feeds (middle ++ (last ++ (10 ∷ [])))) (line_feeds middle)
     (line_feeds (last ++ (10 ∷ []))) (length rows * (1 + heads_in header.junctions header.tanks))
-    (feeds-append (header_words header ++ (10 ∷ [])) (middle ++ (last ++ (10 ∷ []))))
+    (feeds_append (header_words header ++ (10 ∷ [])) (middle ++ (last ++ (10 ∷ []))))
     (one-feed (header_words header) (header_is_line header (header_words header) is).0)
-    (feeds-append middle (last ++ (10 ∷ [])))
+    (feeds_append middle (last ++ (10 ∷ [])))
     (one-feed last (next_is_line last (inr (end_is periods finished fits))).0)
     (rows-feeds header.junctions header.tanks rows all)

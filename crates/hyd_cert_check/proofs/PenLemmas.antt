@@ -1,6 +1,5 @@
 -- How texts that are put in at the pen follow one another.
-use Rattle.std.proofs.Common.{◌≡◌, ℕ, Bool, List, [], ◌++◌, Option, None, sym, ap, subst, ◌∙◌, append-nil}
-use Rattle.std.proofs.Common.{append_assoc}
+use Rattle.std.proofs.Common.{◌≡◌, ℕ, Bool, List, [], ◌++◌, Option, None, sym, ap, subst, ◌∙◌, append-nil, append_assoc}
 use Rattle.std.specs.Prelude.{Result, Ok, Err}
 use Rattle.hyd_io.specs.declared.desk.Faults.{Faults}
 use Rattle.hyd_io.specs.declared.desk.Openings.{Openings}
@@ -8,32 +7,21 @@ use Rattle.hyd_io.specs.declared.output.OutFault.{OutFault}
 use Rattle.hyd_io.specs.declared.output.Channel.{Channel}
 use Rattle.hyd_io.specs.declared.output.Channel.TheVariants.{Report}
 use Rattle.hyd_io.specs.DeskBytes.{Files, Moves, PutOut}
-use Rattle.hyd_io.specs.Output.{by_channel, OnCert, OnReport, HasOutCause, PenState}
+use Rattle.hyd_io.specs.Output.{OnCert, HasOutCause, PenState}
 use Rattle.hyd_io.proofs.ToldLemmas.{moves_then, put_out_then, put_out_nothing, moves_nothing}
 use Rattle.hyd_cert.specs.ReaderView.{ReaderView}
-use Rattle.hyd_report.specs.Putting.{Puts}
+use Rattle.hyd_io.specs.Putting.{Puts}
 use Rattle.hyd_run.specs.Pens.{Told, told}
 use Rattle.hyd_cert_check.specs.ReaderAndPen.{Moment, moment, new_pen, IsOpen, LeavesFiles, PutIn, IsCutOff, Rose}
 use Rattle.hyd_cert_check.specs.declared.outcome.CheckFault.{CheckFault}
 use Rattle.hyd_cert_check.specs.declared.outcome.CheckFault.TheVariants.{Output}
+use Rattle.hyd_run.proofs.PenLemmas.{on-report, second-out, second-moves}
 
 -- ---- what one call puts in
 
 -- nothing is asked of a pen on standard output
 pub not_cert : (to : Channel) (P : Type 0) → to ≡ Report → OnCert to P
 not_cert to P e = subst (λ (c : Channel). OnCert c P) (sym e) tt
-
-on-report : (to : Channel) (P : Type 0) → to ≡ Report → OnReport to P → P
-on-report to P e on = subst (λ (c : Channel). OnReport c P) e on
-
-second-moves : (to : Channel) (w p w' p' : Option (List ℕ)) (all held : List ℕ) → to ≡ Report
-    → Moves (by_channel to w p) (by_channel to w' p') all held → Moves p p' all held
-second-moves to w p w' p' all held e m =
-    subst (λ (c : Channel). Moves (by_channel c w p) (by_channel c w' p') all held) e m
-
-second-out : (to : Channel) (w p w' p' : Option (List ℕ)) (all : List ℕ) → to ≡ Report
-    → PutOut (by_channel to w p) (by_channel to w' p') all → PutOut p p' all
-second-out to w p w' p' all e m = subst (λ (c : Channel). PutOut (by_channel c w p) (by_channel c w' p') all) e m
 
 module _ {S : Type 0} {files : S → Option Files} {rest written printed target : S → Option (List ℕ)} {ready : S
     → Bool}
@@ -67,7 +55,7 @@ module _ {S : Type 0} {files : S → Option Files} {rest written printed target 
       → IsCutOff (Output why) text (moment r p (told files rest written printed target ready counts openings d))
       (moment r' q (told files rest written printed target ready counts openings e))
   put-cut text why r r' p q d e is puts = record {
-    printed = second-out p.to (written d) (printed d) (written e) (printed e) (p.held ++ text) is.to puts.prefix;
+    printed = second-out p.to (written d) (printed d) (written e) (printed e) (p.held ++ text) is.to puts.front;
     rose = subst (λ (k : Channel). HasOutCause k why (counts d) (counts e)) is.to (puts.cause is.no_fault);
     leaves = leaves-puts text (Err why) p q d e is puts;
   }

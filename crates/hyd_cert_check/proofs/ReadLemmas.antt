@@ -1,6 +1,6 @@
 -- What was read of a text so far, and one record more.
-use Rattle.std.proofs.Common.{◌≡◌, ℕ, suc, ◌+◌, ◌*◌, List, [], ◌∷◌, ◌++◌, length, length-append, map, Option}
-use Rattle.std.proofs.Common.{Some, sym, ap, ◌∙◌, arith, append-nil, append_assoc, inl, inr}
+use Rattle.std.proofs.Common.{◌≡◌, ℕ, suc, ◌+◌, ◌*◌, List, [], ◌∷◌, ◌++◌, length, length-append, map, Option, Some, sym}
+use Rattle.std.proofs.Common.{ap, ◌∙◌, arith, append-nil, append_assoc, inl, inr}
 use Rattle.hyd_io.specs.DeskBytes.{where_told, prepend_known}
 use Rattle.hyd_io.proofs.ToldLemmas.{prepend_known-prepend_known}
 use Rattle.hyd_spec.specs.ProgramTypes.{Project}
@@ -15,12 +15,13 @@ use Rattle.hyd_cert.specs.FaultyLine.{lines_of}
 use Rattle.hyd_cert.specs.ReaderView.{lead, lead_lines}
 use Rattle.hyd_cert.specs.declared.answers.Stand.{Stand}
 use Rattle.hyd_cert.specs.declared.answers.Stand.TheVariants as stand
+use Rattle.hyd_lemmas.proofs.ListsAndOptions.{join-more}
 use Rattle.hyd_cert.proofs.GoesLemmas.{has_rest}
 use Rattle.hyd_sim.specs.View.{header_for}
 use Rattle.hyd_cert_check.specs.Checks.{BeginsWithFound}
 use Rattle.hyd_cert_check.specs.ReaderAndPen.{Moment}
 use Rattle.hyd_cert_check.specs.RecordByRecord.{coming, IsRead, IsReadTo, nothing, records}
-use Rattle.hyd_cert_check.proofs.TextLemmas.{join-more, no-rows, told-is}
+use Rattle.hyd_cert_check.proofs.TextLemmas.{no-rows, told-is}
 
 -- ---- lines
 
@@ -44,13 +45,13 @@ lead-first s header e = ap (λ (x : Stand). lead x header) e
 lead-between : (s : Stand) (header : Header) → s ≡ stand.Between → lead s header ≡ []
 lead-between s header e = ap (λ (x : Stand). lead x header) e
 
-module _ (network : Project) (start : Moment) where
+module _ (project : Project) (start : Moment) where
   abbrev own : Header
-  own = header_for network
+  own = header_for project
 
   -- the first record was read
   first-read : (row : Record) (before now : Moment) → before.reader.stand ≡ stand.First → coming before ≡ coming start
-      → before.reader.line ≡ 0 → IsRead own row before now → IsReadTo network start now (row ∷ [])
+      → before.reader.line ≡ 0 → IsRead own row before now → IsReadTo project start now (row ∷ [])
   first-read row before now stands same zero_lines read =
       let heads = heads_in own.junctions own.tanks in
       let text : coming start ≡ prepend_known (header_text own ++ joined (map record_text (row ∷ []))) (coming now) =
@@ -67,7 +68,7 @@ module _ (network : Project) (start : Moment) where
   next-read : (rows : List Record) (row : Record) (before now : Moment) → before.reader.stand ≡ stand.Between
       → coming start ≡ prepend_known (header_text own ++ joined (map record_text rows)) (coming before)
       → before.reader.line ≡ lines_on 0 (lines_of own rows) → IsRead own row before now
-      → IsReadTo network start now (rows ++ (row ∷ []))
+      → IsReadTo project start now (rows ++ (row ∷ []))
   next-read rows row before now stands begins passed read =
       let heads = heads_in own.junctions own.tanks in
       let head = header_text own in
@@ -88,8 +89,8 @@ module _ (network : Project) (start : Moment) where
       records read.stands text (more-lines heads (length rows) (length (rows ++ (row ∷ []))) before.reader.line
       now.reader.line passed count lines)
 
-  pub read-more : (rows : List Record) (row : Record) (before now : Moment) → IsReadTo network start before rows
-      → IsRead own row before now → IsReadTo network start now (rows ++ (row ∷ []))
+  pub read-more : (rows : List Record) (row : Record) (before now : Moment) → IsReadTo project start before rows
+      → IsRead own row before now → IsReadTo project start now (rows ++ (row ∷ []))
   read-more _ row before now (nothing stands same zero_lines) read =
       first-read row before now stands same zero_lines read
   read-more _ row before now (records stands begins passed) read = next-read _ row before now stands begins passed read
@@ -98,7 +99,7 @@ module _ (network : Project) (start : Moment) where
 
   -- the text, where this is what is left of it
   pub last-text : (rows : List Record) (at : Moment) (rest : Option (List ℕ)) (tail text : List ℕ)
-      → IsReadTo network start at rows → coming at ≡ where_told rest (lead at.reader.stand own ++ tail)
+      → IsReadTo project start at rows → coming at ≡ where_told rest (lead at.reader.stand own ++ tail)
       → coming start ≡ Some text → text ≡ header_text own ++ (joined (map record_text rows) ++ tail)
   last-text _ at rest tail text (nothing stands same zero_lines) left told =
       told-is rest (header_text own ++ tail) text
@@ -115,7 +116,7 @@ module _ (network : Project) (start : Moment) where
 
   -- it begins with the records that were read
   pub begins-so : (founds : List Found) (rows : List Record) (at : Moment) (text : List ℕ) → rows ≡ rows_of founds
-      → IsReadTo network start at rows → coming start ≡ Some text → BeginsWithFound network founds text
+      → IsReadTo project start at rows → coming start ≡ Some text → BeginsWithFound project founds text
   begins-so founds _ at text e (nothing stands same zero_lines) told = inl (no-rows founds (sym e))
   begins-so founds rows at text e (records stands begins passed) told =
       let head = header_text own in

@@ -1,6 +1,5 @@
 -- A record that was read and tried.
-use Rattle.std.proofs.Common.{◌≡◌, ℕ, suc, ◌+◌, ◌<◌, ◌^◌, [], ◌++◌, length, Bool, refl, sym, ap, subst}
-use Rattle.std.proofs.Common.{◌∙◌, arith}
+use Rattle.std.proofs.Common.{◌≡◌, ℕ, suc, ◌+◌, ◌<◌, ◌^◌, [], ◌++◌, length, Bool, refl, sym, ap, subst, ◌∙◌, arith}
 use Rattle.std.proofs.lemmas.List.{length-map}
 use Rattle.hyd_net.specs.Sound.{Sound}
 use Rattle.hyd_spec.specs.ProgramTypes.{Project}
@@ -27,18 +26,18 @@ use Rattle.hyd_period_facts.specs.declared.facts.Facts.{Facts}
 use Rattle.hyd_theorems_on_definitions.specs.TermsOfTheorems.{IsSteady}
 use Rattle.hyd_report.specs.NodeAndLinkLines.{texts}
 use Rattle.hyd_report.specs.PeriodLines.{AreBounds, AreTankFacts, lines_of}
-use Rattle.hyd_report.proofs.ReportLemmas.{length-links_of, lines_are_report}
+use Rattle.hyd_period_network.proofs.Counts.{links_count}
+use Rattle.hyd_report.proofs.ReportLemmas.{lines_are_report}
 use Rattle.hyd_run.specs.Runs.{periods_left}
 use Rattle.hyd_run.proofs.PeriodLemmas.{bounds-of, tank-facts-of, few-periods, number-next}
 use Rattle.hyd_sim.specs.View.{SimView, IsSim, standing_of, header_for}
 use Rattle.hyd_sim.specs.Acceptance.{IsAccepted}
 use Rattle.hyd_cert_check.specs.ReaderAndPen.{Moment, PutIn, IsCutOff}
 use Rattle.hyd_cert_check.specs.RecordByRecord.{coming, IsRead, IsStep, IsOfPeriod, DidRecord, LostRecord, IsOver, IsSo}
-use Rattle.hyd_cert_check.specs.RecordByRecord.{IsEnd}
-use Rattle.hyd_cert_check.specs.RecordByRecord.{IsGrammarFault, IsCountsFault}
+use Rattle.hyd_cert_check.specs.RecordByRecord.{IsEnd, IsGrammarFault, IsCountsFault}
 use Rattle.hyd_cert_check.specs.declared.outcome.CheckFault.{CheckFault}
-use Rattle.hyd_cert_check.specs.declared.outcome.Verdict.{Verdict}
-use Rattle.hyd_cert_check.specs.declared.outcome.Verdict.TheVariants.{Refused}
+use Rattle.hyd_cert_check.specs.declared.outcome.Conclusion.{Conclusion}
+use Rattle.hyd_cert_check.specs.declared.outcome.Conclusion.TheVariants.{Refused}
 use Rattle.hyd_cert_check.proofs.PenLemmas.{put-then, cut-then}
 
 -- ---- what was read
@@ -108,7 +107,7 @@ module _ (before now : SimView) (is : IsSim now) (accepted : IsAccepted before n
   each-link =
       let ends : length now.net.ends ≡ length now.project.links.list =
       ap length is.net.ends ∙ length-map now.project.links.list ends_of in
-      length-links_of now.net.ends now.net.settings now.net.own (is.net.each_setting ∙ sym ends) (is.net.each_own ∙
+      links_count now.net.ends now.net.settings now.net.own (is.net.each_setting ∙ sym ends) (is.net.each_own ∙
       sym ends) ∙ ends
 
   -- what was found
@@ -189,39 +188,40 @@ refused-there before now row cause m n p s refused read none = record {
 
 -- ---- where the records end
 
-pub over-there : (verdict : Verdict) (sim : SimView) (m n : Moment) → IsSo verdict sim.project (standing_of sim) m n
-    → PutIn [] m n → IsOver verdict sim sim m n
-over-there verdict sim m n so none = record { stays = refl; is_so = so; put = none }
+pub over-there : (conclusion : Conclusion) (sim : SimView) (m n : Moment) → IsSo conclusion sim.project
+    (standing_of sim) m n
+    → PutIn [] m n → IsOver conclusion sim sim m n
+over-there conclusion sim m n so none = record { stays = refl; is_so = so; put = none }
 
-pub end-is : (network : Project) (row : Row) (periods : ℕ) (finished : Bool) (before : Moment)
-    → header_of row ≡ header_for network
+pub end-is : (project : Project) (row : Row) (periods : ℕ) (finished : Bool) (before : Moment)
+    → header_of row ≡ header_for project
     → coming before ≡ where_told before.told.rest
     (lead before.reader.stand (header_of row) ++ end_line periods finished)
-    → periods < 2 ^ 32 → IsEnd network periods finished before
-end-is network row periods finished before same text fits = record {
+    → periods < 2 ^ 32 → IsEnd project periods finished before
+end-is project row periods finished before same text fits = record {
   text = text ∙ ap (λ (h : Header). where_told before.told.rest
       (lead before.reader.stand h ++ end_line periods finished)) same;
   fits = fits;
 }
 
-pub grammar-is : (network : Project) (row : Row) (line : ℕ) (before : Moment) (start now : Faults)
-    → header_of row ≡ header_for network
+pub grammar-is : (project : Project) (row : Row) (line : ℕ) (before : Moment) (start now : Faults)
+    → header_of row ≡ header_for project
     → IsTextFault (header_of row) (place_of before.reader.stand) before.reader.line (coming before) start now
     (Grammar line)
-    → LacksRecord before.reader.stand (header_of row) (coming before) → IsGrammarFault network line before
-grammar-is network row line before start now same fault lacks = record {
+    → LacksRecord before.reader.stand (header_of row) (coming before) → IsGrammarFault project line before
+grammar-is project row line before start now same fault lacks = record {
   offset = fault.0;
   number = fault.1.0;
   fault = subst (λ (h : Header). IsFault h (place_of before.reader.stand) (coming before) fault.0) same fault.1.1;
   no_record = subst (λ (h : Header). LacksRecord before.reader.stand h (coming before)) same lacks;
 }
 
-pub counts-is : (network : Project) (row : Row) (line : ℕ) (before : Moment) (start now : Faults)
-    → header_of row ≡ header_for network
+pub counts-is : (project : Project) (row : Row) (line : ℕ) (before : Moment) (start now : Faults)
+    → header_of row ≡ header_for project
     → IsTextFault (header_of row) (place_of before.reader.stand) before.reader.line (coming before) start now
     (Count line)
-    → IsCountsFault network line before
-counts-is network row line before start now same fault = record {
+    → IsCountsFault project line before
+counts-is project row line before start now same fault = record {
   first = fault.0;
   number = fault.1;
   other_header = subst (λ (h : Header). HasOtherHeader h (coming before)) same fault.2;

@@ -12,7 +12,7 @@ use Rattle.hyd_cert_check.specs.RecordByRecord.{IsSo}
 use Rattle.hyd_cert_check.specs.RecordByRecord.{AllRead}
 use Rattle.hyd_cert_check.specs.RecordByRecord.{IsCutShort}
 use Rattle.hyd_cert_check.specs.declared.outcome.CheckFault.{CheckFault}
-use Rattle.hyd_cert_check.specs.declared.outcome.Verdict.{Verdict}
+use Rattle.hyd_cert_check.specs.declared.outcome.Conclusion.{Conclusion}
 use Rattle.hyd_cert_check.proofs.EndLemmas.{so-far-more, so-far-cut, record-cut}
 
 -- the reader goes on behind a record
@@ -22,29 +22,29 @@ goes-on before now m n did = record {
   pen = did.put.open_still;
 }
 
-pub turn-more : (network : Project) (before now : SimView) (start m n : Moment) → now.project ≡ network
-    → DidRecord before now m n → IsSoFar network (standing_of before) start m
-    → IsSoFar network (standing_of now) start n
-turn-more network before now start m n p did =
+pub turn-more : (project : Project) (before now : SimView) (start m n : Moment) → now.project ≡ project
+    → DidRecord before now m n → IsSoFar project (standing_of before) start m
+    → IsSoFar project (standing_of now) start n
+turn-more project before now start m n p did =
     subst (λ (q : Project). IsSoFar q (standing_of before) start m → IsSoFar q (standing_of now) start n) p
     (so-far-more now.project (standing_of before) (standing_of now) start m n did.found did.step did.read did.put)
 
-pub turn-over : (network : Project) (verdict : Verdict) (before now : SimView) (start m n : Moment)
-    → now.project ≡ network → IsOver verdict before now m n → IsSoFar network (standing_of before) start m
-    → AllRead verdict network (standing_of now) start n
-turn-over network verdict before now start m n p over so_far = record {
+pub turn-over : (project : Project) (conclusion : Conclusion) (before now : SimView) (start m n : Moment)
+    → now.project ≡ project → IsOver conclusion before now m n → IsSoFar project (standing_of before) start m
+    → AllRead conclusion project (standing_of now) start n
+turn-over project conclusion before now start m n p over so_far = record {
   at_last = m;
-  so_far = subst (λ (s : Standing). IsSoFar network s start m) (sym over.stays) so_far;
-  is_so = subst (λ (q : Project). IsSo verdict q (standing_of now) m n) p over.is_so;
+  so_far = subst (λ (s : Standing). IsSoFar project s start m) (sym over.stays) so_far;
+  is_so = subst (λ (q : Project). IsSo conclusion q (standing_of now) m n) p over.is_so;
   put = over.put;
 }
 
-pub turn-lost : (network : Project) (fault : CheckFault) (before now : SimView) (start m n : Moment)
-    → now.project ≡ network → Sound network → IsLost fault before now m n
-    → IsSoFar network (standing_of before) start m → IsCutShort network fault start n
-turn-lost network fault before now start m n p sound (in_reading cut) so_far =
-    so-far-cut network fault (standing_of before) start m n sound cut so_far
-turn-lost network fault before now start m n p sound (in_report lost) so_far =
+pub turn-lost : (project : Project) (fault : CheckFault) (before now : SimView) (start m n : Moment)
+    → now.project ≡ project → Sound project → IsLost fault before now m n
+    → IsSoFar project (standing_of before) start m → IsCutShort project fault start n
+turn-lost project fault before now start m n p sound (in_reading cut) so_far =
+    so-far-cut project fault (standing_of before) start m n sound cut so_far
+turn-lost project fault before now start m n p sound (in_report lost) so_far =
     subst (λ (q : Project). Sound q → IsSoFar q (standing_of before) start m → IsCutShort q fault start n) p
     (λ s far. record-cut now.project fault (standing_of before) (standing_of now) start m n lost.found s lost.step
     lost.read lost.cut far) sound so_far

@@ -38,66 +38,66 @@ printed_number number = min number (2 ^ 64 - 1)
 -- The text begins with the header line of the network and the records of what was found; where nothing was found, it
 -- may be any text.
 abbrev pub BeginsWithFound : Project → List Found → List ℕ → Type 0
-BeginsWithFound network founds text =
-    (founds ≡ []) ⊎ ((unread : List ℕ) × (text ≡ header_line (version_of network) (junction_count network) (tank_count
-    network) ++ (joined (map record_text (rows_of founds)) ++ unread)))
+BeginsWithFound project founds text =
+    (founds ≡ []) ⊎ ((unread : List ℕ) × (text ≡ header_line (version_of project) (junction_count project) (tank_count
+    project) ++ (joined (map record_text (rows_of founds)) ++ unread)))
 
 -- Behind the header line of the network and the records of what was found, the text doesn't go on with a whole record.
 abbrev pub HasNoMoreRecords : Project → List Found → List ℕ → Type 0
-HasNoMoreRecords network founds text = (row : Record) (unread : List ℕ)
-    → IsRow (junction_count network) (tank_count network) row
-    → text ≢ header_line (version_of network) (junction_count network) (tank_count network)
+HasNoMoreRecords project founds text = (row : Record) (unread : List ℕ)
+    → IsRow (junction_count project) (tank_count project) row
+    → text ≢ header_line (version_of project) (junction_count project) (tank_count project)
     ++ (joined (map record_text (rows_of founds ++ (row ∷ []))) ++ unread)
 
 -- What was read begins as a certificate of a run, up to a line with which, the end of the text counted in, it begins no
 -- certificate; what was printed is the report of all records before it, with that line's number in its last line.
-pub record CheckRefusesGrammar (network : Project) (text printed : List ℕ) : Type 0 where
+pub record CheckRefusesGrammar (project : Project) (text printed : List ℕ) : Type 0 where
   pub founds : List Found
   pub left : Standing
-  pub is_run : IsRun network founds left
-  pub rows_fit : All (IsRow (junction_count network) (tank_count network)) (rows_of founds)
-  pub begins : BeginsWithFound network founds text
-  pub all_records : HasNoMoreRecords network founds text
+  pub is_run : IsRun project founds left
+  pub rows_fit : All (IsRow (junction_count project) (tank_count project)) (rows_of founds)
+  pub begins : BeginsWithFound project founds text
+  pub all_records : HasNoMoreRecords project founds text
   pub number : ℕ
-  pub is_fault : IsFirstFault (header_for network) text number
-  pub report : printed ≡ report_text network (lines_of founds) (refused_grammar_line (printed_number number))
-  pub every_history : EveryHistoryAgrees network founds
+  pub is_fault : IsFirstFault (header_for project) text number
+  pub report : printed ≡ report_text project (lines_of founds) (refused_grammar_line (printed_number number))
+  pub every_history : EveryHistoryAgrees project founds
 
 -- What was read begins with the header line of another version or of other counts than the network's; what was printed
 -- is a report without records, with that as its last line.
-pub record CheckRefusesCounts (network : Project) (text printed : List ℕ) : Type 0 where
-  pub other_header : HasOtherHeader (header_for network) (Some text)
-  pub report : printed ≡ report_text network [] (refused_counts_line 1)
+pub record CheckRefusesCounts (project : Project) (text printed : List ℕ) : Type 0 where
+  pub other_header : HasOtherHeader (header_for project) (Some text)
+  pub report : printed ≡ report_text project [] (refused_counts_line 1)
 
 -- ---- what a check gives
 
 -- A certificate is refused by its lines, by a record, or by its END line.
-pub data CheckRefusal (network : Project) (text printed : List ℕ) : Type 0 where
-  grammar : CheckRefusesGrammar network text printed → CheckRefusal network text printed
-  counts : CheckRefusesCounts network text printed → CheckRefusal network text printed
-  record_refused : (cause : CertRefused) → CheckRefuses network text printed cause → CheckRefusal network text printed
-  other_end : CheckRefusesEnd network text printed → CheckRefusal network text printed
+pub data CheckRefusal (project : Project) (text printed : List ℕ) : Type 0 where
+  grammar : CheckRefusesGrammar project text printed → CheckRefusal project text printed
+  counts : CheckRefusesCounts project text printed → CheckRefusal project text printed
+  record_refused : (cause : CertRefused) → CheckRefuses project text printed cause → CheckRefusal project text printed
+  other_end : CheckRefusesEnd project text printed → CheckRefusal project text printed
 
 -- What was printed of a text that was checked to its end.
 abbrev pub CheckEnds : Project → List ℕ → List ℕ → CheckEnd → Type 0
-CheckEnds network text printed Accepted = CheckAccepts network text printed
-CheckEnds network text printed Refused = CheckRefusal network text printed
+CheckEnds project text printed Accepted = CheckAccepts project text printed
+CheckEnds project text printed Refused = CheckRefusal project text printed
 
 -- What was found of a text so far: it begins as the certificate of a run, and what is printed of it begins so. Every
 -- history agrees with it.
-pub record CheckFinds (network : Project) (text report : List ℕ) : Type 0 where
+pub record CheckFinds (project : Project) (text report : List ℕ) : Type 0 where
   pub founds : List Found
   pub left : Standing
-  pub is_run : IsRun network founds left
-  pub rows_fit : All (IsRow (junction_count network) (tank_count network)) (rows_of founds)
-  pub begins : BeginsWithFound network founds text
-  pub report_so_far : report ≡ report_text network (lines_of founds) []
-  pub every_history : EveryHistoryAgrees network founds
+  pub is_run : IsRun project founds left
+  pub rows_fit : All (IsRow (junction_count project) (tank_count project)) (rows_of founds)
+  pub begins : BeginsWithFound project founds text
+  pub report_so_far : report ≡ report_text project (lines_of founds) []
+  pub every_history : EveryHistoryAgrees project founds
 
 -- A fault of the outside broke a check off: what was printed is a front of the whole report of the text, or of that on
 -- the records so far, without a last line.
-pub data CheckBreaksOff (network : Project) (text printed : List ℕ) : Type 0 where
-  in_last_line : (end : CheckEnd) (unprinted : List ℕ) → CheckEnds network text (printed ++ unprinted) end
-      → CheckBreaksOff network text printed
-  in_records : (unprinted : List ℕ) → CheckFinds network text (printed ++ unprinted)
-      → CheckBreaksOff network text printed
+pub data CheckBreaksOff (project : Project) (text printed : List ℕ) : Type 0 where
+  in_last_line : (end : CheckEnd) (unprinted : List ℕ) → CheckEnds project text (printed ++ unprinted) end
+      → CheckBreaksOff project text printed
+  in_records : (unprinted : List ℕ) → CheckFinds project text (printed ++ unprinted)
+      → CheckBreaksOff project text printed

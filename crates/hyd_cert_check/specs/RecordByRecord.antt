@@ -33,8 +33,8 @@ use Rattle.hyd_cert_check.specs.declared.outcome.CheckEnd.{CheckEnd}
 use Rattle.hyd_cert_check.specs.declared.outcome.CheckEnd.TheVariants as ends
 use Rattle.hyd_cert_check.specs.declared.outcome.CheckFault.{CheckFault}
 use Rattle.hyd_cert_check.specs.declared.outcome.CheckFault.TheVariants.{Output}
-use Rattle.hyd_cert_check.specs.declared.outcome.Verdict.{Verdict}
-use Rattle.hyd_cert_check.specs.declared.outcome.Verdict.TheVariants.{Accepted, Refused, OtherEnd, Grammar, Counts}
+use Rattle.hyd_cert_check.specs.declared.outcome.Conclusion.{Conclusion}
+use Rattle.hyd_cert_check.specs.declared.outcome.Conclusion.TheVariants.{Accepted, Refused, OtherEnd, Grammar, Counts}
 
 -- ---- one record
 
@@ -52,10 +52,10 @@ pub record IsRead (header : Header) (row : Record) (before now : Moment) : Type 
       ≡ lines_on before.reader.line (lead_lines before.reader.stand + heads_in header.junctions header.tanks)
 
 -- The record that was due was read, and what was found of it.
-pub record IsStep (network : Project) (left next : Standing) (found : Found) : Type 0 where
+pub record IsStep (project : Project) (left next : Standing) (found : Found) : Type 0 where
   pub begins : found.standing ≡ left
   pub leaves : found.next ≡ next
-  pub is_found : IsFound network found
+  pub is_found : IsFound project found
   pub number : next.number ≡ suc left.number
 
 -- The reader goes on at its place, and the pen is open.
@@ -95,61 +95,61 @@ pub record IsOfPeriod (sim : SimView) : Type 0 where
 -- ---- where the records end
 
 -- The next record was read, and is refused at the standing.
-pub record IsRefusedNext (network : Project) (left : Standing) (cause : CertRefused) (before now : Moment) : Type 0
+pub record IsRefusedNext (project : Project) (left : Standing) (cause : CertRefused) (before now : Moment) : Type 0
   where
     pub row : Record
-    pub read : IsRead (header_for network) row before now
-    pub refused : IsRefused network left row cause
+    pub read : IsRead (header_for project) row before now
+    pub refused : IsRefused project left row cause
 
 -- The END line was read, and is what is left of the text.
-pub record IsEnd (network : Project) (periods : ℕ) (finished : Bool) (before : Moment) : Type 0 where
+pub record IsEnd (project : Project) (periods : ℕ) (finished : Bool) (before : Moment) : Type 0 where
   pub text : coming before ≡ where_told before.told.rest
-      (lead before.reader.stand (header_for network) ++ end_line periods finished)
+      (lead before.reader.stand (header_for project) ++ end_line periods finished)
   pub fits : periods < 2 ^ 32
 
 -- It says something else than that so many records stand before it, and whether the run is finished.
-pub record IsOtherEnd (network : Project) (left : Standing) (before : Moment) : Type 0 where
+pub record IsOtherEnd (project : Project) (left : Standing) (before : Moment) : Type 0 where
   pub periods : ℕ
   pub finished : Bool
-  pub is_end : IsEnd network periods finished before
+  pub is_end : IsEnd project periods finished before
   pub other : ((periods ≡ left.number) × (finished ≡ left.finished)) → ⊥
 
 -- The line of this number is the first that can't stand where it does, and no whole record stands before it.
-pub record IsGrammarFault (network : Project) (line : ℕ) (before : Moment) : Type 0 where
+pub record IsGrammarFault (project : Project) (line : ℕ) (before : Moment) : Type 0 where
   pub offset : ℕ
   pub number : line ≡ lines_on before.reader.line offset
-  pub fault : IsFault (header_for network) (place_of before.reader.stand) (coming before) offset
-  pub no_record : LacksRecord before.reader.stand (header_for network) (coming before)
+  pub fault : IsFault (header_for project) (place_of before.reader.stand) (coming before) offset
+  pub no_record : LacksRecord before.reader.stand (header_for project) (coming before)
 
 -- The text goes on with a header line of another version or of other counts.
-pub record IsCountsFault (network : Project) (line : ℕ) (before : Moment) : Type 0 where
+pub record IsCountsFault (project : Project) (line : ℕ) (before : Moment) : Type 0 where
   pub first : place_of before.reader.stand ≡ First
   pub number : line ≡ lines_on before.reader.line 1
-  pub other_header : HasOtherHeader (header_for network) (coming before)
+  pub other_header : HasOtherHeader (header_for project) (coming before)
 
 -- The number of the END line behind the records of a standing, counted from 1.
 abbrev pub end_number : Project → Standing → ℕ
-end_number network left = 2 + left.number * (1 + heads_in (junction_count network) (tank_count network))
+end_number project left = 2 + left.number * (1 + heads_in (junction_count project) (tank_count project))
 
 -- What is found at a standing where the records end.
-abbrev pub IsSo : Verdict → Project → Standing → Moment → Moment → Type 0
-IsSo (Accepted finished) network left before now =
-    IsEnd network left.number finished before × (finished ≡ left.finished)
-IsSo (Refused cause) network left before now = IsRefusedNext network left cause before now
-IsSo (OtherEnd line) network left before now = IsOtherEnd network left before × (line ≡ end_number network left)
-IsSo (Grammar line) network left before now = IsGrammarFault network line before
-IsSo (Counts line) network left before now = IsCountsFault network line before
+abbrev pub IsSo : Conclusion → Project → Standing → Moment → Moment → Type 0
+IsSo (Accepted finished) project left before now =
+    IsEnd project left.number finished before × (finished ≡ left.finished)
+IsSo (Refused cause) project left before now = IsRefusedNext project left cause before now
+IsSo (OtherEnd line) project left before now = IsOtherEnd project left before × (line ≡ end_number project left)
+IsSo (Grammar line) project left before now = IsGrammarFault project line before
+IsSo (Counts line) project left before now = IsCountsFault project line before
 
 -- The records end: the standing stays, and nothing was put in.
-pub record IsOver (verdict : Verdict) (sim now : SimView) (before after : Moment) : Type 0 where
+pub record IsOver (conclusion : Conclusion) (sim now : SimView) (before after : Moment) : Type 0 where
   pub stays : standing_of now ≡ standing_of sim
-  pub is_so : IsSo verdict now.project (standing_of now) before after
+  pub is_so : IsSo conclusion now.project (standing_of now) before after
   pub put : PutIn [] before after
 
 -- What one turn gives: a record was accepted, or the records end, or a fault broke it off.
-abbrev pub TurnGives : Result (Option Verdict) CheckFault → SimView → SimView → Moment → Moment → Type 0
+abbrev pub TurnGives : Result (Option Conclusion) CheckFault → SimView → SimView → Moment → Moment → Type 0
 TurnGives (Ok None) sim now before after = DidRecord sim now before after
-TurnGives (Ok (Some verdict)) sim now before after = IsOver verdict sim now before after
+TurnGives (Ok (Some conclusion)) sim now before after = IsOver conclusion sim now before after
 TurnGives (Err fault) sim now before after = IsLost fault sim now before after
 
 -- What a record that was read gives: it was accepted, or it is refused, or a fault cut its report off.
@@ -161,33 +161,33 @@ TryGives (Err why) sim now before after = LostRecord (Output why) sim now before
 -- ---- a check as far as it has gone
 
 -- Of the text to come at first, nothing was read, or the header line and these records.
-pub data IsReadTo (network : Project) (before now : Moment) : List Record → Type 0 where
+pub data IsReadTo (project : Project) (before now : Moment) : List Record → Type 0 where
   nothing : now.reader.stand ≡ stand.First → coming now ≡ coming before → now.reader.line ≡ 0
-      → IsReadTo network before now []
+      → IsReadTo project before now []
   records : {rows : List Record} → now.reader.stand ≡ stand.Between
-      → BeginsWith (header_for network) rows (coming before) (coming now)
-      → now.reader.line ≡ lines_on 0 (record_lines (header_for network) rows) → IsReadTo network before now rows
+      → BeginsWith (header_for project) rows (coming before) (coming now)
+      → now.reader.line ≡ lines_on 0 (record_lines (header_for project) rows) → IsReadTo project before now rows
 
 -- What was found so far is a run that leaves a standing, with one record for each period that was done; its records
 -- were read, and its report as far as it goes was put in at the pen.
-pub record IsSoFar (network : Project) (left : Standing) (before now : Moment) : Type 0 where
+pub record IsSoFar (project : Project) (left : Standing) (before now : Moment) : Type 0 where
   pub founds : List Found
-  pub is_run : IsRun network founds left
-  pub fit : All (IsRow (junction_count network) (tank_count network)) (rows_of founds)
+  pub is_run : IsRun project founds left
+  pub fit : All (IsRow (junction_count project) (tank_count project)) (rows_of founds)
   pub each : length founds ≡ left.number
-  pub read : IsReadTo network before now (rows_of founds)
-  pub put : PutIn (report_so_far network left founds None) before now
+  pub read : IsReadTo project before now (rows_of founds)
+  pub put : PutIn (report_so_far project left founds None) before now
 
 -- The last line of a report on so many records.
-abbrev pub verdict_line : Project → ℕ → Verdict → List ℕ
-verdict_line network count (Accepted finished) = accepted_line count finished
-verdict_line network count (Refused cause) = refused_line network cause
-verdict_line network count (OtherEnd line) = refused_end_line line
-verdict_line network count (Grammar line) = refused_grammar_line line
-verdict_line network count (Counts line) = refused_counts_line line
+abbrev pub conclusion_line : Project → ℕ → Conclusion → List ℕ
+conclusion_line project count (Accepted finished) = accepted_line count finished
+conclusion_line project count (Refused cause) = refused_line project cause
+conclusion_line project count (OtherEnd line) = refused_end_line line
+conclusion_line project count (Grammar line) = refused_grammar_line line
+conclusion_line project count (Counts line) = refused_counts_line line
 
 -- How a check ends with what is found.
-abbrev pub end_of : Verdict → CheckEnd
+abbrev pub end_of : Conclusion → CheckEnd
 end_of (Accepted finished) = ends.Accepted
 end_of (Refused cause) = ends.Refused
 end_of (OtherEnd line) = ends.Refused
@@ -195,38 +195,38 @@ end_of (Grammar line) = ends.Refused
 end_of (Counts line) = ends.Refused
 
 -- The report of the whole text was put in.
-pub record IsWhole (network : Project) (end : CheckEnd) (before now : Moment) : Type 0 where
+pub record IsWhole (project : Project) (end : CheckEnd) (before now : Moment) : Type 0 where
   pub report : List ℕ
-  pub holds : (text : List ℕ) → coming before ≡ Some text → CheckEnds network text report end
+  pub holds : (text : List ℕ) → coming before ≡ Some text → CheckEnds project text report end
   pub put : PutIn report before now
 
 -- A fault cut off the report of the whole text, or that of what was found so far.
-pub record IsCutShort (network : Project) (fault : CheckFault) (before now : Moment) : Type 0 where
+pub record IsCutShort (project : Project) (fault : CheckFault) (before now : Moment) : Type 0 where
   pub report : List ℕ
   pub holds : (text : List ℕ) → coming before ≡ Some text
-      → ((end : CheckEnd) × CheckEnds network text report end) ⊎ CheckFinds network text report
+      → ((end : CheckEnd) × CheckEnds project text report end) ⊎ CheckFinds project text report
   pub cut : IsCutOff fault report before now
 
 -- Where the records end: what was put in before as a check so far is one still, and this is found.
-pub record AllRead (verdict : Verdict) (network : Project) (left : Standing) (start now : Moment) : Type 0 where
+pub record AllRead (conclusion : Conclusion) (project : Project) (left : Standing) (start now : Moment) : Type 0 where
   pub at_last : Moment
-  pub so_far : IsSoFar network left start at_last
-  pub is_so : IsSo verdict network left at_last now
+  pub so_far : IsSoFar project left start at_last
+  pub is_so : IsSo conclusion project left at_last now
   pub put : PutIn [] at_last now
 
 -- What the turns of a check do: whatever was put in before them as a check so far is one still where the records end,
 -- or is cut short.
-abbrev pub TurnsGive : Result Verdict CheckFault → SimView → SimView → Moment → Moment → Type 0
-TurnsGive (Ok verdict) sim now before after =
+abbrev pub TurnsGive : Result Conclusion CheckFault → SimView → SimView → Moment → Moment → Type 0
+TurnsGive (Ok conclusion) sim now before after =
     (start : Moment) → IsSoFar sim.project (standing_of sim) start before
-    → AllRead verdict sim.project (standing_of now) start after
+    → AllRead conclusion sim.project (standing_of now) start after
 TurnsGive (Err fault) sim now before after =
     (start : Moment) → IsSoFar sim.project (standing_of sim) start before → IsCutShort sim.project fault start after
 
 -- What a check does before the pen is emptied.
 abbrev pub CheckPuts : Result CheckEnd CheckFault → Project → Moment → Moment → Type 0
-CheckPuts (Ok end) network before after = IsWhole network end before after
-CheckPuts (Err fault) network before after = IsCutShort network fault before after
+CheckPuts (Ok end) project before after = IsWhole project end before after
+CheckPuts (Err fault) project before after = IsCutShort project fault before after
 
 -- A text was printed of which this holds.
 pub record IsPrinted (P : List ℕ → Type 0) (before now : Option (List ℕ)) : Type 0 where

@@ -3,21 +3,12 @@
 
 ghost use Rattle.std.specs.Prelude.{◌≡◌, ◌++◌, [], codes, decimal, IsTrue, OnOk};
 ghost use Rattle.hyd_io.specs.Output.{OnCert};
-ghost use Rattle.hyd_report.specs.Putting.{Puts};
+ghost use Rattle.hyd_io.specs.Putting.{Puts};
 ghost use Rattle.hyd_run.specs.Runs.{first_line};
 ghost use Rattle.hyd_cert_check.specs.Checks.{refused_grammar_line, refused_counts_line};
 
 use hyd_io::{Desk, OutFault, Pen};
 use itoa::Buffer;
-
-// Puts a text.
-fn put_text<D: Desk>(text: &[u8], pen: &mut Pen, desk: &mut D) -> Result<(), OutFault>
-    requires { OnCert pen.old.to (IsTrue (D.ready desk.old)) }
-    ensures { Puts D.files D.rest D.written D.printed D.target D.ready D.counts D.openings
-        text.now result pen.old pen.new desk.old desk.new }
-{
-    pen.put(desk, text)
-}
 
 // Puts a number.
 fn put_number<D: Desk>(number: u64, pen: &mut Pen, desk: &mut D) -> Result<(), OutFault>
@@ -26,7 +17,7 @@ fn put_number<D: Desk>(number: u64, pen: &mut Pen, desk: &mut D) -> Result<(), O
         (decimal number) result pen.old pen.new desk.old desk.new }
 {
     let mut digits = Buffer::new();
-    put_text(digits.format(number).as_bytes(), pen, desk)
+    pen.put(desk, digits.format(number).as_bytes())
 }
 
 /// Puts the first line of a report.
@@ -35,7 +26,7 @@ pub(crate) fn put_first<D: Desk>(pen: &mut Pen, desk: &mut D) -> Result<(), OutF
     ensures { Puts D.files D.rest D.written D.printed D.target D.ready D.counts D.openings
         first_line result pen.old pen.new desk.old desk.new }
 {
-    put_text(b"HYD 1\n", pen, desk)
+    pen.put(desk, b"HYD 1\n")
 }
 
 /// Puts out all that a pen holds.
@@ -59,7 +50,7 @@ fn put_bad_line<D: Desk>(
     ensures { Puts D.files D.rest D.written D.printed D.target D.ready D.counts D.openings
         (codes "BADCERT line " ++ (decimal number ++ word.now)) result pen.old pen.new desk.old desk.new }
 {
-    match put_text(b"BADCERT line ", pen, desk) {
+    match pen.put(desk, b"BADCERT line ") {
         Ok(()) => {}
         Err(fault) => return Err(fault),
     }
@@ -67,7 +58,7 @@ fn put_bad_line<D: Desk>(
         Ok(()) => {}
         Err(fault) => return Err(fault),
     }
-    put_text(word, pen, desk)
+    pen.put(desk, word)
 }
 
 /// Puts the last line where the certificate is no certificate from the line of this number on.

@@ -4,12 +4,12 @@
 ghost use Rattle.std.specs.Prelude.{IsTrue};
 ghost use Rattle.hyd_io.specs.Output.{OnCert};
 ghost use Rattle.hyd_net.specs.Sound.{Sound};
-ghost use Rattle.hyd_report.specs.Putting.{Puts};
+ghost use Rattle.hyd_io.specs.Putting.{Puts};
 ghost use Rattle.hyd_spec_reports.specs.PromisesOfRunsAndChecks.{accepted_line};
-ghost use Rattle.hyd_cert_check.specs.RecordByRecord.{verdict_line};
+ghost use Rattle.hyd_cert_check.specs.RecordByRecord.{conclusion_line};
 
 use crate::first_and_refusing_report_lines::{put_counts, put_grammar};
-use crate::outcome::Verdict;
+use crate::outcome::Conclusion;
 use hyd_io::{Desk, OutFault, Pen};
 use hyd_net::Project;
 use hyd_report::{put_done, put_partial, put_refused, put_refused_end};
@@ -32,23 +32,23 @@ fn put_accepted<D: Desk>(
 }
 
 /// Puts the last line of a report on so many records.
-pub(crate) fn put_verdict<D: Desk>(
+pub(crate) fn put_conclusion<D: Desk>(
     project: &Project,
     records: u32,
-    verdict: &Verdict,
+    conclusion: &Conclusion,
     pen: &mut Pen,
     desk: &mut D,
 ) -> Result<(), OutFault>
     requires sound { Sound project.now }
     requires ready { OnCert pen.old.to (IsTrue (D.ready desk.old)) }
     ensures { Puts D.files D.rest D.written D.printed D.target D.ready D.counts D.openings
-        (verdict_line project.now records verdict.now) result pen.old pen.new desk.old desk.new }
+        (conclusion_line project.now records conclusion.now) result pen.old pen.new desk.old desk.new }
 {
-    match verdict {
-        Verdict::Accepted(finished) => put_accepted(records, *finished, pen, desk),
-        Verdict::Refused(cause) => put_refused(project, cause, pen, desk),
-        Verdict::OtherEnd(line) => put_refused_end(*line, pen, desk),
-        Verdict::Grammar(line) => put_grammar(*line, pen, desk),
-        Verdict::Counts(line) => put_counts(*line, pen, desk),
+    match conclusion {
+        Conclusion::Accepted(finished) => put_accepted(records, *finished, pen, desk),
+        Conclusion::Refused(cause) => put_refused(project, cause, pen, desk),
+        Conclusion::OtherEnd(line) => put_refused_end(*line, pen, desk),
+        Conclusion::Grammar(line) => put_grammar(*line, pen, desk),
+        Conclusion::Counts(line) => put_counts(*line, pen, desk),
     }
 }

@@ -26,7 +26,7 @@ pub enum CheckFault {
 
 /// What is found of a certificate where its records end.
 #[derive(Clone, Copy)]
-pub(crate) enum Verdict {
+pub(crate) enum Conclusion {
     /// Its END line says what is so: whether the run is finished.
     Accepted(bool),
     /// The next record is refused.

@@ -8,7 +8,7 @@ ghost use Rattle.hyd_cert.specs.RecordView.{header_of, row_of};
 ghost use Rattle.hyd_period_network.specs.NetAsPeriodNetwork.{grid_of, states_of};
 ghost use Rattle.hyd_report.specs.NodeAndLinkLines.{texts};
 ghost use Rattle.hyd_report.specs.PeriodLines.{lines_of};
-ghost use Rattle.hyd_report.specs.Putting.{Puts};
+ghost use Rattle.hyd_io.specs.Putting.{Puts};
 ghost use Rattle.hyd_run.specs.Pens.{told};
 ghost use Rattle.hyd_sim.specs.View.{header_for, standing_of};
 ghost use Rattle.hyd_cert_check.specs.ReaderAndPen.{Moment, moment, IsOpen, PutIn};
@@ -16,7 +16,7 @@ ghost use Rattle.hyd_cert_check.specs.RecordByRecord.{CanGoOn, IsEnd, IsOfPeriod
 ghost use Rattle.hyd_cert_check.specs.RecordByRecord.{TurnsGive};
 ghost use Rattle.hyd_cert_check.specs.RecordByRecord.{end_number};
 
-use crate::outcome::{CheckFault, Verdict};
+use crate::outcome::{CheckFault, Conclusion};
 use hyd_cert::{CertFault, CertNext, CertReader, Record};
 use hyd_io::{Desk, OutFault, Pen};
 use hyd_report::put_report;
@@ -36,19 +36,19 @@ fn end_number(sim: &Sim, row: &Record) -> u64
 }
 
 // What an END line says of the records before it.
-fn judge_end(sim: &Sim, row: &Record, periods: u32, finished: bool) -> Verdict
+fn judge_end(sim: &Sim, row: &Record, periods: u32, finished: bool) -> Conclusion
     requires { header_of row.now ≡ header_for sim.now.project }
     ensures { (before now : Moment) → IsEnd sim.now.project periods finished before
         → IsSo result sim.now.project (standing_of sim.now) before now }
 {
-    let other = Verdict::OtherEnd(end_number(sim, row));
+    let other = Conclusion::OtherEnd(end_number(sim, row));
     if periods != sim.number() {
         return other;
     }
     if finished != sim.is_finished() {
         return other;
     }
-    Verdict::Accepted(finished)
+    Conclusion::Accepted(finished)
 }
 
 // Puts the report of the last period of a run.
@@ -107,7 +107,7 @@ fn take_record<D: Desk>(
     row: &mut Record,
     pen: &mut Pen,
     desk: &mut D,
-) -> Result<Option<Verdict>, CheckFault>
+) -> Result<Option<Conclusion>, CheckFault>
     requires running { sim.old.stopped ≡ None }
     requires header { header_of row.old ≡ header_for sim.old.project }
     requires going { CanGoOn (moment reader.old pen.old
@@ -128,12 +128,12 @@ fn take_record<D: Desk>(
             return Ok(Some(judge_end(sim, row, periods, finished)));
         }
         Err(CertFault::Read) => return Err(CheckFault::Read),
-        Err(CertFault::Grammar { line }) => return Ok(Some(Verdict::Grammar(line))),
-        Err(CertFault::Count { line }) => return Ok(Some(Verdict::Counts(line))),
+        Err(CertFault::Grammar { line }) => return Ok(Some(Conclusion::Grammar(line))),
+        Err(CertFault::Count { line }) => return Ok(Some(Conclusion::Counts(line))),
     }
     match try_record(sim, row, pen, desk) {
         Ok(None) => Ok(None),
-        Ok(Some(cause)) => Ok(Some(Verdict::Refused(cause))),
+        Ok(Some(cause)) => Ok(Some(Conclusion::Refused(cause))),
         Err(fault) => Err(CheckFault::Output(fault)),
     }
 }
@@ -145,7 +145,7 @@ pub(crate) fn take_records<D: Desk>(
     row: &mut Record,
     pen: &mut Pen,
     desk: &mut D,
-) -> Result<Verdict, CheckFault>
+) -> Result<Conclusion, CheckFault>
     requires running { sim.old.stopped ≡ None }
     requires header { header_of row.old ≡ header_for sim.old.project }
     requires going { CanGoOn (moment reader.old pen.old
@@ -164,7 +164,7 @@ pub(crate) fn take_records<D: Desk>(
     loop {
         match take_record(sim, reader, row, pen, desk) {
             Ok(None) => {}
-            Ok(Some(verdict)) => return Ok(verdict),
+            Ok(Some(conclusion)) => return Ok(conclusion),
             Err(fault) => return Err(fault),
         }
     }

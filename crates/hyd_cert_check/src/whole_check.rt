@@ -13,19 +13,19 @@ ghost use Rattle.hyd_cert_check.specs.ReaderAndPen.{Moment, moment, new_pen, IsO
 ghost use Rattle.hyd_cert_check.specs.RecordByRecord.{AllRead, CheckPuts, IsPrinted, IsWhole, end_of};
 
 use crate::first_and_refusing_report_lines::{empty, put_first};
-use crate::last_report_line::put_verdict;
-use crate::outcome::{CheckEnd, CheckFault, Verdict};
+use crate::last_report_line::put_conclusion;
+use crate::outcome::{CheckEnd, CheckFault, Conclusion};
 use crate::records::take_records;
 use hyd_cert::{CertReader, Record};
 use hyd_io::{Desk, Pen};
 use hyd_sim::Sim;
 
 // How a check ends with what is found.
-fn end_of(verdict: Verdict) -> CheckEnd
-    ensures { result ≡ end_of verdict }
+fn end_of(conclusion: Conclusion) -> CheckEnd
+    ensures { result ≡ end_of conclusion }
 {
-    match verdict {
-        Verdict::Accepted(_) => CheckEnd::Accepted,
+    match conclusion {
+        Conclusion::Accepted(_) => CheckEnd::Accepted,
         _ => CheckEnd::Refused,
     }
 }
@@ -33,19 +33,19 @@ fn end_of(verdict: Verdict) -> CheckEnd
 // Puts the last line of a check whose records end.
 fn put_ending<D: Desk>(
     sim: &Sim,
-    verdict: Verdict,
+    conclusion: Conclusion,
     pen: &mut Pen,
     desk: &mut D,
 ) -> Result<CheckEnd, CheckFault>
     requires { IsOpen pen.old }
     ensures { (start : Moment) (reader : ReaderView)
-        → AllRead verdict sim.now.project (standing_of sim.now) start (moment reader pen.old
+        → AllRead conclusion sim.now.project (standing_of sim.now) start (moment reader pen.old
         (told D.files D.rest D.written D.printed D.target D.ready D.counts D.openings desk.old))
         → CheckPuts result sim.now.project start (moment reader pen.new
         (told D.files D.rest D.written D.printed D.target D.ready D.counts D.openings desk.new)) }
 {
-    match put_verdict(sim.project(), sim.number(), &verdict, pen, desk) {
-        Ok(()) => Ok(end_of(verdict)),
+    match put_conclusion(sim.project(), sim.number(), &conclusion, pen, desk) {
+        Ok(()) => Ok(end_of(conclusion)),
         Err(fault) => Err(CheckFault::Output(fault)),
     }
 }
@@ -78,7 +78,7 @@ fn put_check<D: Desk>(
         Err(fault) => return Err(CheckFault::Output(fault)),
     }
     match take_records(sim, reader, row, pen, desk) {
-        Ok(verdict) => put_ending(sim, verdict, pen, desk),
+        Ok(conclusion) => put_ending(sim, conclusion, pen, desk),
         Err(fault) => Err(fault),
     }
 }
@@ -86,10 +86,10 @@ fn put_check<D: Desk>(
 // Empties the pen behind a report that was put in whole.
 fn finish<D: Desk>(end: CheckEnd, pen: &mut Pen, desk: &mut D) -> Result<CheckEnd, CheckFault>
     requires { IsOpen pen.old }
-    ensures puts { (network : Project) (start : Moment) (reader : ReaderView)
-        → IsWhole network end start (moment reader pen.old
+    ensures puts { (project : Project) (start : Moment) (reader : ReaderView)
+        → IsWhole project end start (moment reader pen.old
         (told D.files D.rest D.written D.printed D.target D.ready D.counts D.openings desk.old))
-        → CheckPuts result network start (moment reader pen.new
+        → CheckPuts result project start (moment reader pen.new
         (told D.files D.rest D.written D.printed D.target D.ready D.counts D.openings desk.new)) }
     ensures report { OnOk result (pen.new ≡ new_pen) }
 {

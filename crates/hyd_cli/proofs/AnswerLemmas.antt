@@ -1,7 +1,6 @@
 -- How what a call leaves follows from what the calls in it leave.
 use Rattle.std.proofs.Common.{◌≡◌, ◌≢◌, ℕ, List, [], Option, None, Some, ◌⊎◌, inl, inr, ◌∙◌, refl, sym, ap, subst}
 use Rattle.std.proofs.Common.{is_some}
-use Rattle.std.specs.Option.{option_map_or}
 use Rattle.std.proofs.lemmas.Bool.{false≢true}
 use Rattle.hyd_io.specs.DeskBytes.{Files, where_told, append_known, file_at, content_of}
 use Rattle.hyd_io.specs.FailureCounts.{with_opened, with_created}
@@ -21,7 +20,7 @@ use Rattle.hyd_sim.specs.declared.settings.Settings.{Settings}
 use Rattle.hyd_run.specs.Pens.{Told, OneRose, LeavesRest}
 use Rattle.hyd_run.specs.Runs.{IsPutOut, IsBrokenOff}
 use Rattle.hyd_cli.specs.DeskContents.{Seen, IsUntouched, NothingPut}
-use Rattle.hyd_cli.specs.Answers.{HasCause, status_of}
+use Rattle.hyd_cli.specs.Answers.{HasCause, status_of_fault}
 use Rattle.hyd_cli.specs.RunAnswers.{Delivered, CutShort, OpensOnce}
 use Rattle.hyd_cli.specs.Answers.{LeavesRun, AnswersRefused}
 use Rattle.hyd_cli.specs.RunAnswers.{OpensCert, Holds, AnswersRun, AnswersText}
@@ -30,6 +29,7 @@ use Rattle.hyd_cli.specs.declared.status.Status.{Status}
 use Rattle.hyd_cli.specs.declared.status.Status.TheVariants.{Done, OutOfMemory, Usage, ReadFault, WriteFault}
 use Rattle.hyd_cli.specs.declared.status.Status.TheVariants.{InputRefused, Undecided, RoundsSpent, Demand}
 use Rattle.hyd_cli.specs.declared.status.Status.TheVariants.{CertificateRefused, Stalled}
+use Rattle.hyd_lemmas.proofs.ListsAndOptions.{same_item}
 
 -- ---- what was untouched is the same
 
@@ -91,15 +91,15 @@ by_end P (Stopped (EventOpen period earliest latest)) d u r o = u refl
 by_end P (Stopped (Rounds period problem side rounds)) d u r o = r refl
 by_end P (Stopped (OutOfRange period junction demand)) d u r o = o refl
 
-pub answers_end : (network : Project) (settings : Settings) (cert : List ℕ) (outcome : Outcome) (before now : Seen)
-    → Delivered network settings cert (status_of_outcome outcome) before now
-    → AnswersRun network settings cert (status_of_outcome outcome) before now
-answers_end network settings cert outcome before now h =
-    by_end (λ status. AnswersRun network settings cert status before now) outcome
-    (λ e. subst (λ s. Delivered network settings cert s before now) (sym e) h)
-    (λ e. subst (λ s. Delivered network settings cert s before now) (sym e) h)
-    (λ e. subst (λ s. Delivered network settings cert s before now) (sym e) h)
-    (λ e. subst (λ s. Delivered network settings cert s before now) (sym e) h)
+pub answers_end : (project : Project) (settings : Settings) (cert : List ℕ) (outcome : Outcome) (before now : Seen)
+    → Delivered project settings cert (status_of_outcome outcome) before now
+    → AnswersRun project settings cert (status_of_outcome outcome) before now
+answers_end project settings cert outcome before now h =
+    by_end (λ status. AnswersRun project settings cert status before now) outcome
+    (λ e. subst (λ s. Delivered project settings cert s before now) (sym e) h)
+    (λ e. subst (λ s. Delivered project settings cert s before now) (sym e) h)
+    (λ e. subst (λ s. Delivered project settings cert s before now) (sym e) h)
+    (λ e. subst (λ s. Delivered project settings cert s before now) (sym e) h)
 
 pub cause_of_end : (outcome : Outcome) (before now : Faults) → now ≡ before
     → HasCause (status_of_outcome outcome) before now
@@ -113,21 +113,21 @@ opens_of_end outcome before now e =
 
 -- ---- a fault of output
 
-pub answers_fault : (network : Project) (settings : Settings) (cert : List ℕ) (fault : OutFault) (before now : Seen)
-    → NothingPut before now ⊎ CutShort network settings cert before now
-    → AnswersRun network settings cert (status_of fault) before now
-answers_fault network settings cert Fault before now h = h
-answers_fault network settings cert Stall before now h = h
+pub answers_fault : (project : Project) (settings : Settings) (cert : List ℕ) (fault : OutFault) (before now : Seen)
+    → NothingPut before now ⊎ CutShort project settings cert before now
+    → AnswersRun project settings cert (status_of_fault fault) before now
+answers_fault project settings cert Fault before now h = h
+answers_fault project settings cert Stall before now h = h
 
 pub cause_of_fault : (fault : OutFault) (before now : Faults) → OneRose fault before now
-    → HasCause (status_of fault) before now
+    → HasCause (status_of_fault fault) before now
 cause_of_fault Fault before now (inl e) = inl e
 cause_of_fault Fault before now (inr e) = inr e
 cause_of_fault Stall before now (inl e) = e
 cause_of_fault Stall before now (inr e) = e
 
 pub opens_of_fault : (fault : OutFault) (before now : Openings) → now ≡ with_created before
-    → OpensCert (status_of fault) before now
+    → OpensCert (status_of_fault fault) before now
 opens_of_fault Fault before now e = inr e
 opens_of_fault Stall before now e = inr e
 
@@ -181,104 +181,104 @@ refusal_never_usage line cause status before now h = λ e. subst (λ s. AnswersR
 
 -- ---- networks
 
-run_leaves : (network : Project) (settings : Settings) (cert : List ℕ) (status : Status) (before now : Seen)
-    → AnswersRun network settings cert status before now → LeavesRun status before now
-run_leaves network settings cert Done before now h = tt
-run_leaves network settings cert OutOfMemory before now h = h
-run_leaves network settings cert Usage before now h = absurd h
-run_leaves network settings cert ReadFault before now h = absurd h
-run_leaves network settings cert WriteFault before now h = tt
-run_leaves network settings cert InputRefused before now h = absurd h
-run_leaves network settings cert Undecided before now h = tt
-run_leaves network settings cert RoundsSpent before now h = tt
-run_leaves network settings cert Demand before now h = tt
-run_leaves network settings cert CertificateRefused before now h = absurd h
-run_leaves network settings cert Stalled before now h = tt
+run_leaves : (project : Project) (settings : Settings) (cert : List ℕ) (status : Status) (before now : Seen)
+    → AnswersRun project settings cert status before now → LeavesRun status before now
+run_leaves project settings cert Done before now h = tt
+run_leaves project settings cert OutOfMemory before now h = h
+run_leaves project settings cert Usage before now h = absurd h
+run_leaves project settings cert ReadFault before now h = absurd h
+run_leaves project settings cert WriteFault before now h = tt
+run_leaves project settings cert InputRefused before now h = absurd h
+run_leaves project settings cert Undecided before now h = tt
+run_leaves project settings cert RoundsSpent before now h = tt
+run_leaves project settings cert Demand before now h = tt
+run_leaves project settings cert CertificateRefused before now h = absurd h
+run_leaves project settings cert Stalled before now h = tt
 
 -- where nothing or a front was put, nothing was written or the file holds it
-fronts_hold : (network : Project) (settings : Settings) (cert : List ℕ) (before now : Seen)
-    → NothingPut before now ⊎ CutShort network settings cert before now
+fronts_hold : (project : Project) (settings : Settings) (cert : List ℕ) (before now : Seen)
+    → NothingPut before now ⊎ CutShort project settings cert before now
     → (now.written ≡ before.written) ⊎ (file_at now.files cert ≡ now.written)
-fronts_hold network settings cert before now (inl h) = inl h.written
-fronts_hold network settings cert before now (inr h) = inr h.held
+fronts_hold project settings cert before now (inl h) = inl h.written
+fronts_hold project settings cert before now (inr h) = inr h.held
 
-run_holds : (network : Project) (settings : Settings) (cert : List ℕ) (status : Status) (before now : Seen)
-    → AnswersRun network settings cert status before now → Holds status cert before now
-run_holds network settings cert Done before now h = h.held
-run_holds network settings cert OutOfMemory before now h = tt
-run_holds network settings cert Usage before now h = tt
-run_holds network settings cert ReadFault before now h = tt
-run_holds network settings cert WriteFault before now h = fronts_hold network settings cert before now h
-run_holds network settings cert InputRefused before now h = tt
-run_holds network settings cert Undecided before now h = h.held
-run_holds network settings cert RoundsSpent before now h = h.held
-run_holds network settings cert Demand before now h = h.held
-run_holds network settings cert CertificateRefused before now h = tt
-run_holds network settings cert Stalled before now h = fronts_hold network settings cert before now h
+run_holds : (project : Project) (settings : Settings) (cert : List ℕ) (status : Status) (before now : Seen)
+    → AnswersRun project settings cert status before now → Holds status cert before now
+run_holds project settings cert Done before now h = h.held
+run_holds project settings cert OutOfMemory before now h = tt
+run_holds project settings cert Usage before now h = tt
+run_holds project settings cert ReadFault before now h = tt
+run_holds project settings cert WriteFault before now h = fronts_hold project settings cert before now h
+run_holds project settings cert InputRefused before now h = tt
+run_holds project settings cert Undecided before now h = h.held
+run_holds project settings cert RoundsSpent before now h = h.held
+run_holds project settings cert Demand before now h = h.held
+run_holds project settings cert CertificateRefused before now h = tt
+run_holds project settings cert Stalled before now h = fronts_hold project settings cert before now h
 
-pub run_never_usage : (network : Project) (settings : Settings) (cert : List ℕ) (status : Status) (before now : Seen)
-    → AnswersRun network settings cert status before now → status ≢ Usage
-run_never_usage network settings cert status before now h = λ e. subst (λ s. AnswersRun network settings cert s before
+pub run_never_usage : (project : Project) (settings : Settings) (cert : List ℕ) (status : Status) (before now : Seen)
+    → AnswersRun project settings cert status before now → status ≢ Usage
+run_never_usage project settings cert status before now h = λ e. subst (λ s. AnswersRun project settings cert s before
     now) e h
 
 -- the answer of the network of a text is one of the text
-text_answers : (text : List ℕ) (network : Project) (settings : Settings) (cert : List ℕ) (status : Status) (before now
+text_answers : (text : List ℕ) (project : Project) (settings : Settings) (cert : List ℕ) (status : Status) (before now
     : Seen)
-    → IsProject (rows_in (items_of text)) network
-    → AnswersRun network settings cert status before now → AnswersText text settings cert status before now
-text_answers text network settings cert Done before now p h = record { network = network; is_network = p; holds = h }
-text_answers text network settings cert OutOfMemory before now p h = h
-text_answers text network settings cert Usage before now p h = record { network = network; is_network = p; holds = h }
-text_answers text network settings cert ReadFault before now p h = absurd h
-text_answers text network settings cert WriteFault before now p h = record {
-  network = network;
+    → IsProject (rows_in (items_of text)) project
+    → AnswersRun project settings cert status before now → AnswersText text settings cert status before now
+text_answers text project settings cert Done before now p h = record { project = project; is_network = p; holds = h }
+text_answers text project settings cert OutOfMemory before now p h = h
+text_answers text project settings cert Usage before now p h = record { project = project; is_network = p; holds = h }
+text_answers text project settings cert ReadFault before now p h = absurd h
+text_answers text project settings cert WriteFault before now p h = record {
+  project = project;
   is_network = p;
   holds
       = h;
 }
-text_answers text network settings cert InputRefused before now p h = record {
-  network = network;
+text_answers text project settings cert InputRefused before now p h = record {
+  project = project;
   is_network = p;
   holds = h;
 }
-text_answers text network settings cert Undecided before now p h = record {
-  network = network;
+text_answers text project settings cert Undecided before now p h = record {
+  project = project;
   is_network = p;
   holds =
       h;
 }
-text_answers text network settings cert RoundsSpent before now p h = record {
-  network = network;
+text_answers text project settings cert RoundsSpent before now p h = record {
+  project = project;
   is_network = p;
   holds
       = h;
 }
-text_answers text network settings cert Demand before now p h = record { network = network; is_network = p; holds = h }
-text_answers text network settings cert CertificateRefused before now p h = absurd h
-text_answers text network settings cert Stalled before now p h = record { network = network; is_network = p; holds = h }
+text_answers text project settings cert Demand before now p h = record { project = project; is_network = p; holds = h }
+text_answers text project settings cert CertificateRefused before now p h = absurd h
+text_answers text project settings cert Stalled before now p h = record { project = project; is_network = p; holds = h }
 
 -- ---- the whole command, where nothing was touched before the network was there
 
-pub leaves_since : (network : Project) (settings : Settings) (cert : List ℕ) (status : Status) (before between now :
+pub leaves_since : (project : Project) (settings : Settings) (cert : List ℕ) (status : Status) (before between now :
     Seen)
-    → IsUntouched before between → AnswersRun network settings cert status between now → LeavesRun status before now
-leaves_since network settings cert status before between now u h = run_leaves network settings cert status before now
-    (since_before (λ b. AnswersRun network settings cert status b now) before between u h)
+    → IsUntouched before between → AnswersRun project settings cert status between now → LeavesRun status before now
+leaves_since project settings cert status before between now u h = run_leaves project settings cert status before now
+    (since_before (λ b. AnswersRun project settings cert status b now) before between u h)
 
-pub holds_since : (network : Project) (settings : Settings) (cert : List ℕ) (status : Status) (before between now :
+pub holds_since : (project : Project) (settings : Settings) (cert : List ℕ) (status : Status) (before between now :
     Seen)
-    → IsUntouched before between → AnswersRun network settings cert status between now
+    → IsUntouched before between → AnswersRun project settings cert status between now
     → Holds status cert before now
-holds_since network settings cert status before between now u h = run_holds network settings cert status before now
-    (since_before (λ b. AnswersRun network settings cert status b now) before between u h)
+holds_since project settings cert status before between now u h = run_holds project settings cert status before now
+    (since_before (λ b. AnswersRun project settings cert status b now) before between u h)
 
-pub run_since : (text : List ℕ) (network : Project) (settings : Settings) (cert : List ℕ) (status : Status) (before
+pub run_since : (text : List ℕ) (project : Project) (settings : Settings) (cert : List ℕ) (status : Status) (before
     between now : Seen)
-    → IsUntouched before between → IsProject (rows_in (items_of text)) network
-    → AnswersRun network settings cert status between now → AnswersText text settings cert status before now
-run_since text network settings cert status before between now u p h = text_answers text network settings cert status
+    → IsUntouched before between → IsProject (rows_in (items_of text)) project
+    → AnswersRun project settings cert status between now → AnswersText text settings cert status before now
+run_since text project settings cert status before between now u p h = text_answers text project settings cert status
     before now p
-    (since_before (λ b. AnswersRun network settings cert status b now) before between u h)
+    (since_before (λ b. AnswersRun project settings cert status b now) before between u h)
 
 pub refused_since : (line : ℕ) (cause : Cause) (status : Status) (before between now : Seen)
     → IsUntouched before between → AnswersRefused line cause status between now
@@ -325,29 +325,26 @@ same_refusal line other cause second status before now l c h =
 abbrev pub seen_of : Told → Seen
 seen_of told = record { files = told.files; written = told.written; printed = told.printed }
 
-some_same : (a b : List ℕ) → Some a ≡ Some b → a ≡ b
-some_same a b e = ap (λ (o : Option (List ℕ)). option_map_or (λ x. x) o []) e
-
 -- a new file is the target, and no other one
 pub other_target : (files : Option Files) (target : Option (List ℕ)) (name other : List ℕ)
     → target ≡ where_told files name → other ≢ name → target ≢ Some other
 other_target None target name other t n = λ e. false≢true (ap (λ (o : Option (List ℕ)). is_some o) (sym t ∙ e))
-other_target (Some told) target name other t n = λ e. n (some_same other name (sym e ∙ t))
+other_target (Some told) target name other t n = λ e. n (same_item _ other name (sym e ∙ t))
 
 -- what was printed since is what was printed after the call that left it as it was
 pub printed_since : (before created now : Option (List ℕ)) (text : List ℕ) → created ≡ before
     → now ≡ append_known created text → now ≡ append_known before text
 printed_since before created now text e p = rw e at p
 
-pub delivered : (network : Project) (settings : Settings) (cert : List ℕ) (outcome : Outcome) (before : Seen)
-    (created after : Told) → IsPutOut network settings outcome created after → created.written ≡ where_told
+pub delivered : (project : Project) (settings : Settings) (cert : List ℕ) (outcome : Outcome) (before : Seen)
+    (created after : Told) → IsPutOut project settings outcome created after → created.written ≡ where_told
     before.files []
     → created.printed ≡ before.printed → created.target ≡ where_told before.files cert
     → is_some created.files ≡ is_some before.files → LeavesRest created after
     → after.written ≡ content_of after.files after.target
-    → AnswersRun network settings cert (status_of_outcome outcome) before (seen_of after)
-delivered network settings cert outcome before created after out begun printed target told leaves content =
-    answers_end network settings cert outcome before (seen_of after) (record {
+    → AnswersRun project settings cert (status_of_outcome outcome) before (seen_of after)
+delivered project settings cert outcome before created after out begun printed target told leaves content =
+    answers_end project settings cert outcome before (seen_of after) (record {
       outcome = outcome;
       certificate = out.certificate;
       report = out.report;
@@ -359,14 +356,14 @@ delivered network settings cert outcome before created after out begun printed t
           (leaves.still_told ∙ told) content;
     })
 
-pub cut_short : (network : Project) (settings : Settings) (cert : List ℕ) (fault : OutFault) (before : Seen)
-    (created after : Told) → IsBrokenOff network settings created after → created.written ≡ where_told before.files []
+pub cut_short : (project : Project) (settings : Settings) (cert : List ℕ) (fault : OutFault) (before : Seen)
+    (created after : Told) → IsBrokenOff project settings created after → created.written ≡ where_told before.files []
     → created.printed ≡ before.printed → created.target ≡ where_told before.files cert
     → is_some created.files ≡ is_some before.files → LeavesRest created after
     → after.written ≡ content_of after.files after.target
-    → AnswersRun network settings cert (status_of fault) before (seen_of after)
-cut_short network settings cert fault before created after out begun printed target told leaves content =
-    answers_fault network settings cert fault before (seen_of after) (inr (record {
+    → AnswersRun project settings cert (status_of_fault fault) before (seen_of after)
+cut_short project settings cert fault before created after out begun printed target told leaves content =
+    answers_fault project settings cert fault before (seen_of after) (inr (record {
       certificate = out.certificate;
       report = out.report;
       run = out.breaks_off;

@@ -71,11 +71,11 @@ printed_since P before between now e p = subst (λ (o : Option (List ℕ)). IsPr
 
 -- ---- the end of a check
 
-pub answers_end : (network : Project) (text : List ℕ) (end : CheckEnd) (before now : Seen)
-    → IsPrinted (λ printed. CheckEnds network text printed end) before.printed now.printed
-    → AnswersCert network text (status_of_check end) before now
-answers_end network text Accepted before now h = h
-answers_end network text Refused before now h = (h, λ is. never_refused network text h.report is h.holds)
+pub answers_end : (project : Project) (text : List ℕ) (end : CheckEnd) (before now : Seen)
+    → IsPrinted (λ printed. CheckEnds project text printed end) before.printed now.printed
+    → AnswersCert project text (status_of_check end) before now
+answers_end project text Accepted before now h = h
+answers_end project text Refused before now h = (h, λ is. never_refused project text h.report is h.holds)
 
 pub leaves_end : (files : TwoFiles) (end : CheckEnd) (before now : Seen) → OnlyPrintedSome before now
     → Leaves (Some (check files)) (status_of_check end) before now
@@ -93,12 +93,12 @@ reads_of_end Refused before now e = e
 
 -- ---- a fault that breaks a check off
 
-pub answers_break : (network : Project) (text : List ℕ) (fault : CheckFault) (before now : Seen)
-    → IsPrinted (CheckBreaksOff network text) before.printed now.printed
-    → AnswersCert network text (status_of_break fault) before now
-answers_break network text Read before now h = inr h
-answers_break network text (Output Fault) before now h = h
-answers_break network text (Output Stall) before now h = h
+pub answers_break : (project : Project) (text : List ℕ) (fault : CheckFault) (before now : Seen)
+    → IsPrinted (CheckBreaksOff project text) before.printed now.printed
+    → AnswersCert project text (status_of_break fault) before now
+answers_break project text Read before now h = inr h
+answers_break project text (Output Fault) before now h = h
+answers_break project text (Output Stall) before now h = h
 
 pub leaves_break : (files : TwoFiles) (fault : CheckFault) (before now : Seen) → OnlyPrintedSome before now
     → Leaves (Some (check files)) (status_of_break fault) before now
@@ -130,31 +130,31 @@ leaves_since files status before between now u h =
     since_before (λ b. Leaves (Some (check files)) status b now) before between u h
 
 -- the answer of the network of a text is one of the text
-text_answers : (text certificate : List ℕ) (network : Project) (status : Status) (before now : Seen)
-    → IsProject (rows_in (items_of text)) network → AnswersCert network certificate status before now
+text_answers : (text certificate : List ℕ) (project : Project) (status : Status) (before now : Seen)
+    → IsProject (rows_in (items_of text)) project → AnswersCert project certificate status before now
     → AnswersCheck text certificate status before now
-text_answers text certificate network Done before now p h = record { network = network; is_network = p; holds = h }
-text_answers text certificate network OutOfMemory before now p h = h
-text_answers text certificate network Usage before now p h = absurd h
-text_answers text certificate network ReadFault before now p h =
-    inr (record { network = network; is_network = p; holds = h })
-text_answers text certificate network WriteFault before now p h =
-    record { network = network; is_network = p; holds = h }
-text_answers text certificate network InputRefused before now p h = absurd h
-text_answers text certificate network Undecided before now p h = absurd h
-text_answers text certificate network RoundsSpent before now p h = absurd h
-text_answers text certificate network Demand before now p h = absurd h
-text_answers text certificate network CertificateRefused before now p h =
-    record { network = network; is_network = p; holds = h }
-text_answers text certificate network Stalled before now p h =
-    record { network = network; is_network = p; holds = h }
+text_answers text certificate project Done before now p h = record { project = project; is_network = p; holds = h }
+text_answers text certificate project OutOfMemory before now p h = h
+text_answers text certificate project Usage before now p h = absurd h
+text_answers text certificate project ReadFault before now p h =
+    inr (record { project = project; is_network = p; holds = h })
+text_answers text certificate project WriteFault before now p h =
+    record { project = project; is_network = p; holds = h }
+text_answers text certificate project InputRefused before now p h = absurd h
+text_answers text certificate project Undecided before now p h = absurd h
+text_answers text certificate project RoundsSpent before now p h = absurd h
+text_answers text certificate project Demand before now p h = absurd h
+text_answers text certificate project CertificateRefused before now p h =
+    record { project = project; is_network = p; holds = h }
+text_answers text certificate project Stalled before now p h =
+    record { project = project; is_network = p; holds = h }
 
-pub answers_since : (text certificate : List ℕ) (network : Project) (status : Status) (before between now : Seen)
-    → IsUntouched before between → IsProject (rows_in (items_of text)) network
-    → AnswersCert network certificate status between now → AnswersCheck text certificate status before now
-answers_since text certificate network status before between now u p h =
-    text_answers text certificate network status before now p
-    (since_before (λ b. AnswersCert network certificate status b now) before between u h)
+pub answers_since : (text certificate : List ℕ) (project : Project) (status : Status) (before between now : Seen)
+    → IsUntouched before between → IsProject (rows_in (items_of text)) project
+    → AnswersCert project certificate status between now → AnswersCheck text certificate status before now
+answers_since text certificate project status before between now u p h =
+    text_answers text certificate project status before now p
+    (since_before (λ b. AnswersCert project certificate status b now) before between u h)
 
 -- how often files were opened, where NET was opened before
 pub reads_both : (status : Status) (start opened end : Openings) → opened ≡ with_opened start

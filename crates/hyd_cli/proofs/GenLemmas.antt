@@ -21,7 +21,7 @@ use Rattle.hyd_run.specs.Pens.{Told, LeavesRest}
 use Rattle.hyd_summarised_run.specs.SummarisedRuns.{IsSummed, IsSumBrokenOff}
 use Rattle.hyd_command_words.specs.CommandGrammar.{TwoFiles}
 use Rattle.hyd_cli.specs.DeskContents.{Seen, NothingPut}
-use Rattle.hyd_cli.specs.Answers.{OfNetwork, LeavesRun, AnswersRefused, status_of}
+use Rattle.hyd_cli.specs.Answers.{OfNetwork, LeavesRun, AnswersRefused, status_of_fault}
 use Rattle.hyd_cli.specs.RunAnswers.{OpensCert}
 use Rattle.hyd_cli.specs.GenAnswers.{usual_settings, Generated, TextWritten, TextCutShort, CertStays, GenBreaksOff}
 use Rattle.hyd_cli.specs.GenAnswers.{nothing, in_network, no_certificate, in_run, AnswersGenerated, AnswersGen}
@@ -116,12 +116,12 @@ text_cut_short text net before created after made leaves content printed out = r
   printed = printed ∙ made.printed;
 }
 
-pub text_breaks_off : (network : Project) (text : List ℕ) (names : TwoFiles) (before now : Seen)
+pub text_breaks_off : (project : Project) (text : List ℕ) (names : TwoFiles) (before now : Seen)
     (opened opens : Openings) (writable : Bool) → CertStays names before now → opens ≡ with_created opened
     → (NothingPut before now × (writable ≡ false)) ⊎ TextCutShort text names.net before now
-    → GenBreaksOff network text names before now opened opens writable
-text_breaks_off network text names before now opened opens writable stays once (inl h) = nothing h.0 stays once h.1
-text_breaks_off network text names before now opened opens writable stays once (inr h) = in_network h stays once
+    → GenBreaksOff project text names before now opened opens writable
+text_breaks_off project text names before now opened opens writable stays once (inl h) = nothing h.0 stays once h.1
+text_breaks_off project text names before now opened opens writable stays once (inr h) = in_network h stays once
 
 -- ---- the run, once the text was written
 
@@ -133,12 +133,12 @@ text_stays text names before between created after apart w made leaves =
     others_stay names.cert names.net between created after made leaves apart ∙ w.held
 
 -- the text stays where CERT couldn't be created
-pub text_alone : (network : Project) (text : List ℕ) (names : TwoFiles) (before between now : Seen)
+pub text_alone : (project : Project) (text : List ℕ) (names : TwoFiles) (before between now : Seen)
     (opened opens : Openings) (writable : Bool) → TextWritten text names.net before between → NothingPut between now
     → file_at now.files names.net ≡ file_at between.files names.net → is_some now.files ≡ is_some between.files
     → opens ≡ with_created (with_created opened) → writable ≡ false
-    → GenBreaksOff network text names before now opened opens writable
-text_alone network text names before between now opened opens writable w put same told twice closed =
+    → GenBreaksOff project text names before now opened opens writable
+text_alone project text names before between now opened opens writable w put same told twice closed =
     no_certificate (record {
       written = put.written ∙ w.written;
       held = same ∙ w.held;
@@ -146,15 +146,15 @@ text_alone network text names before between now opened opens writable w put sam
       still_told = told ∙ w.still_told;
     }) twice closed
 
-module _ (network : Project) (settings : Settings) (text : List ℕ) (names : TwoFiles) (before between : Seen)
+module _ (project : Project) (settings : Settings) (text : List ℕ) (names : TwoFiles) (before between : Seen)
     (created after : Told) where
   pub generated : (outcome : Outcome) → settings ≡ usual_settings → names.net ≢ names.cert
       → TextWritten text names.net before between → Created names.cert between created → LeavesRest created after
-      → after.written ≡ content_of after.files after.target → IsSummed network settings outcome created after
-      → Generated network text names (status_of_outcome outcome) before (seen_of after)
+      → after.written ≡ content_of after.files after.target → IsSummed project settings outcome created after
+      → Generated project text names (status_of_outcome outcome) before (seen_of after)
   generated outcome usual apart w made leaves content summed =
-      let out : IsSummed network usual_settings outcome created after =
-      subst (λ (s : Settings). IsSummed network s outcome created after) usual summed in
+      let out : IsSummed project usual_settings outcome created after =
+      subst (λ (s : Settings). IsSummed project s outcome created after) usual summed in
       record {
         outcome = outcome;
         certificate = out.certificate;
@@ -172,11 +172,11 @@ module _ (network : Project) (settings : Settings) (text : List ℕ) (names : Tw
   pub generated_short : (opened : Openings) → after.openings ≡ with_created (with_created opened)
       → settings ≡ usual_settings → names.net ≢ names.cert → TextWritten text names.net before between
       → Created names.cert between created → LeavesRest created after
-      → after.written ≡ content_of after.files after.target → IsSumBrokenOff network settings created after
-      → GenBreaksOff network text names before (seen_of after) opened after.openings after.ready
+      → after.written ≡ content_of after.files after.target → IsSumBrokenOff project settings created after
+      → GenBreaksOff project text names before (seen_of after) opened after.openings after.ready
   generated_short opened twice usual apart w made leaves content broken_off =
-      let out : IsSumBrokenOff network usual_settings created after =
-      subst (λ (s : Settings). IsSumBrokenOff network s created after) usual broken_off in
+      let out : IsSumBrokenOff project usual_settings created after =
+      subst (λ (s : Settings). IsSumBrokenOff project s created after) usual broken_off in
       in_run (record {
         certificate = out.certificate;
         summary = out.summary;
@@ -191,87 +191,87 @@ module _ (network : Project) (settings : Settings) (text : List ℕ) (names : Tw
 
 -- ---- how it ended
 
-pub generated_end : (network : Project) (text : List ℕ) (names : TwoFiles) (outcome : Outcome) (before now : Seen)
+pub generated_end : (project : Project) (text : List ℕ) (names : TwoFiles) (outcome : Outcome) (before now : Seen)
     (opened opens : Openings) (writable : Bool)
-    → Generated network text names (status_of_outcome outcome) before now
-    → AnswersGenerated network text names (status_of_outcome outcome) before now opened opens writable
-generated_end network text names outcome before now opened opens writable h =
-    by_end (λ status. AnswersGenerated network text names status before now opened opens writable) outcome
-    (λ e. subst (λ s. Generated network text names s before now) (sym e) h)
-    (λ e. subst (λ s. Generated network text names s before now) (sym e) h)
-    (λ e. subst (λ s. Generated network text names s before now) (sym e) h)
-    (λ e. subst (λ s. Generated network text names s before now) (sym e) h)
+    → Generated project text names (status_of_outcome outcome) before now
+    → AnswersGenerated project text names (status_of_outcome outcome) before now opened opens writable
+generated_end project text names outcome before now opened opens writable h =
+    by_end (λ status. AnswersGenerated project text names status before now opened opens writable) outcome
+    (λ e. subst (λ s. Generated project text names s before now) (sym e) h)
+    (λ e. subst (λ s. Generated project text names s before now) (sym e) h)
+    (λ e. subst (λ s. Generated project text names s before now) (sym e) h)
+    (λ e. subst (λ s. Generated project text names s before now) (sym e) h)
 
 pub creates_of_end : (outcome : Outcome) (before now : Openings) → now ≡ with_created (with_created before)
     → CreatesBoth (status_of_outcome outcome) before now
 creates_of_end outcome before now e =
     by_end (λ status. CreatesBoth status before now) outcome (λ d. e) (λ d. e) (λ d. e) (λ d. e)
 
-pub generated_fault : (network : Project) (text : List ℕ) (names : TwoFiles) (fault : OutFault) (before now : Seen)
-    (opened opens : Openings) (writable : Bool) → GenBreaksOff network text names before now opened opens writable
-    → AnswersGenerated network text names (status_of fault) before now opened opens writable
-generated_fault network text names Fault before now opened opens writable h = h
-generated_fault network text names Stall before now opened opens writable h = h
+pub generated_fault : (project : Project) (text : List ℕ) (names : TwoFiles) (fault : OutFault) (before now : Seen)
+    (opened opens : Openings) (writable : Bool) → GenBreaksOff project text names before now opened opens writable
+    → AnswersGenerated project text names (status_of_fault fault) before now opened opens writable
+generated_fault project text names Fault before now opened opens writable h = h
+generated_fault project text names Stall before now opened opens writable h = h
 
 pub creates_of_fault : (fault : OutFault) (before now : Openings)
     → (now ≡ with_created before) ⊎ (now ≡ with_created (with_created before))
-    → CreatesBoth (status_of fault) before now
+    → CreatesBoth (status_of_fault fault) before now
 creates_of_fault Fault before now h = inr h
 creates_of_fault Stall before now h = inr h
 
 -- ---- the text that was made
 
-pub generated_leaves : (network : Project) (text : List ℕ) (names : TwoFiles) (status : Status) (before now : Seen)
+pub generated_leaves : (project : Project) (text : List ℕ) (names : TwoFiles) (status : Status) (before now : Seen)
     (opened opens : Openings) (writable : Bool)
-    → AnswersGenerated network text names status before now opened opens writable → LeavesRun status before now
-generated_leaves network text names Done before now opened opens writable h = tt
-generated_leaves network text names OutOfMemory before now opened opens writable h = h
-generated_leaves network text names Usage before now opened opens writable h = absurd h
-generated_leaves network text names ReadFault before now opened opens writable h = absurd h
-generated_leaves network text names WriteFault before now opened opens writable h = tt
-generated_leaves network text names InputRefused before now opened opens writable h = absurd h
-generated_leaves network text names Undecided before now opened opens writable h = tt
-generated_leaves network text names RoundsSpent before now opened opens writable h = tt
-generated_leaves network text names Demand before now opened opens writable h = tt
-generated_leaves network text names CertificateRefused before now opened opens writable h = tt
-generated_leaves network text names Stalled before now opened opens writable h = tt
+    → AnswersGenerated project text names status before now opened opens writable → LeavesRun status before now
+generated_leaves project text names Done before now opened opens writable h = tt
+generated_leaves project text names OutOfMemory before now opened opens writable h = h
+generated_leaves project text names Usage before now opened opens writable h = absurd h
+generated_leaves project text names ReadFault before now opened opens writable h = absurd h
+generated_leaves project text names WriteFault before now opened opens writable h = tt
+generated_leaves project text names InputRefused before now opened opens writable h = absurd h
+generated_leaves project text names Undecided before now opened opens writable h = tt
+generated_leaves project text names RoundsSpent before now opened opens writable h = tt
+generated_leaves project text names Demand before now opened opens writable h = tt
+generated_leaves project text names CertificateRefused before now opened opens writable h = tt
+generated_leaves project text names Stalled before now opened opens writable h = tt
 
-pub generated_never_usage : (network : Project) (text : List ℕ) (names : TwoFiles) (status : Status)
+pub generated_never_usage : (project : Project) (text : List ℕ) (names : TwoFiles) (status : Status)
     (before now : Seen) (opened opens : Openings) (writable : Bool)
-    → AnswersGenerated network text names status before now opened opens writable → status ≢ Usage
-generated_never_usage network text names status before now opened opens writable h =
-    λ e. subst (λ s. AnswersGenerated network text names s before now opened opens writable) e h
+    → AnswersGenerated project text names status before now opened opens writable → status ≢ Usage
+generated_never_usage project text names status before now opened opens writable h =
+    λ e. subst (λ s. AnswersGenerated project text names s before now opened opens writable) e h
 
 -- what an answer says of the network of a text
-of_network : (text : List ℕ) (network : Project) (names : TwoFiles) (status : Status) (before now : Seen)
-    (opened opens : Openings) (writable : Bool) → IsProject (rows_in (items_of text)) network
-    → AnswersGenerated network text names status before now opened opens writable
+of_network : (text : List ℕ) (project : Project) (names : TwoFiles) (status : Status) (before now : Seen)
+    (opened opens : Openings) (writable : Bool) → IsProject (rows_in (items_of text)) project
+    → AnswersGenerated project text names status before now opened opens writable
     → OfNetwork text (λ p. AnswersGenerated p text names status before now opened opens writable)
-of_network text network names status before now opened opens writable p h =
-    record { network = network; is_network = p; holds = h }
+of_network text project names status before now opened opens writable p h =
+    record { project = project; is_network = p; holds = h }
 
 -- the answer of the network of a text is one of the text
-pub generated_answers : (text : List ℕ) (network : Project) (names : TwoFiles) (status : Status) (before now : Seen)
-    (opened opens : Openings) (writable : Bool) → IsProject (rows_in (items_of text)) network
-    → AnswersGenerated network text names status before now opened opens writable
+pub generated_answers : (text : List ℕ) (project : Project) (names : TwoFiles) (status : Status) (before now : Seen)
+    (opened opens : Openings) (writable : Bool) → IsProject (rows_in (items_of text)) project
+    → AnswersGenerated project text names status before now opened opens writable
     → AnswersGen text names status before now opened opens writable
-generated_answers text network names Done before now opened opens writable p h =
-    of_network text network names Done before now opened opens writable p h
-generated_answers text network names OutOfMemory before now opened opens writable p h = h
-generated_answers text network names Usage before now opened opens writable p h = absurd h
-generated_answers text network names ReadFault before now opened opens writable p h = absurd h
-generated_answers text network names WriteFault before now opened opens writable p h =
-    of_network text network names WriteFault before now opened opens writable p h
-generated_answers text network names InputRefused before now opened opens writable p h = absurd h
-generated_answers text network names Undecided before now opened opens writable p h =
-    of_network text network names Undecided before now opened opens writable p h
-generated_answers text network names RoundsSpent before now opened opens writable p h =
-    of_network text network names RoundsSpent before now opened opens writable p h
-generated_answers text network names Demand before now opened opens writable p h =
-    of_network text network names Demand before now opened opens writable p h
-generated_answers text network names CertificateRefused before now opened opens writable p h = absurd h
-generated_answers text network names Stalled before now opened opens writable p h =
-    of_network text network names Stalled before now opened opens writable p h
+generated_answers text project names Done before now opened opens writable p h =
+    of_network text project names Done before now opened opens writable p h
+generated_answers text project names OutOfMemory before now opened opens writable p h = h
+generated_answers text project names Usage before now opened opens writable p h = absurd h
+generated_answers text project names ReadFault before now opened opens writable p h = absurd h
+generated_answers text project names WriteFault before now opened opens writable p h =
+    of_network text project names WriteFault before now opened opens writable p h
+generated_answers text project names InputRefused before now opened opens writable p h = absurd h
+generated_answers text project names Undecided before now opened opens writable p h =
+    of_network text project names Undecided before now opened opens writable p h
+generated_answers text project names RoundsSpent before now opened opens writable p h =
+    of_network text project names RoundsSpent before now opened opens writable p h
+generated_answers text project names Demand before now opened opens writable p h =
+    of_network text project names Demand before now opened opens writable p h
+generated_answers text project names CertificateRefused before now opened opens writable p h = absurd h
+generated_answers text project names Stalled before now opened opens writable p h =
+    of_network text project names Stalled before now opened opens writable p h
 
 -- ---- the text is refused
 

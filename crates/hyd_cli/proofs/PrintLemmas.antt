@@ -5,7 +5,7 @@ use Rattle.hyd_io.specs.declared.output.Channel.{Channel}
 use Rattle.hyd_io.specs.declared.output.Channel.TheVariants.{Report}
 use Rattle.hyd_io.specs.declared.output.OutFault.{OutFault}
 use Rattle.hyd_io.specs.DeskBytes.{append_known, Moves, PutOut}
-use Rattle.hyd_io.specs.Output.{by_channel, OnReport, HasOutCause}
+use Rattle.hyd_io.specs.Output.{by_channel, HasOutCause}
 use Rattle.hyd_io.proofs.ToldLemmas.{moves_flush, put_out_flush}
 
 pub printed_whole : (here there : Channel) (w0 p0 w1 p1 w2 p2 : Option (List ℕ)) (before bytes held : List ℕ)
@@ -30,6 +30,3 @@ pub cause_since : (result : Result (Unit {0}) OutFault) (to : Channel) (start si
     → since ≡ start → IfErr result (λ fault. HasOutCause to fault since now)
     → IfErr result (λ fault. HasOutCause Report fault start now)
 cause_since result to start since now t s h = rw (t, s) at h
-
-pub on_report : (to : Channel) (P : Type 0) → to ≡ Report → OnReport to P → P
-on_report to P t h = rw t at h

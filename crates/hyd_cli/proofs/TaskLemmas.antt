@@ -12,20 +12,20 @@ use Rattle.hyd_cli.proofs.CheckLemmas.{prints_nothing}
 untouched : (same : Seen) → IsUntouched same same
 untouched same = record { files = refl; written = refl; printed = refl }
 
-pub does_nothing : (task : Task) (network : Project) (same : Seen) (openings : Openings) (writable : Bool)
-    → DoesTask task network OutOfMemory same same openings openings writable
-does_nothing (Run cert settings) network same openings writable = record {
+pub does_nothing : (task : Task) (project : Project) (same : Seen) (openings : Openings) (writable : Bool)
+    → DoesTask task project OutOfMemory same same openings openings writable
+does_nothing (Run cert settings) project same openings writable = record {
   answers = untouched same;
   others = λ other differs. refl;
   opens_cert = refl;
 }
-does_nothing (Check cert) network same openings writable = record {
+does_nothing (Check cert) project same openings writable = record {
   answers = λ certificate told. untouched same;
   leaves = untouched same;
   only_prints = prints_nothing same;
   reads = refl;
 }
-does_nothing (Gen text files) network same openings writable = record {
+does_nothing (Gen text files) project same openings writable = record {
   answers = untouched same;
   others = λ other net cert. refl;
   once = refl;

@@ -40,9 +40,9 @@ HasCause Stalled before now = now ≡ with_stall before
 HasCause status before now = now ≡ before
 
 -- The answer of a fault of a channel.
-abbrev pub status_of : OutFault → Status
-status_of Fault = WriteFault
-status_of Stall = Stalled
+abbrev pub status_of_fault : OutFault → Status
+status_of_fault Fault = WriteFault
+status_of_fault Stall = Stalled
 
 -- ---- words that aren't a command
 
@@ -68,9 +68,9 @@ AnswersRefused line cause status before now = ⊥
 
 -- This holds of a network that the rows of the text describe.
 pub record OfNetwork (text : List ℕ) (P : Project → Type 0) : Type 0 where
-  pub network : Project
-  pub is_network : IsProject (rows_in (items_of text)) network
-  pub holds : P network
+  pub project : Project
+  pub is_network : IsProject (rows_in (items_of text)) project
+  pub holds : P project
 
 -- ---- whatever the text was
 

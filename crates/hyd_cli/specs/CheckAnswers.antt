@@ -13,7 +13,7 @@ use Rattle.hyd_cert_check.specs.declared.outcome.CheckEnd.TheVariants.{Accepted,
 use Rattle.hyd_cert_check.specs.declared.outcome.CheckFault.{CheckFault}
 use Rattle.hyd_cert_check.specs.declared.outcome.CheckFault.TheVariants.{Read, Output}
 use Rattle.hyd_cli.specs.DeskContents.{Seen, IsUntouched}
-use Rattle.hyd_cli.specs.Answers.{OfNetwork, status_of}
+use Rattle.hyd_cli.specs.Answers.{OfNetwork, status_of_fault}
 use Rattle.hyd_cli.specs.declared.status.Status.{Status}
 use Rattle.hyd_cli.specs.declared.status.Status.TheVariants.{Done, OutOfMemory, Usage, ReadFault, WriteFault}
 use Rattle.hyd_cli.specs.declared.status.Status.TheVariants.{InputRefused, Undecided, RoundsSpent, Demand}
@@ -27,30 +27,30 @@ status_of_check Refused = CertificateRefused
 -- The answer of a check that was broken off.
 abbrev pub status_of_break : CheckFault → Status
 status_of_break Read = ReadFault
-status_of_break (Output fault) = status_of fault
+status_of_break (Output fault) = status_of_fault fault
 
 -- What an answer says of the text of CERT, which is checked against a network: it was accepted, and its report printed;
 -- or it was refused, the report up to its refusal printed, and it isn't the certificate of a run; or memory ran out
 -- before anything was printed; or a fault broke the check off, and a front of such a report was printed.
 abbrev pub AnswersCert : Project → List ℕ → Status → Seen → Seen → Type 0
-AnswersCert network text Done before now = IsPrinted (CheckAccepts network text) before.printed now.printed
-AnswersCert network text CertificateRefused before now =
-    IsPrinted (CheckRefusal network text) before.printed now.printed × (IsCertificateOfRun network text → ⊥)
-AnswersCert network text OutOfMemory before now = IsUntouched before now
-AnswersCert network text ReadFault before now =
-    IsUntouched before now ⊎ IsPrinted (CheckBreaksOff network text) before.printed now.printed
-AnswersCert network text WriteFault before now = IsPrinted (CheckBreaksOff network text) before.printed now.printed
-AnswersCert network text Stalled before now = IsPrinted (CheckBreaksOff network text) before.printed now.printed
-AnswersCert network text status before now = ⊥
+AnswersCert project text Done before now = IsPrinted (CheckAccepts project text) before.printed now.printed
+AnswersCert project text CertificateRefused before now =
+    IsPrinted (CheckRefusal project text) before.printed now.printed × (IsCertificateOfRun project text → ⊥)
+AnswersCert project text OutOfMemory before now = IsUntouched before now
+AnswersCert project text ReadFault before now =
+    IsUntouched before now ⊎ IsPrinted (CheckBreaksOff project text) before.printed now.printed
+AnswersCert project text WriteFault before now = IsPrinted (CheckBreaksOff project text) before.printed now.printed
+AnswersCert project text Stalled before now = IsPrinted (CheckBreaksOff project text) before.printed now.printed
+AnswersCert project text status before now = ⊥
 
 -- What an answer says of a text of NET without a fault and a text of CERT: want of memory and a fault in the reading of
 -- NET leave all untouched.
 abbrev pub AnswersCheck : (text certificate : List ℕ) → Status → Seen → Seen → Type 0
 AnswersCheck text certificate OutOfMemory before now = IsUntouched before now
 AnswersCheck text certificate ReadFault before now = IsUntouched before now
-    ⊎ OfNetwork text (λ network. AnswersCert network certificate ReadFault before now)
+    ⊎ OfNetwork text (λ project. AnswersCert project certificate ReadFault before now)
 AnswersCheck text certificate status before now =
-    OfNetwork text (λ network. AnswersCert network certificate status before now)
+    OfNetwork text (λ project. AnswersCert project certificate status before now)
 
 -- How often a check opens CERT once NET was read: once at most, when all memory is taken that the check needs. It
 -- creates nothing.

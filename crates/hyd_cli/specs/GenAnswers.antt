@@ -29,12 +29,12 @@ usual_settings = record { rounds = 200; width = pos (10 ^ 11); tight = false }
 
 -- NET holds the text, and CERT the certificate of a run of its network, which was written last, where files are told;
 -- the run's summary was printed, and every history agrees with the certificate. The status says how the run ended.
-pub record Generated (network : Project) (text : List ℕ) (names : TwoFiles) (status : Status) (before now : Seen) :
+pub record Generated (project : Project) (text : List ℕ) (names : TwoFiles) (status : Status) (before now : Seen) :
     Type 0 where
   pub outcome : Outcome
   pub certificate : List ℕ
   pub summary : List ℕ
-  pub run : RunSums network usual_settings.rounds (sharpness_of usual_settings) outcome certificate summary
+  pub run : RunSums project usual_settings.rounds (sharpness_of usual_settings) outcome certificate summary
   pub status_is : number_of status ≡ outcome_number outcome
   pub written : now.written ≡ where_told before.files certificate
   pub printed : now.printed ≡ append_known before.printed summary
@@ -60,10 +60,10 @@ pub record TextCutShort (text net : List ℕ) (before now : Seen) : Type 0 where
 -- A fault broke a run off: NET holds the text; CERT holds what was written last, where files are told, a front of the
 -- certificate of a run of its network as far as that went; what was printed is a front of its summary where its end is
 -- known, and nothing was unless the certificate was written whole; every history agrees with it.
-pub record GeneratedShort (network : Project) (text : List ℕ) (names : TwoFiles) (before now : Seen) : Type 0 where
+pub record GeneratedShort (project : Project) (text : List ℕ) (names : TwoFiles) (before now : Seen) : Type 0 where
   pub certificate : List ℕ
   pub summary : List ℕ
-  pub run : SumsBreakOff network usual_settings.rounds (sharpness_of usual_settings) certificate summary
+  pub run : SumsBreakOff project usual_settings.rounds (sharpness_of usual_settings) certificate summary
   pub written : now.written ≡ where_told before.files certificate
   pub printed : now.printed ≡ append_known before.printed summary
   pub held : file_at now.files names.cert ≡ now.written
@@ -77,40 +77,40 @@ CertStays names before now = file_at now.files names.cert ≡ file_at before.fil
 -- text, and CERT is as it was; or it was called twice, NET holds the text, and CERT couldn't be created, or the run was
 -- broken off: CERT holds a front of its certificate, and a front of the summary was printed. Where a file couldn't be
 -- created none can be written to, and what that call left of the file isn't told.
-pub data GenBreaksOff (network : Project) (text : List ℕ) (names : TwoFiles) (before now : Seen)
+pub data GenBreaksOff (project : Project) (text : List ℕ) (names : TwoFiles) (before now : Seen)
     (opened opens : Openings) (writable : Bool) : Type 0 where
   nothing : NothingPut before now → CertStays names before now → opens ≡ with_created opened → writable ≡ false
-      → GenBreaksOff network text names before now opened opens writable
+      → GenBreaksOff project text names before now opened opens writable
   in_network : TextCutShort text names.net before now → CertStays names before now → opens ≡ with_created opened
-      → GenBreaksOff network text names before now opened opens writable
+      → GenBreaksOff project text names before now opened opens writable
   no_certificate : TextWritten text names.net before now → opens ≡ with_created (with_created opened)
-      → writable ≡ false → GenBreaksOff network text names before now opened opens writable
-  in_run : GeneratedShort network text names before now → opens ≡ with_created (with_created opened)
-      → GenBreaksOff network text names before now opened opens writable
+      → writable ≡ false → GenBreaksOff project text names before now opened opens writable
+  in_run : GeneratedShort project text names before now → opens ≡ with_created (with_created opened)
+      → GenBreaksOff project text names before now opened opens writable
 
 -- What an answer says of a generated text and its network: of contents, and after a fault of how often files were
 -- opened and created, and of whether the file created last can be written to.
 abbrev pub AnswersGenerated : Project → List ℕ → TwoFiles → Status → Seen → Seen → Openings → Openings → Bool → Type 0
-AnswersGenerated network text names Done before now opened opens writable =
-    Generated network text names Done before now
-AnswersGenerated network text names Undecided before now opened opens writable =
-    Generated network text names Undecided before now
-AnswersGenerated network text names RoundsSpent before now opened opens writable =
-    Generated network text names RoundsSpent before now
-AnswersGenerated network text names Demand before now opened opens writable =
-    Generated network text names Demand before now
-AnswersGenerated network text names OutOfMemory before now opened opens writable = IsUntouched before now
-AnswersGenerated network text names WriteFault before now opened opens writable =
-    GenBreaksOff network text names before now opened opens writable
-AnswersGenerated network text names Stalled before now opened opens writable =
-    GenBreaksOff network text names before now opened opens writable
-AnswersGenerated network text names status before now opened opens writable = ⊥
+AnswersGenerated project text names Done before now opened opens writable =
+    Generated project text names Done before now
+AnswersGenerated project text names Undecided before now opened opens writable =
+    Generated project text names Undecided before now
+AnswersGenerated project text names RoundsSpent before now opened opens writable =
+    Generated project text names RoundsSpent before now
+AnswersGenerated project text names Demand before now opened opens writable =
+    Generated project text names Demand before now
+AnswersGenerated project text names OutOfMemory before now opened opens writable = IsUntouched before now
+AnswersGenerated project text names WriteFault before now opened opens writable =
+    GenBreaksOff project text names before now opened opens writable
+AnswersGenerated project text names Stalled before now opened opens writable =
+    GenBreaksOff project text names before now opened opens writable
+AnswersGenerated project text names status before now opened opens writable = ⊥
 
 -- What an answer says of a generated text without a fault: want of memory leaves all untouched.
 abbrev pub AnswersGen : List ℕ → TwoFiles → Status → Seen → Seen → Openings → Openings → Bool → Type 0
 AnswersGen text names OutOfMemory before now opened opens writable = IsUntouched before now
 AnswersGen text names status before now opened opens writable =
-    OfNetwork text (λ network. AnswersGenerated network text names status before now opened opens writable)
+    OfNetwork text (λ project. AnswersGenerated project text names status before now opened opens writable)
 
 -- How often `gen` calls `create`: twice where the run ended, for want of memory or where the text is refused never, and
 -- at most twice where a fault came. It opens nothing.

@@ -19,6 +19,6 @@ IfEnded (Ended status) P = P status
 
 -- The counts stay where there is a text, and have the cause of a status else.
 abbrev pub HasReadCause : {A : Type 0} → Result A Unread → Faults → Faults → Type 0
-HasReadCause (Ok network) before now = now ≡ before
+HasReadCause (Ok project) before now = now ≡ before
 HasReadCause (Err (Fault fault)) before now = now ≡ before
 HasReadCause (Err (Ended status)) before now = HasCause status before now

@@ -53,12 +53,12 @@ settings_of order = record { rounds = order.rounds; width = order.width; tight =
 -- The certificate of a run of the network was written to the file created in this call, where files are told, its
 -- report was printed, and every history agrees with them; the status says how the run ended. The file of the name
 -- CERT holds what was written.
-pub record Delivered (network : Project) (settings : Settings) (cert : List ℕ) (status : Status) (before now : Seen) :
+pub record Delivered (project : Project) (settings : Settings) (cert : List ℕ) (status : Status) (before now : Seen) :
     Type 0 where
   pub outcome : Outcome
   pub certificate : List ℕ
   pub report : List ℕ
-  pub run : RunWrites network settings.rounds (sharpness_of settings) outcome certificate report
+  pub run : RunWrites project settings.rounds (sharpness_of settings) outcome certificate report
   pub status_is : number_of status ≡ outcome_number outcome
   pub written : now.written ≡ where_told before.files certificate
   pub printed : now.printed ≡ append_known before.printed report
@@ -67,31 +67,31 @@ pub record Delivered (network : Project) (settings : Settings) (cert : List ℕ)
 -- A fault broke a run of the network off: what was written to the file created in this call, where files are told, and
 -- what was printed are fronts of the certificate and of the report of the run as far as it went, and every history
 -- agrees with it. The file of the name CERT holds what was written.
-pub record CutShort (network : Project) (settings : Settings) (cert : List ℕ) (before now : Seen) : Type 0 where
+pub record CutShort (project : Project) (settings : Settings) (cert : List ℕ) (before now : Seen) : Type 0 where
   pub certificate : List ℕ
   pub report : List ℕ
-  pub run : RunBreaksOff network settings.rounds (sharpness_of settings) certificate report
+  pub run : RunBreaksOff project settings.rounds (sharpness_of settings) certificate report
   pub written : now.written ≡ where_told before.files certificate
   pub printed : now.printed ≡ append_known before.printed report
   pub held : file_at now.files cert ≡ now.written
 
 -- What an answer says of a network that is run.
 abbrev pub AnswersRun : Project → Settings → List ℕ → Status → Seen → Seen → Type 0
-AnswersRun network settings cert Done before now = Delivered network settings cert Done before now
-AnswersRun network settings cert Undecided before now = Delivered network settings cert Undecided before now
-AnswersRun network settings cert RoundsSpent before now = Delivered network settings cert RoundsSpent before now
-AnswersRun network settings cert Demand before now = Delivered network settings cert Demand before now
-AnswersRun network settings cert OutOfMemory before now = IsUntouched before now
-AnswersRun network settings cert WriteFault before now = NothingPut before now ⊎ CutShort network settings cert before
+AnswersRun project settings cert Done before now = Delivered project settings cert Done before now
+AnswersRun project settings cert Undecided before now = Delivered project settings cert Undecided before now
+AnswersRun project settings cert RoundsSpent before now = Delivered project settings cert RoundsSpent before now
+AnswersRun project settings cert Demand before now = Delivered project settings cert Demand before now
+AnswersRun project settings cert OutOfMemory before now = IsUntouched before now
+AnswersRun project settings cert WriteFault before now = NothingPut before now ⊎ CutShort project settings cert before
     now
-AnswersRun network settings cert Stalled before now = NothingPut before now ⊎ CutShort network settings cert before now
-AnswersRun network settings cert status before now = ⊥
+AnswersRun project settings cert Stalled before now = NothingPut before now ⊎ CutShort project settings cert before now
+AnswersRun project settings cert status before now = ⊥
 
 -- What an answer says of a text without a fault: want of memory and a fault of reading leave all untouched.
 abbrev pub AnswersText : List ℕ → Settings → List ℕ → Status → Seen → Seen → Type 0
 AnswersText text settings cert OutOfMemory before now = IsUntouched before now
 AnswersText text settings cert ReadFault before now = IsUntouched before now
-AnswersText text settings cert status before now = OfNetwork text (λ network. AnswersRun network settings cert status
+AnswersText text settings cert status before now = OfNetwork text (λ project. AnswersRun project settings cert status
     before now)
 
 -- The file of the name CERT holds what was written, at the end of a run and, where something was written, after a

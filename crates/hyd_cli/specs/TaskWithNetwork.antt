@@ -31,26 +31,26 @@ settings_for (Check cert) = record { rounds = 0; width = pos 0; tight = false }
 settings_for (Gen text files) = usual_settings
 
 -- A network was run: CERT is created once all memory is taken, and no other file is changed.
-pub record RunsNetwork (network : Project) (settings : Settings) (cert : List ℕ) (status : Status) (before now : Seen)
+pub record RunsNetwork (project : Project) (settings : Settings) (cert : List ℕ) (status : Status) (before now : Seen)
     (opened opens : Openings) : Type 0 where
-  pub answers : AnswersRun network settings cert status before now
+  pub answers : AnswersRun project settings cert status before now
   pub others : ChangesOnly cert before now
   pub opens_cert : OpensCert status opened opens
 
 -- CERT was checked against a network: it is opened once all memory is taken, and nothing is created or written.
-pub record ChecksNetwork (network : Project) (cert : List ℕ) (status : Status) (before now : Seen)
+pub record ChecksNetwork (project : Project) (cert : List ℕ) (status : Status) (before now : Seen)
     (opened opens : Openings) : Type 0 where
   pub answers : (certificate : List ℕ) → IsTold before.files cert certificate
-      → AnswersCert network certificate status before now
+      → AnswersCert project certificate status before now
   pub leaves : LeavesCheck status before now
   pub only_prints : OnlyPrintedSome before now
   pub reads : ReadsCert status opened opens
 
 -- A generated text was written to NET and its network run: nothing is created before all memory is taken, no files but
 -- NET and CERT are changed, CERT is as it was unless NET holds the whole text, and NET unless `create` was called.
-pub record WritesAndRuns (network : Project) (text : List ℕ) (names : TwoFiles) (status : Status) (before now : Seen)
+pub record WritesAndRuns (project : Project) (text : List ℕ) (names : TwoFiles) (status : Status) (before now : Seen)
     (opened opens : Openings) (writable : Bool) : Type 0 where
-  pub answers : AnswersGenerated network text names status before now opened opens writable
+  pub answers : AnswersGenerated project text names status before now opened opens writable
   pub others : ChangesBoth names before now
   pub once : CreatesBoth status opened opens
   pub keeps_cert : KeepsCert text names before now opened opens
@@ -58,9 +58,9 @@ pub record WritesAndRuns (network : Project) (text : List ℕ) (names : TwoFiles
 
 -- What was done with a network, by its task. `writable` tells whether the file created last can be written to.
 abbrev pub DoesTask : Task → Project → Status → Seen → Seen → Openings → Openings → Bool → Type 0
-DoesTask (Run cert settings) network status before now opened opens writable =
-    RunsNetwork network settings cert.now status before now opened opens
-DoesTask (Check cert) network status before now opened opens writable =
-    ChecksNetwork network cert.now status before now opened opens
-DoesTask (Gen text files) network status before now opened opens writable =
-    WritesAndRuns network text.now (files_seen files) status before now opened opens writable
+DoesTask (Run cert settings) project status before now opened opens writable =
+    RunsNetwork project settings cert.now status before now opened opens
+DoesTask (Check cert) project status before now opened opens writable =
+    ChecksNetwork project cert.now status before now opened opens
+DoesTask (Gen text files) project status before now opened opens writable =
+    WritesAndRuns project text.now (files_seen files) status before now opened opens writable

@@ -39,7 +39,7 @@ use std::alloc::Global;
 fn put_text<D: Desk>(text: &[u8], desk: &mut D) -> Result<(), OutFault>
     requires { IsTrue (D.ready desk.old) }
     ensures whole { OnOk result (D.written desk.new ≡ append_known (D.written desk.old) text.now) }
-    ensures prefix { OnErr result (PutOut (D.written desk.old) (D.written desk.new) text.now) }
+    ensures front { OnErr result (PutOut (D.written desk.old) (D.written desk.new) text.now) }
     ensures cause { IfErr result (λ fault. HasOutCause Cert fault (D.counts desk.old) (D.counts desk.new)) }
     ensures steady { OnOk result (D.counts desk.new ≡ D.counts desk.old) }
     ensures printed_stays { D.printed desk.new ≡ D.printed desk.old }

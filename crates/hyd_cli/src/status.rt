@@ -2,7 +2,7 @@
 
 ghost use Rattle.std.specs.Prelude.{◌≡◌};
 ghost use Rattle.std.specs.Process.{exit_status};
-ghost use Rattle.hyd_cli.specs.Answers.{status_of};
+ghost use Rattle.hyd_cli.specs.Answers.{status_of_fault};
 ghost use Rattle.hyd_cli.specs.Statuses.{number_of};
 
 use hyd_io::OutFault;
@@ -54,7 +54,7 @@ impl Termination for Status {
 
 /// The status of a fault of output.
 pub(crate) fn fault_status(fault: OutFault) -> Status
-    ensures { result ≡ status_of fault }
+    ensures { result ≡ status_of_fault fault }
 {
     match fault {
         OutFault::Fault => Status::WriteFault,

@@ -21,7 +21,7 @@ const USAGE: &[u8] =
 /// Prints the usage line.
 pub(crate) fn print_usage<D: Desk>(desk: &mut D) -> Result<(), OutFault>
     ensures whole { OnOk result (D.printed desk.new ≡ append_known (D.printed desk.old) usage_line) }
-    ensures prefix { OnErr result (PutOut (D.printed desk.old) (D.printed desk.new) usage_line) }
+    ensures front { OnErr result (PutOut (D.printed desk.old) (D.printed desk.new) usage_line) }
     ensures cause { IfErr result (λ fault. HasOutCause Report fault (D.counts desk.old) (D.counts desk.new)) }
     ensures steady { OnOk result (D.counts desk.new ≡ D.counts desk.old) }
     ensures files_stay { D.files desk.new ≡ D.files desk.old }
@@ -40,7 +40,7 @@ pub(crate) fn print_usage<D: Desk>(desk: &mut D) -> Result<(), OutFault>
 pub(crate) fn print_refusal<D: Desk>(line: u32, cause: Cause, desk: &mut D) -> Result<(), OutFault>
     ensures whole { OnOk result
         (D.printed desk.new ≡ append_known (D.printed desk.old) (refused_text_line line cause)) }
-    ensures prefix { OnErr result
+    ensures front { OnErr result
         (PutOut (D.printed desk.old) (D.printed desk.new) (refused_text_line line cause)) }
     ensures cause { IfErr result (λ fault. HasOutCause Report fault (D.counts desk.old) (D.counts desk.new)) }
     ensures steady { OnOk result (D.counts desk.new ≡ D.counts desk.old) }

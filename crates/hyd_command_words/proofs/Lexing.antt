@@ -9,10 +9,9 @@ use Rattle.std.specs.Str.{chars}
 use Rattle.std.proofs.lemmas.Str.{encodes-chars}
 use Rattle.clap.specs.Lexer.{long_of, short_of, has_byte, name_and_value}
 use Rattle.hyd_command_words.specs.OptionsAndNames.{Word, Kind, sweeps, width, tight, name, wrong, says, wants}
-use Rattle.hyd_command_words.specs.OptionsAndNames.{begins_with_dash}
-use Rattle.hyd_command_words.specs.OptionsAndNames.{kind_of}
-use Rattle.hyd_command_words.specs.OptionsAndNames.{option_kind, ends}
+use Rattle.hyd_command_words.specs.OptionsAndNames.{begins_with_dash, kind_of, option_kind, ends}
 use lib.Pointwise.{bytes_decides}
+use Rattle.hyd_lemmas.proofs.Trials.{or-false}
 
 -- ---- words of bytes
 
@@ -38,10 +37,6 @@ pub and_false : (a b : Bool) → b ≡ false → (a && b) ≡ false
 and_false true b e = e
 and_false false b e = refl
 
-or_false : (a b : Bool) → (a || b) ≡ false → (a ≡ false) × (b ≡ false)
-or_false true b e = absurd (true≢false e)
-or_false false b e = (refl, e)
-
 abbrev is_equals : ℕ → Bool
 is_equals x = x == 61
 
@@ -50,7 +45,7 @@ is_equals x = x == 61
 no_equals : (t : Word) → has_byte 61 t ≡ false → before_first is_equals t ≡ t
 no_equals [] e = refl
 no_equals (x ∷ xs) e =
-    let parts = or_false (x == 61) (has_byte 61 xs) e in
+    let parts = or-false (x == 61) (has_byte 61 xs) e in
     let more : 1 + position_or_len is_equals xs ≡ suc (position_or_len is_equals xs) = omega arith in
     (λ i. take (cond (not (parts.0 i)) (more i) 0) (x ∷ xs)) ∙ ap (λ (r : Word). x ∷ r) (no_equals xs parts.1)
 
@@ -83,25 +78,25 @@ key_then_equals : (n u k : Word) → has_byte 61 n ≡ false → has_byte 61 k �
     → starts_with nat_eq (n ++ 61 ∷ u) (k ++ 61 ∷ []) ≡ bytes_eq k n
 key_then_equals [] u [] e f = refl
 key_then_equals (x ∷ xs) u [] e f =
-    let differs : (61 == x) ≡ false = eq_swapped 61 x ∙ (or_false (x == 61) (has_byte 61 xs) e).0 in
+    let differs : (61 == x) ≡ false = eq_swapped 61 x ∙ (or-false (x == 61) (has_byte 61 xs) e).0 in
     ap (λ (b : Bool). b && true) differs
 key_then_equals [] u (y ∷ ys) e f =
-    ap (λ (b : Bool). b && starts_with nat_eq u (ys ++ 61 ∷ [])) (or_false (y == 61) (has_byte 61 ys) f).0
+    ap (λ (b : Bool). b && starts_with nat_eq u (ys ++ 61 ∷ [])) (or-false (y == 61) (has_byte 61 ys) f).0
 key_then_equals (x ∷ xs) u (y ∷ ys) e f = ap (λ (b : Bool). (y == x) && b)
-    (key_then_equals xs u ys (or_false (x == 61) (has_byte 61 xs) e).1 (or_false (y == 61) (has_byte 61 ys) f).1)
+    (key_then_equals xs u ys (or-false (x == 61) (has_byte 61 xs) e).1 (or-false (y == 61) (has_byte 61 ys) f).1)
 
 no_key : (t k : Word) → has_byte 61 t ≡ false → starts_with nat_eq t (k ++ 61 ∷ []) ≡ false
 no_key [] [] e = refl
 no_key [] (y ∷ ys) e = refl
-no_key (x ∷ xs) [] e = ap (λ (b : Bool). b && true) (eq_swapped 61 x ∙ (or_false (x == 61) (has_byte 61 xs) e).0)
-no_key (x ∷ xs) (y ∷ ys) e = and_false (y == x) _ (no_key xs ys (or_false (x == 61) (has_byte 61 xs) e).1)
+no_key (x ∷ xs) [] e = ap (λ (b : Bool). b && true) (eq_swapped 61 x ∙ (or-false (x == 61) (has_byte 61 xs) e).0)
+no_key (x ∷ xs) (y ∷ ys) e = and_false (y == x) _ (no_key xs ys (or-false (x == 61) (has_byte 61 xs) e).1)
 
 not_key : (n u k : Word) → has_byte 61 k ≡ false → bytes_eq (n ++ 61 ∷ u) k ≡ false
 not_key [] u [] f = refl
 not_key [] u (y ∷ ys) f =
-    ap (λ (b : Bool). b && bytes_eq u ys) (eq_swapped 61 y ∙ (or_false (y == 61) (has_byte 61 ys) f).0)
+    ap (λ (b : Bool). b && bytes_eq u ys) (eq_swapped 61 y ∙ (or-false (y == 61) (has_byte 61 ys) f).0)
 not_key (x ∷ xs) u [] f = refl
-not_key (x ∷ xs) u (y ∷ ys) f = and_false (x == y) _ (not_key xs u ys (or_false (y == 61) (has_byte 61 ys) f).1)
+not_key (x ∷ xs) u (y ∷ ys) f = and_false (x == y) _ (not_key xs u ys (or-false (y == 61) (has_byte 61 ys) f).1)
 
 abbrev valued_kind : Word → Word → Kind
 valued_kind n v = cond (bytes_eq (codes "sweeps") n) (says (sweeps v))

@@ -15,6 +15,7 @@ use Rattle.hyd_command_words.specs.ClapParser.{words_command, said_of}
 use Rattle.clap.specs.Walk.{Row, Rule, Walk, default_rows, has_row, idle, is_empty, reading_by, rows_of, with_default}
 use Rattle.hyd_command_words.specs.OptionsAndNames.{Word, Said, said}
 use Rattle.hyd_command_words.specs.CommandGrammar.{Order, order_of, order_named}
+use Rattle.hyd_lemmas.proofs.Trials.{or-true}
 use Rattle.hyd_command_words.proofs.SaidLemmas.{joined}
 use Rattle.hyd_command_words.proofs.RowLemmas.{rules}
 use Rattle.hyd_command_words.proofs.WalkSteps.{shape, held, at}
@@ -22,10 +23,6 @@ use Rattle.hyd_command_words.proofs.WalkEnds.{end_of, fault_from, order_if, rows
 use Rattle.hyd_command_words.proofs.WalkLaw.{AreTexts, simulated}
 
 -- ---- clap's faults and matches at these words
-
-or_true : (b : Bool) → (b || true) ≡ true
-or_true true = refl
-or_true false = refl
 
 same_both : {X : Type 0} (b : Bool) (x : X) → cond b x x ≡ x
 same_both true x = refl
@@ -43,7 +40,7 @@ no_defaults_fault rows (a ∷ rest) e =
     let parts = both (is_empty a.defaults) (list_all (λ r. is_empty r.defaults) rest) e in
     (λ i. or_else (cond (has_row a.id rows || parts.0 i) [] (given_default_fault a a.defaults))
     (defaults_fault (with_default rows a) rest))
-    ∙ (λ i. or_else (cond (or_true (has_row a.id rows) i) [] (given_default_fault a a.defaults))
+    ∙ (λ i. or_else (cond (or-true (has_row a.id rows) i) [] (given_default_fault a a.defaults))
     (defaults_fault (with_default rows a) rest))
     ∙ no_defaults_fault (with_default rows a) rest parts.1
 

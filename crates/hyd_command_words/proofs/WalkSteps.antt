@@ -1,6 +1,6 @@
 -- One step of clap's walk over the words.
-use Rattle.std.proofs.Common.{◌≡◌, ◌∙◌, ◌&&◌, Bool, true, false, cond, List, [], ◌∷◌, length, Option, Some, None, refl}
-use Rattle.std.proofs.Common.{sym, ap, subst, codes, bytes_eq}
+use Rattle.std.proofs.Common.{◌≡◌, ◌∙◌, Bool, true, false, cond, List, [], ◌∷◌, length, Option, Some, None, refl, sym}
+use Rattle.std.proofs.Common.{ap, subst, codes, bytes_eq}
 use Rattle.std.specs.Option.{option_map_or}
 use Rattle.clap.specs.Kinds.{Kinds, or_else}
 use Rattle.clap.specs.Faults.{bundle_fault, bundle_step_fault, flag_word_fault, flags_fault, long_fault, other_fault}
@@ -12,6 +12,7 @@ use Rattle.clap.specs.Walk.{subcommand_or_other, settled_rows, trailing, value, 
 use Rattle.clap.specs.declared.error.kind.ErrorKind.TheVariants.{UnknownArgument}
 use Rattle.hyd_command_words.specs.OptionsAndNames.{Word}
 use Rattle.hyd_command_words.specs.ClapParser.{words_command}
+use Rattle.hyd_lemmas.proofs.Trials.{and-false}
 use Rattle.hyd_command_words.proofs.RowLemmas.{rules}
 use Rattle.hyd_command_words.proofs.Lexing.{IsPlain, IsShort, IsLong}
 
@@ -55,10 +56,6 @@ no_subcommand idle word = refl
 no_subcommand (option id) word = refl
 no_subcommand positional word = refl
 
-and_none : (b : Bool) → (b && false) ≡ false
-and_none true = refl
-and_none false = refl
-
 abbrev pub name_held : Text → Pending
 name_held word = Some (codes "names", word ∷ [])
 
@@ -69,13 +66,13 @@ pub name_step : (is_trailing : Bool) (rows : List Row) (p : Pending) (waiting : 
     ≡ at is_trailing (settled_rows rules p rows) (name_held word) positional
 name_step true rows None waiting word = refl
 name_step false rows None waiting word = refl
-name_step true rows (Some q) waiting word = rw (and_none (bytes_eq q.0 (codes "names"))) refl
-name_step false rows (Some q) waiting word = rw (and_none (bytes_eq q.0 (codes "names"))) refl
+name_step true rows (Some q) waiting word = rw (and-false (bytes_eq q.0 (codes "names"))) refl
+name_step false rows (Some q) waiting word = rw (and-false (bytes_eq q.0 (codes "names"))) refl
 
 pub name_fault : (rows : List Row) (p : Pending)
     → step_fault shape 1 (held rows p) value ≡ settle_fault rules false (held rows p)
 name_fault rows None = refl
-name_fault rows (Some q) = rw (and_none (bytes_eq q.0 (codes "names"))) refl
+name_fault rows (Some q) = rw (and-false (bytes_eq q.0 (codes "names"))) refl
 
 pub trailing_turn : (rows : List Row) (p : Pending) (waiting : Waiting) (word : Word)
     → turn (at true rows p waiting) word ≡ settle_fault rules false (held rows p)

@@ -6,7 +6,7 @@ ghost use Rattle.hyd_num.specs.Numeral.{is_digit, number};
 ghost use Rattle.hyd_command_words.specs.CommandGrammar as orders;
 ghost use Rattle.hyd_command_words.specs.CommandView.{texts_seen};
 
-use hyd_num::{NumFault, read_decimal};
+use hyd_num::{HEAD_TICKS_IN_BILLIONTH_OF_METRE, NumFault, read_decimal};
 
 // More than ten digits write.
 const BEYOND: u64 = 10_000_000_000;
@@ -15,7 +15,7 @@ const BEYOND: u64 = 10_000_000_000;
 const GREATEST_WIDTH: i128 = 1_000_000_000_000;
 
 // Head ticks in a billionth of a metre.
-const TICKS: i128 = 10_000;
+const TICKS: i128 = HEAD_TICKS_IN_BILLIONTH_OF_METRE as i128;
 
 const DEFAULT_ROUNDS: u32 = 200;
 

@@ -25,29 +25,29 @@ same_from {X} {Y} f g k (x ∷ xs) same =
     ap (λ (y : Y). y ∷ map_from f (suc k) xs) (same k x (omega arith))
     ∙ ap (λ (ys : List Y). g k x ∷ ys) (same_from f g (suc k) xs (λ i y h. same i y (omega (arith, h))))
 
-change_is : (network : Project) (values : List Bool) (count : ℕ) (best : List (Option program.Offer))
-    → AreBest count (offers_from 0 network.rules.list values) best → (link : ℕ) (state : LinkState) → link < count
-    → change_at best link state ≡ change_of network values link state
-change_is network values count best are link state h = ap (λ (o : Option Offer). option_and_then
+change_is : (project : Project) (values : List Bool) (count : ℕ) (best : List (Option program.Offer))
+    → AreBest count (offers_from 0 project.rules.list values) best → (link : ℕ) (state : LinkState) → link < count
+    → change_at best link state ≡ change_of project values link state
+change_is project values count best are link state h = ap (λ (o : Option Offer). option_and_then
     (change_by state) o) (are.each link h)
 
-pub changes_are : (network : Project) (values : List Bool) (count : ℕ) (best : List (Option program.Offer))
+pub changes_are : (project : Project) (values : List Bool) (count : ℕ) (best : List (Option program.Offer))
     (links : List LinkState)
-    → AreBest count (offers_from 0 network.rules.list values) best → length links ≡ count
-    → present (map_from (change_at best) 0 links) ≡ rule_changes network values links
-changes_are network values count best links are e =
-    ap present (same_from (change_at best) (change_of network values) 0 links
-    (λ i state h. change_is network values count best are i state (omega (arith, h, e))))
+    → AreBest count (offers_from 0 project.rules.list values) best → length links ≡ count
+    → present (map_from (change_at best) 0 links) ≡ rule_changes project values links
+changes_are project values count best links are e =
+    ap present (same_from (change_at best) (change_of project values) 0 links
+    (λ i state h. change_is project values count best are i state (omega (arith, h, e))))
 
-pub states_are : (network : Project) (values : List Bool) (count : ℕ) (best : List (Option program.Offer))
+pub states_are : (project : Project) (values : List Bool) (count : ℕ) (best : List (Option program.Offer))
     (links : List LinkState)
-    → AreBest count (offers_from 0 network.rules.list values) best → length links ≡ count
-    → map_from (state_at best) 0 links ≡ acted network values links
-states_are network values count best links are e =
+    → AreBest count (offers_from 0 project.rules.list values) best → length links ≡ count
+    → map_from (state_at best) 0 links ≡ acted project values links
+states_are project values count best links are e =
     same_from (state_at best) (λ link state. option_map_or (λ change. change.to)
-    (change_of network values link state) state) 0 links
+    (change_of project values link state) state) 0 links
     (λ i state h. ap (λ (o : Option Change). option_map_or (λ change. change.to) o state)
-    (change_is network values count best are i state (omega (arith, h, e))))
+    (change_is project values count best are i state (omega (arith, h, e))))
 
 -- The room that is left: `held` rows were there.
 pub spare_is : (before after : List Change) (places spare held table most : ℕ) → length before ≡ held

@@ -1,18 +1,16 @@
 -- A rule that is open has a clause that is open by itself; and rules of a sound network by their numbers.
 use Rattle.std.proofs.Common.{◌≡◌, ℤ, ℕ, suc, ◌<◌, false, List, [], ◌∷◌, length, map, Option, Some, None, IsSome}
 use Rattle.std.proofs.Common.{slice_get, slice_index_or, position, refl, ap, sym, subst, ◌∙◌, arith}
-use Rattle.std.proofs.lemmas.Int.{ints}
 use Rattle.std.proofs.lemmas.List.Quantifiers.{position-Some}
 use Rattle.std.proofs.lemmas.List.Sums.{get_or-le-sum_by}
 use Rattle.std.proofs.lemmas.Option.{slice_get-get_or}
-use Rattle.hyd_num.specs.Rational.{whole, floor, ceiling}
-use Rattle.hyd_lemmas.proofs.Integers.{floor_low, floor_greatest, ceiling_high, ceiling_least}
+use Rattle.hyd_num.specs.Rational.{floor, ceiling}
+use Rattle.hyd_lemmas.proofs.Integers.{ceiling_whole, floor_whole}
 use Rattle.hyd_net.specs.Sound.{Sound, part_count}
 use Rattle.hyd_spec.specs.ProgramTypes.{Project, Rule, RuleClause, Joined, And, Or, Clause}
 use Rattle.hyd_spec.specs.Rules.{Parts, parts_of, put_before, groups_in}
 use Rattle.hyd_spec_certificates.specs.ThreeValuedLogic.{Verdict, Yes, No, Unknown, is_unknown, either, both}
-use Rattle.hyd_spec_certificates.specs.ThreeValuedLogic.{some_holds}
-use Rattle.hyd_spec_certificates.specs.ThreeValuedLogic.{all_hold}
+use Rattle.hyd_spec_certificates.specs.ThreeValuedLogic.{some_holds, all_hold}
 use Rattle.hyd_spec_certificates.specs.Decided.{IsOpenClause}
 use Rattle.hyd_controls_and_rules.specs.declared.clauses.Instant.{Instant}
 use Rattle.hyd_controls_and_rules.specs.declared.clauses.Ends.{Ends}
@@ -84,52 +82,34 @@ some_open truth rows left =
 
 -- ---- rules of a sound network
 
-rule_in : (network : Project) → Sound network → (k : ℕ) (d : Rule) → k < length network.rules.list
-    → IsSoundRule network (slice_index_or network.rules.list k d)
-rule_in network sound k d h =
-    let one = get_or-le-sum_by part_count network.rules.list k d h in
+rule_in : (project : Project) → Sound project → (k : ℕ) (d : Rule) → k < length project.rules.list
+    → IsSoundRule project (slice_index_or project.rules.list k d)
+rule_in project sound k d h =
+    let one = get_or-le-sum_by part_count project.rules.list k d h in
     record {
       in_range = sound.rules k d h;
       made = sound.made.rules k d h;
       few = omega (arith, one, sound.counts.parts);
     }
 
-pub sound_rule : (network : Project) → Sound network → (k : ℕ) (rules : List Rule) (rule : Rule)
-    → k < length network.rules.list
-    → rules ≡ network.rules.list → rule ≡ slice_index_or rules k rule → IsSoundRule network rule
-sound_rule network sound k rules rule h are is =
-    subst (λ (r : Rule). IsSoundRule network r) (sym (is
-    ∙ ap (λ (rs : List Rule). slice_index_or rs k rule) are)) (rule_in network sound k rule h)
+pub sound_rule : (project : Project) → Sound project → (k : ℕ) (rules : List Rule) (rule : Rule)
+    → k < length project.rules.list
+    → rules ≡ project.rules.list → rule ≡ slice_index_or rules k rule → IsSoundRule project rule
+sound_rule project sound k rules rule h are is =
+    subst (λ (r : Rule). IsSoundRule project r) (sym (is
+    ∙ ap (λ (rs : List Rule). slice_index_or rs k rule) are)) (rule_in project sound k rule h)
 
 -- The rule of a number is one.
-pub rule_is : (network : Project) (k : ℕ) (rules : List Rule) (rule each : Rule) → k < length network.rules.list
-    → rules ≡ network.rules.list → rule ≡ slice_index_or rules k rule
-    → slice_get network.rules.list k ≡ Some each → rule ≡ each
-rule_is network k rules rule each h are is there =
-    let found = slice_get-get_or network.rules.list k rule h in
-    let same : rule ≡ slice_index_or network.rules.list k rule = is
+pub rule_is : (project : Project) (k : ℕ) (rules : List Rule) (rule each : Rule) → k < length project.rules.list
+    → rules ≡ project.rules.list → rule ≡ slice_index_or rules k rule
+    → slice_get project.rules.list k ≡ Some each → rule ≡ each
+rule_is project k rules rule each h are is there =
+    let found = slice_get-get_or project.rules.list k rule h in
+    let same : rule ≡ slice_index_or project.rules.list k rule = is
     ∙ ap (λ (rs : List Rule). slice_index_or rs k rule) are in
     cc
 
 -- ---- ends of what a clause measures
-
-floor_whole : (z : ℤ) → floor (whole z) ≡ z
-floor_whole z = omega (
-  arith,
-  ints,
-  floor_low (whole z) (omega arith),
-  floor_greatest (whole z) z
-      (omega arith) (omega (arith, ints)),
-)
-
-ceiling_whole : (z : ℤ) → ceiling (whole z) ≡ z
-ceiling_whole z = omega (
-  arith,
-  ints,
-  ceiling_high (whole z) (omega arith),
-  ceiling_least (whole z) z
-      (omega arith) (omega (arith, ints)),
-)
 
 -- The open clause of a rule, from the place of the first one and its ends.
 pub open_clause : (instant : Instant) (rule : Rule) (clause : ℕ) (rows : List RuleClause) (each : RuleClause)

@@ -3,6 +3,8 @@ use Rattle.std.proofs.Common.{◌≡◌, ◌⊎◌, inl, inr, ℕ, zero, suc, �
 use Rattle.std.proofs.Common.{Some, None, nat_lt, slice_index_or, position, if◌then◌else◌, refl, ap, sym, ◌∙◌, arith}
 use Rattle.std.specs.List.{position_or_len}
 use Rattle.std.proofs.lemmas.List.Sums.{position_or_len_is, fails_before_first}
+use Rattle.hyd_lemmas.proofs.ListsAndOptions.{any_default}
+use Rattle.hyd_lemmas.proofs.Trials.{nat-lt-from}
 
 nat_le_or : (k i : ℕ) → k ≤ i → (k < i) ⊎ (k ≡ i)
 nat_le_or zero zero h = inr refl
@@ -14,15 +16,6 @@ nat_le_or (suc k) (suc i) h = elim (nat_le_or k i (omega arith)) [
       (ap suc e)
 ]
 
-any_default : {X : Type 0} (xs : List X) (i : ℕ) (d e : X) → i < length xs
-    → slice_index_or xs i d ≡ slice_index_or xs i e
-any_default [] i d e h = absurd (omega arith)
-any_default (x ∷ xs) zero d e h = refl
-any_default (x ∷ xs) (suc i) d e h = any_default xs i d e (omega arith)
-
-is_below : (a b : ℕ) → a < b → nat_lt a b ≡ true
-is_below a b h = grind arith
-
 not_below : (a b : ℕ) → b ≤ a → nat_lt a b ≡ false
 not_below a b h = grind arith
 
@@ -32,7 +25,7 @@ pub first_is : {X : Type 0} (test : X → Bool) (xs : List X) (i : ℕ) (d : X) 
 first_is {X} test xs i d h before here =
     let at = position_or_len_is test xs i d (omega arith) before (λ _. here) in
     ap (λ (n : ℕ). if nat_lt n (length xs) then Some n else None) at
-    ∙ ap (λ (b : Bool). if b then Some i else None) (is_below i (length xs) h)
+    ∙ ap (λ (b : Bool). if b then Some i else None) (nat-lt-from i (length xs) h)
 
 none_up_to : {X : Type 0} (test : X → Bool) (xs : List X) (d : X)
     → ((k : ℕ) → k < length xs → test (slice_index_or xs k d) ≡ false) → position test xs ≡ None

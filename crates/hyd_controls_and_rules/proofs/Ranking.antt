@@ -1,7 +1,7 @@
 -- The best of some offers, when one more comes.
-use Rattle.std.proofs.Common.{◌≡◌, ◌≢◌, inl, inr, ℕ, zero, suc, ◌+◌, ◌<◌, ℤ, ◌<ℤ◌, ◌≤ℤ◌, Bool, true, false, ◌==◌}
-use Rattle.std.proofs.Common.{if◌then◌else◌, int_lt, List, [], ◌∷◌, ◌++◌, length, map, take, Option, Some, None}
-use Rattle.std.proofs.Common.{slice_index_or, slice_set, refl, ap, sym, subst, ◌∙◌, append_assoc, append-nil, arith}
+use Rattle.std.proofs.Common.{◌≡◌, ◌≢◌, inl, inr, ℕ, zero, suc, ◌+◌, ◌<◌, ℤ, Bool, true, false, ◌==◌, if◌then◌else◌}
+use Rattle.std.proofs.Common.{List, [], ◌∷◌, ◌++◌, length, map, take, Option, Some, None, slice_index_or, slice_set}
+use Rattle.std.proofs.Common.{refl, ap, sym, subst, ◌∙◌, append_assoc, append-nil, arith}
 use Rattle.std.specs.List.{All}
 use Rattle.std.specs.Option.{option_map}
 use Rattle.std.proofs.lemmas.Int.{ints}
@@ -11,20 +11,10 @@ use Rattle.hyd_spec.specs.ProgramTypes.{Rule, Action}
 use Rattle.hyd_spec.specs.Rules.{Offer, is_above, higher, best_offer, offer_of, offers_of, offers_from}
 use Rattle.hyd_controls_and_rules.specs.declared.actions_by_priority.Offer as program
 use Rattle.hyd_controls_and_rules.specs.ActionsByPriority.{offer_for, is_higher, best_of, AreBest}
+use Rattle.hyd_lemmas.proofs.Trials.{lt-from, lt-not, lt-no, lt-yes}
+use Rattle.hyd_lemmas.proofs.ListsAndOptions.{any_default}
 
 -- ---- priorities
-
-lt-yes : (a b : ℤ) → int_lt a b ≡ true → a <ℤ b
-lt-yes a b e = grind (arith, ints)
-
-lt-no : (a b : ℤ) → int_lt a b ≡ false → b ≤ℤ a
-lt-no a b e = grind (arith, ints)
-
-lt-from : (a b : ℤ) → a <ℤ b → int_lt a b ≡ true
-lt-from a b h = grind (arith, ints)
-
-lt-not : (a b : ℤ) → b ≤ℤ a → int_lt a b ≡ false
-lt-not a b h = grind (arith, ints)
 
 above_along : (a b c : Option ℤ) → is_above a b ≡ true → is_above b c ≡ true → is_above a c ≡ true
 above_along (Some a) (Some b) (Some c) h i = lt-from c a (omega (arith, ints, lt-yes b a h, lt-yes c b i))
@@ -156,12 +146,6 @@ lower_left count before number rule actions i action best h is are ranks =
     (offer_of number rule action) are ranks)
 
 -- ---- places
-
-any_default : {X : Type 0} (xs : List X) (i : ℕ) (d e : X) → i < length xs
-    → slice_index_or xs i d ≡ slice_index_or xs i e
-any_default [] i d e h = absurd (omega arith)
-any_default (x ∷ xs) zero d e h = refl
-any_default (x ∷ xs) (suc i) d e h = any_default xs i d e (omega arith)
 
 -- What stands in the table for a link that is there.
 pub stands : (best : List (Option program.Offer)) (link : ℕ) (here : Option program.Offer) (b : Bool)

@@ -10,13 +10,13 @@ use Rattle.hyd_theorems_on_definitions.specs.TermsOfTheorems.{LevelsLie}
 use Rattle.hyd_theorems_on_histories.proofs.Beginning.{same_links}
 
 -- where all level controls are decided, they act at every level as at the intervals
-pub start_is : (network : Project) (S time : ℕ) (intervals : List Interval) (exact : List ℤ) (states : List LinkState)
+pub start_is : (project : Project) (S time : ℕ) (intervals : List Interval) (exact : List ℤ) (states : List LinkState)
     → 0 < S → LevelsLie S intervals exact
-    → ControlsAreDecided network intervals → started network time (acts_on intervals) states ≡ started network time
+    → ControlsAreDecided project intervals → started project time (acts_on intervals) states ≡ started project time
     (acts_at S exact) states
-start_is network S time intervals exact states some lie decided =
-    let tanks = tank_states S network.tanks.list exact in
-    sym (same_links network S time (record {
+start_is project S time intervals exact states some lie decided =
+    let tanks = tank_states S project.tanks.list exact in
+    sym (same_links project S time (record {
       number = 0;
       time = time;
       levels = intervals;

@@ -1,13 +1,12 @@
 -- What rules don't look at: the places of tanks among the heads.
-use Rattle.std.proofs.Common.{◌≡◌, inl, inr, ℕ, zero, suc, ◌+◌, ◌*◌, ◌<◌, ◌≤◌, ℤ, pos, ◌-ℤ◌, ◌*ℤ◌, ◌≤ℤ◌, Bool, false}
-use Rattle.std.proofs.Common.{not, List, [], ◌∷◌, ◌++◌, length, map, Some, None, nat_le, nat_lt, if◌then◌else◌}
-use Rattle.std.proofs.Common.{slice_index_or, position, refl, ap, sym, subst, ◌∙◌, arith}
+use Rattle.std.proofs.Common.{◌≡◌, inl, inr, ℕ, zero, suc, ◌+◌, ◌*◌, ◌<◌, ◌≤◌, ℤ, pos, ◌-ℤ◌, ◌*ℤ◌, ◌≤ℤ◌, Bool, not}
+use Rattle.std.proofs.Common.{List, [], ◌∷◌, ◌++◌, length, map, Some, None, nat_lt, if◌then◌else◌, slice_index_or}
+use Rattle.std.proofs.Common.{position, refl, ap, sym, subst, ◌∙◌, arith}
 use Rattle.std.specs.List.{position_or_len}
 use Rattle.std.proofs.lemmas.Bool.{cases_Bool}
 use Rattle.hyd_num.specs.Rational.{Rational, whole, total_of, floor, ceiling}
 use Rattle.hyd_spec.specs.ProgramTypes.{Project, Rule, RuleClause, Clause, What, Head, Pressure, Level, Flow, Setting}
-use Rattle.hyd_spec.specs.ProgramTypes.{Status}
-use Rattle.hyd_spec.specs.ProgramTypes.{Time, Clock, Relation, Value, LinkState}
+use Rattle.hyd_spec.specs.ProgramTypes.{Status, Time, Clock, Relation, Value, LinkState}
 use Rattle.hyd_spec.specs.Scale.{at_scale}
 use Rattle.hyd_spec.specs.NodeNumbers.{nodes_before_tanks, is_tank, tank_number}
 use Rattle.hyd_spec.specs.Assignment.{head_at}
@@ -21,91 +20,89 @@ use Rattle.hyd_spec_certificates.specs.ThreeValuedLogic.{all_hold}
 use Rattle.hyd_spec_certificates.specs.Decided.{clause_between, rule_between, IsOpenClause, IsTruthBetween}
 use Rattle.hyd_theorems_on_histories.specs.Agreement.{IsValueBetween, AreBetween}
 use Rattle.hyd_controls_and_rules.specs.AlikeButTankHeads.{AreAlike}
+use Rattle.hyd_lemmas.proofs.Trials.{nat-le-no}
 
 -- ---- what clauses measure
 
-no_tank : (n node : ℕ) → nat_le n node ≡ false → node < n
-no_tank n node e = grind arith
-
-same_head : (network : Project) (a b : Readings) (node : ℕ) → AreAlike network a b
-    → measured network 1 a (Head node) ≡ measured network 1 b (Head node)
-same_head network a b node alike =
-    let tank = tank_number network node in
-    let up : Readings → Rational = λ x. total_of (level_of x tank) (whole (at_scale 1 (bottom_of network tank))) in
+same_head : (project : Project) (a b : Readings) (node : ℕ) → AreAlike project a b
+    → measured project 1 a (Head node) ≡ measured project 1 b (Head node)
+same_head project a b node alike =
+    let tank = tank_number project node in
+    let up : Readings → Rational = λ x. total_of (level_of x tank) (whole (at_scale 1 (bottom_of project tank))) in
     let own : Readings → Rational = λ x. whole (slice_index_or x.heads node (pos 0)) in
-    elim (cases_Bool (is_tank network node)) [
+    elim (cases_Bool (is_tank project node)) [
       | inl is ↦
           ap (λ (t : Bool). in_ticks 1 (if t then up a else own a)) is
           ∙ ap (λ (ls : List Rational). in_ticks 1 (total_of (slice_index_or ls tank (whole (pos 0))) (whole
-          (at_scale 1 (bottom_of network tank))))) alike.levels
+          (at_scale 1 (bottom_of project tank))))) alike.levels
           ∙ sym (ap (λ (t : Bool). in_ticks 1 (if t then up b else own b)) is)
       | inr is ↦
           ap (λ (t : Bool). in_ticks 1 (if t then up a else own a)) is
-          ∙ ap (λ (z : ℤ). in_ticks 1 (whole z)) (alike.heads node (no_tank (nodes_before_tanks network) node is))
+          ∙ ap (λ (z : ℤ). in_ticks 1 (whole z)) (alike.heads node (nat-le-no (nodes_before_tanks project) node is))
           ∙ sym (ap (λ (t : Bool). in_ticks 1 (if t then up b else own b)) is)
     ]
 
-same_pressure : (network : Project) (a b : Readings) (node : ℕ) → AreAlike network a b
-    → measured network 1 a (Pressure node) ≡ measured network 1 b (Pressure node)
-same_pressure network a b node alike =
-    let tank = tank_number network node in
+same_pressure : (project : Project) (a b : Readings) (node : ℕ) → AreAlike project a b
+    → measured project 1 a (Pressure node) ≡ measured project 1 b (Pressure node)
+same_pressure project a b node alike =
+    let tank = tank_number project node in
     let up : Readings → Rational = λ x. level_of x tank in
     let own : Readings → Rational = λ x. whole (slice_index_or x.heads node (pos 0) -ℤ at_scale 1
-    (elevation_of network node)) in
-    elim (cases_Bool (is_tank network node)) [
+    (elevation_of project node)) in
+    elim (cases_Bool (is_tank project node)) [
       | inl is ↦
           ap (λ (t : Bool). in_ticks 1 (if t then up a else own a)) is
           ∙ ap (λ (ls : List Rational). in_ticks 1 (slice_index_or ls tank (whole (pos 0)))) alike.levels
           ∙ sym (ap (λ (t : Bool). in_ticks 1 (if t then up b else own b)) is)
       | inr is ↦
           ap (λ (t : Bool). in_ticks 1 (if t then up a else own a)) is
-          ∙ ap (λ (z : ℤ). in_ticks 1 (whole (z -ℤ at_scale 1 (elevation_of network node)))) (alike.heads node
-          (no_tank (nodes_before_tanks network) node is))
+          ∙ ap (λ (z : ℤ). in_ticks 1 (whole (z -ℤ at_scale 1 (elevation_of project node)))) (alike.heads node
+          (nat-le-no (nodes_before_tanks project) node is))
           ∙ sym (ap (λ (t : Bool). in_ticks 1 (if t then up b else own b)) is)
     ]
 
-same_measure : (network : Project) (a b : Readings) (what : What) → AreAlike network a b
-    → measured network 1 a what ≡ measured network 1 b what
-same_measure network a b (Head node) alike = same_head network a b node alike
-same_measure network a b (Pressure node) alike = same_pressure network a b node alike
-same_measure network a b (Level tank) alike = ap (λ (ls : List Rational). in_ticks 1 (slice_index_or ls tank
+same_measure : (project : Project) (a b : Readings) (what : What) → AreAlike project a b
+    → measured project 1 a what ≡ measured project 1 b what
+same_measure project a b (Head node) alike = same_head project a b node alike
+same_measure project a b (Pressure node) alike = same_pressure project a b node alike
+same_measure project a b (Level tank) alike = ap (λ (ls : List Rational). in_ticks 1 (slice_index_or ls tank
     (whole (pos 0)))) alike.levels
-same_measure network a b (Flow link) alike = ap (λ (fs : List ℕ). in_ticks 1 (whole (pos
+same_measure project a b (Flow link) alike = ap (λ (fs : List ℕ). in_ticks 1 (whole (pos
     (slice_index_or fs link 0)))) alike.flows
-same_measure network a b (Setting link) alike = ap (λ (ls : List LinkState). whole (setting_of
+same_measure project a b (Setting link) alike = ap (λ (ls : List LinkState). whole (setting_of
     (state_of_link ls link))) alike.links
-same_measure network a b (Status link) alike = refl
-same_measure network a b Time alike = refl
-same_measure network a b Clock alike = refl
+same_measure project a b (Status link) alike = refl
+same_measure project a b Time alike = refl
+same_measure project a b Clock alike = refl
 
 -- ---- clauses
 
-same_on : (network : Project) (time : ℕ) (a b : Readings) (what : What) (relation : Relation) (value : Value)
-    → AreAlike network a b
-    → holds_on network 1 time a what relation value ≡ holds_on network 1 time b what relation value
-same_on network time a b (Head node) relation value alike = ap (λ x. compares relation x (amount network
-    (Head node) value)) (same_measure network a b (Head node) alike)
-same_on network time a b (Pressure node) relation value alike = ap (λ x. compares relation x (amount network
-    (Pressure node) value)) (same_measure network a b (Pressure node) alike)
-same_on network time a b (Level tank) relation value alike = ap (λ x. compares relation x (amount network
-    (Level tank) value)) (same_measure network a b (Level tank) alike)
-same_on network time a b (Flow link) relation value alike = ap (λ x. compares relation x (amount network
-    (Flow link) value)) (same_measure network a b (Flow link) alike)
-same_on network time a b (Setting link) relation value alike = ap (λ x. compares relation x (amount network
-    (Setting link) value)) (same_measure network a b (Setting link) alike)
-same_on network time a b (Status link) relation value alike = ap (λ
+same_on : (project : Project) (time : ℕ) (a b : Readings) (what : What) (relation : Relation) (value : Value)
+    → AreAlike project a b
+    → holds_on project 1 time a what relation value ≡ holds_on project 1 time b what relation value
+same_on project time a b (Head node) relation value alike = ap (λ x. compares relation x (amount project
+    (Head node) value)) (same_measure project a b (Head node) alike)
+same_on project time a b (Pressure node) relation value alike = ap (λ x. compares relation x (amount project
+    (Pressure node) value)) (same_measure project a b (Pressure node) alike)
+same_on project time a b (Level tank) relation value alike = ap (λ x. compares relation x (amount project
+    (Level tank) value)) (same_measure project a b (Level tank) alike)
+same_on project time a b (Flow link) relation value alike = ap (λ x. compares relation x (amount project
+    (Flow link) value)) (same_measure project a b (Flow link) alike)
+same_on project time a b (Setting link) relation value alike = ap (λ x. compares relation x (amount project
+    (Setting link) value)) (same_measure project a b (Setting link) alike)
+same_on project time a b (Status link) relation value alike = ap (λ
     (ls : List LinkState). status_holds relation (state_word (state_of_link ls link)) value) alike.links
-same_on network time a b Time relation value alike = refl
-same_on network time a b Clock relation value alike = refl
+same_on project time a b Time relation value alike = refl
+same_on project time a b Clock relation value alike = refl
 
-same_verdict : (network : Project) (time : ℕ) (below above low high : Readings) (clause : Clause)
-    → AreAlike network below low → AreAlike network above high
-    → clause_between network time below above clause ≡ clause_between network time low high clause
-same_verdict network time below above low high clause alike alike_above =
-    ap (λ (b : Bool). at_both_ends b (clause_holds network 1 time above clause))
-    (same_on network time below low clause.what clause.relation clause.value alike)
-    ∙ ap (λ (b : Bool). at_both_ends (clause_holds network 1 time low clause) b)
-    (same_on network time above high clause.what clause.relation clause.value alike_above)
+same_verdict : (project : Project) (time : ℕ) (below above low high : Readings) (clause : Clause)
+    → AreAlike project below low → AreAlike project above high
+    → clause_between project time below above clause ≡ clause_between project time low high clause
+same_verdict project time below above low high clause alike alike_above =
+    ap (λ (b : Bool). at_both_ends b (clause_holds project 1 time above clause))
+    (same_on project time below low clause.what clause.relation clause.value alike)
+    ∙ ap (λ (b : Bool). at_both_ends (clause_holds project 1 time low clause) b)
+    (same_on project time above high clause.what clause.relation clause.value alike_above)
 
 -- ---- rules
 
@@ -136,38 +133,38 @@ same_position : (t u : RuleClause → Bool) → ((row : RuleClause) → t row �
 same_position t u same rows = ap (λ (n : ℕ). if nat_lt n (length rows) then Some n else None)
     (same_place t u same rows)
 
-same_rule : (network : Project) (time : ℕ) (below above low high : Readings) (rule : Rule)
-    → AreAlike network below low → AreAlike network above high
-    → rule_between network time below above rule ≡ rule_between network time low high rule
-same_rule network time below above low high rule alike alike_above =
-    same_groups (clause_between network time below above) (clause_between network time low high)
-    (λ clause. same_verdict network time below above low high clause alike alike_above) (groups_in
+same_rule : (project : Project) (time : ℕ) (below above low high : Readings) (rule : Rule)
+    → AreAlike project below low → AreAlike project above high
+    → rule_between project time below above rule ≡ rule_between project time low high rule
+same_rule project time below above low high rule alike alike_above =
+    same_groups (clause_between project time below above) (clause_between project time low high)
+    (λ clause. same_verdict project time below above low high clause alike alike_above) (groups_in
     (parts_of rule.clauses.list))
 
-same_open : (network : Project) (time : ℕ) (below above low high : Readings) (rule : Rule) (clause : ℕ)
-    (lo hi : ℤ) → AreAlike network below low → AreAlike network above high
-    → IsOpenClause network time below above rule clause lo hi → IsOpenClause network time low high rule clause lo hi
-same_open network time below above low high rule clause lo hi alike alike_above is = record {
-  first_clause = sym (same_position (λ row. is_unknown (clause_between network time below above row.clause))
-      (λ row. is_unknown (clause_between network time low high row.clause))
-      (λ row. ap is_unknown (same_verdict network time below above low high row.clause alike alike_above))
+same_open : (project : Project) (time : ℕ) (below above low high : Readings) (rule : Rule) (clause : ℕ)
+    (lo hi : ℤ) → AreAlike project below low → AreAlike project above high
+    → IsOpenClause project time below above rule clause lo hi → IsOpenClause project time low high rule clause lo hi
+same_open project time below above low high rule clause lo hi alike alike_above is = record {
+  first_clause = sym (same_position (λ row. is_unknown (clause_between project time below above row.clause))
+      (λ row. is_unknown (clause_between project time low high row.clause))
+      (λ row. ap is_unknown (same_verdict project time below above low high row.clause alike alike_above))
       rule.clauses.list) ∙ is.first_clause;
   each = is.each;
   is_clause = is.is_clause;
-  lo_is = is.lo_is ∙ ap floor (same_measure network below low is.each.clause.what alike);
-  hi_is = is.hi_is ∙ ap ceiling (same_measure network above high is.each.clause.what alike_above);
+  lo_is = is.lo_is ∙ ap floor (same_measure project below low is.each.clause.what alike);
+  hi_is = is.hi_is ∙ ap ceiling (same_measure project above high is.each.clause.what alike_above);
 }
 
-pub same_truth : (network : Project) (time : ℕ) (below above low high : Readings) (rule : Rule) (truth : Truth)
-    → AreAlike network below low → AreAlike network above high
-    → IsTruthBetween network time below above rule truth → IsTruthBetween network time low high rule truth
-same_truth network time below above low high rule True alike alike_above is = sym
-    (same_rule network time below above low high rule alike alike_above) ∙ is
-same_truth network time below above low high rule False alike alike_above is = sym
-    (same_rule network time below above low high rule alike alike_above) ∙ is
-same_truth network time below above low high rule (Open clause lo hi) alike alike_above is = (
-  sym (same_rule network time below above low high rule alike alike_above) ∙ is.0,
-  same_open network time below above low high rule clause lo hi alike alike_above is.1,
+pub same_truth : (project : Project) (time : ℕ) (below above low high : Readings) (rule : Rule) (truth : Truth)
+    → AreAlike project below low → AreAlike project above high
+    → IsTruthBetween project time below above rule truth → IsTruthBetween project time low high rule truth
+same_truth project time below above low high rule True alike alike_above is = sym
+    (same_rule project time below above low high rule alike alike_above) ∙ is
+same_truth project time below above low high rule False alike alike_above is = sym
+    (same_rule project time below above low high rule alike alike_above) ∙ is
+same_truth project time below above low high rule (Open clause lo hi) alike alike_above is = (
+  sym (same_rule project time below above low high rule alike alike_above) ∙ is.0,
+  same_open project time below above low high rule clause lo hi alike alike_above is.1,
 )
 
 -- ---- heads behind
@@ -179,10 +176,10 @@ heads_behind (z ∷ heads) more zero h = refl
 heads_behind (z ∷ heads) more (suc node) h = heads_behind heads more node (omega arith)
 
 -- What lies between two readings lies between two that are like them.
-pub still_between : (network : Project) (S : ℕ) (below x above other_below other_above : Readings)
-    → AreAlike network below other_below → AreAlike network above other_above
-    → AreBetween network S below x above → AreBetween network S other_below x other_above
-still_between network S below x above other_below other_above low high b = record {
+pub still_between : (project : Project) (S : ℕ) (below x above other_below other_above : Readings)
+    → AreAlike project below other_below → AreAlike project above other_above
+    → AreBetween project S below x above → AreBetween project S other_below x other_above
+still_between project S below x above other_below other_above low high b = record {
   heads = λ m before.
       let lies = b.heads m before in
       let l = lies.low in

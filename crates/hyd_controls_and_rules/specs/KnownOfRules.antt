@@ -15,9 +15,9 @@ use Rattle.hyd_controls_and_rules.specs.Verdicts.{verdict_of}
 use Rattle.hyd_controls_and_rules.specs.RuleReadings.{below, above, verdict_there}
 
 -- a rule of a sound network
-pub record IsSoundRule (network : Project) (rule : Rule) : Type 0 where
-  pub in_range : IsRule network rule
-  pub made : IsRuleMade network.options.unit rule
+pub record IsSoundRule (project : Project) (rule : Rule) : Type 0 where
+  pub in_range : IsRule project rule
+  pub made : IsRuleMade project.options.unit rule
   pub few : length rule.clauses.list ≤ 10 ^ 5
 
 -- a clause is open there by itself

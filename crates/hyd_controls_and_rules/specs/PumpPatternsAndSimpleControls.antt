@@ -7,9 +7,9 @@ use Rattle.hyd_spec.specs.ProgramTypes.{LinkState}
 use Rattle.hyd_spec.specs.ProgramTypes.{Control, When, AtLevel, AtTime, AtClock}
 use Rattle.hyd_spec.specs.PumpPatternsAndSimpleControls.{control_acts}
 use Rattle.hyd_spec_reports.specs.Stops.{is_open_control}
+use Rattle.hyd_spec_certificates.specs.Spans.{levels_of}
 use Rattle.hyd_spec_certificates.specs.declared.LevelSpan.{LevelSpan}
 use Rattle.hyd_controls_and_rules.specs.declared.pump_patterns_and_simple_controls.LevelOpen.{LevelOpen}
-use Rattle.hyd_controls_and_rules.specs.RuleReadings.{level_interval}
 
 -- ---- pump patterns
 
@@ -25,7 +25,7 @@ pattern_of (Gpv bend) = None
 
 -- the pattern of a pump's speeds is there
 abbrev pub HasPatternThere : Project → LinkKind → Type 0
-HasPatternThere network kind = IfSome (pattern_of kind) (λ pattern. pattern < length network.patterns.list)
+HasPatternThere project kind = IfSome (pattern_of kind) (λ pattern. pattern < length project.patterns.list)
 
 -- ---- level controls
 
@@ -41,21 +41,21 @@ pub record IsLevelOf (levels : List LevelSpan) (control : Control) (level : Leve
   pub above : Bool
   pub ticks : ℤ
   pub is_level : control.when ≡ AtLevel tank above ticks
-  pub level_is : slice_get (map level_interval levels) tank ≡ Some (level_interval level)
+  pub level_is : slice_get (map levels_of levels) tank ≡ Some (levels_of level)
 
 -- the first level control that is open at the levels, and its tank's level interval
-pub record IsFirstOpen (network : Project) (levels : List LevelSpan) (found : LevelOpen) : Type 0 where
-  pub first : position (is_open_control (map level_interval levels)) network.controls.list ≡ Some found.control
+pub record IsFirstOpen (project : Project) (levels : List LevelSpan) (found : LevelOpen) : Type 0 where
+  pub first : position (is_open_control (map levels_of levels)) project.controls.list ≡ Some found.control
   pub control : Control
-  pub is_control : slice_get network.controls.list found.control ≡ Some control
+  pub is_control : slice_get project.controls.list found.control ≡ Some control
   pub level : IsLevelOf levels control (record { lo = found.lo; hi = found.hi })
 
 -- ---- controls in order
 
 -- the link states after these controls
 abbrev pub controlled_by : Project → ℕ → (ℕ → Bool → ℤ → Bool) → List Control → List LinkState → List LinkState
-controlled_by network time acts controls states =
+controlled_by project time acts controls states =
     fold
-    (λ links control. if control_acts network time acts control.when
+    (λ links control. if control_acts project time acts control.when
     then slice_set links control.link control.to else links)
     states controls

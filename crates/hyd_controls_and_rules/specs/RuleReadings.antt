@@ -9,20 +9,12 @@ use Rattle.hyd_spec.specs.ProgramTypes.{LinkState, Clause, What, Head, Pressure,
 use Rattle.hyd_spec.specs.ProgramTypes.{Clock}
 use Rattle.hyd_spec.specs.NodeNumbers.{nodes_before_tanks, tank_count}
 use Rattle.hyd_spec.specs.Rules.{Readings, level_of, measured}
+use Rattle.hyd_spec_certificates.specs.Spans.{levels_of, flows_of}
 use Rattle.hyd_spec_certificates.specs.Interval.{Interval}
 use Rattle.hyd_spec_certificates.specs.Decided.{least_magnitude, greatest_magnitude, clause_between}
 use Rattle.hyd_spec_certificates.specs.ThreeValuedLogic.{Verdict}
-use Rattle.hyd_spec_certificates.specs.declared.LevelSpan.{LevelSpan}
 use Rattle.hyd_controls_and_rules.specs.declared.clauses.Instant.{Instant}
 use Rattle.hyd_controls_and_rules.specs.declared.clauses.Ends.{Ends}
-
--- the interval of a span of levels
-abbrev pub level_interval : LevelSpan → Interval
-level_interval level = record { lo = level.lo; hi = level.hi }
-
--- the interval of a span of flows
-abbrev pub flow_interval : Span → Interval
-flow_interval flow = record { lo = flow.lo; hi = flow.hi }
 
 -- the readings from below: heads (head ticks), flows (flow ticks) and carried levels (head ticks) by their lower ends
 abbrev pub lower_readings : List ℤ → List Interval → List Interval → List LinkState → Readings
@@ -50,14 +42,14 @@ pub record IsBounded (flow : Span) : Type 0 where
 -- the readings of an instant from below
 abbrev pub below : Instant → Readings
 below instant =
-    lower_readings instant.low.now (map flow_interval instant.flows.now)
-    (map level_interval instant.levels.now) instant.links.now
+    lower_readings instant.low.now (map flows_of instant.flows.now)
+    (map levels_of instant.levels.now) instant.links.now
 
 -- the readings of an instant from above
 abbrev pub above : Instant → Readings
 above instant =
-    upper_readings instant.high.now (map flow_interval instant.flows.now)
-    (map level_interval instant.levels.now) instant.links.now
+    upper_readings instant.high.now (map flows_of instant.flows.now)
+    (map levels_of instant.levels.now) instant.links.now
 
 -- an instant of a sound network: one head for each junction and each reservoir, one flow and one state for each
 -- link, one level for each tank

@@ -9,9 +9,10 @@ ghost use Rattle.hyd_net.specs.RoundedFileNumbers.{IsRounded, IsValueMade};
 ghost use Rattle.hyd_spec.specs.NodeNumbers.{nodes_before_tanks};
 ghost use Rattle.hyd_spec.specs.Rules.{setting_of, compares, is_word, status_holds, state_word, seconds_of, time_holds};
 ghost use Rattle.hyd_spec.specs.Rules.{has_come, has_come_today};
+ghost use Rattle.hyd_spec_certificates.specs.Spans.{flows_of};
 ghost use Rattle.hyd_spec_certificates.specs.Decided.{least_magnitude, greatest_magnitude};
 ghost use Rattle.hyd_controls_and_rules.specs.Verdicts.{verdict_of};
-ghost use Rattle.hyd_controls_and_rules.specs.RuleReadings.{flow_interval, IsBounded, IsInstant, AreLevelEnds, AreEnds};
+ghost use Rattle.hyd_controls_and_rules.specs.RuleReadings.{IsBounded, IsInstant, AreLevelEnds, AreEnds};
 ghost use Rattle.hyd_controls_and_rules.specs.RuleReadings.{IsMeasured};
 ghost use Rattle.hyd_controls_and_rules.specs.RuleReadings.{verdict_there};
 
@@ -97,7 +98,7 @@ fn pressure_ends(instant: &Instant<'_>, node: u32) -> Ends
 // The least magnitude of a flow.
 fn least_magnitude(flow: &Span) -> i128
     requires { IsBounded flow.now }
-    ensures { result ≡ pos (least_magnitude (flow_interval flow.now)) }
+    ensures { result ≡ pos (least_magnitude (flows_of flow.now)) }
 {
     if flow.lo >= 0 {
         return flow.lo;
@@ -108,7 +109,7 @@ fn least_magnitude(flow: &Span) -> i128
 // The greatest magnitude of a flow.
 fn greatest_magnitude(flow: &Span) -> i128
     requires { IsBounded flow.now }
-    ensures { result ≡ pos (greatest_magnitude (flow_interval flow.now)) }
+    ensures { result ≡ pos (greatest_magnitude (flows_of flow.now)) }
 {
     flow.hi.max(-flow.lo)
 }

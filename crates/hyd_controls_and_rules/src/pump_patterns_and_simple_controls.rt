@@ -9,13 +9,13 @@ ghost use Rattle.hyd_spec.specs.PumpPatternsAndSimpleControls.{speed_state, is_p
 ghost use Rattle.hyd_spec.specs.PumpPatternsAndSimpleControls.{patterned};
 ghost use Rattle.hyd_spec.specs.PumpPatternsAndSimpleControls.{control_acts};
 ghost use Rattle.hyd_spec.specs.PumpPatternsAndSimpleControls.{controlled, started, acts_at};
+ghost use Rattle.hyd_spec_certificates.specs.Spans.{levels_of};
 ghost use Rattle.hyd_spec_certificates.specs.Decided.{acts_on, control_truth};
 ghost use Rattle.hyd_spec_certificates.specs.Valid.{ControlsAreDecided};
 ghost use Rattle.hyd_spec_reports.specs.Report.{control_changes, start_changes};
 ghost use Rattle.hyd_spec_reports.specs.Stops.{is_open_control};
 ghost use Rattle.hyd_theorems_on_definitions.specs.TermsOfTheorems.{LevelsLie};
 ghost use Rattle.hyd_controls_and_rules.specs.Verdicts.{verdict_of};
-ghost use Rattle.hyd_controls_and_rules.specs.RuleReadings.{level_interval};
 ghost use Rattle.hyd_controls_and_rules.specs.PumpPatternsAndSimpleControls.{pattern_of, HasPatternThere, IsTankThere};
 ghost use Rattle.hyd_controls_and_rules.specs.PumpPatternsAndSimpleControls.{IsLevelOf};
 ghost use Rattle.hyd_controls_and_rules.specs.PumpPatternsAndSimpleControls.{IsFirstOpen};
@@ -101,7 +101,7 @@ fn set_pumps(project: &Project, time: u32, links: &mut [LinkState])
 
 // ABOVE means at least, and BELOW at most.
 fn level_verdict(level: &LevelSpan, above: bool, ticks: i64) -> Verdict
-    ensures { verdict_of result ≡ control_truth (level_interval level.now) above ticks }
+    ensures { verdict_of result ≡ control_truth (levels_of level.now) above ticks }
 {
     if above {
         at_both_ends(level.lo >= ticks, level.hi >= ticks)
@@ -113,7 +113,7 @@ fn level_verdict(level: &LevelSpan, above: bool, ticks: i64) -> Verdict
 // The level interval of a level control's tank, where the control is open.
 fn open_level(levels: &[LevelSpan], control: &Control) -> Option<LevelSpan>
     requires { IsTankThere (length levels.now) control.now.when }
-    ensures is_open { is_some result ≡ is_open_control (map level_interval levels.now) control.now }
+    ensures is_open { is_some result ≡ is_open_control (map levels_of levels.now) control.now }
     ensures level { IfSome result (IsLevelOf levels.now control.now) }
 {
     let When::Level { tank, above, ticks } = control.when else {
@@ -131,7 +131,7 @@ fn open_level(levels: &[LevelSpan], control: &Control) -> Option<LevelSpan>
 pub fn find_open(project: &Project, levels: &[LevelSpan]) -> Result<(), LevelOpen>
     requires sound { Sound project.now }
     requires each_level { length levels.now ≡ tank_count project.now }
-    ensures decided { OnOk result (ControlsAreDecided project.now (map level_interval levels.now)) }
+    ensures decided { OnOk result (ControlsAreDecided project.now (map levels_of levels.now)) }
     ensures open { IfErr result (IsFirstOpen project.now levels.now) }
 {
     let controls = project.controls.as_slice();
@@ -149,7 +149,7 @@ pub fn find_open(project: &Project, levels: &[LevelSpan]) -> Result<(), LevelOpe
 
 fn acts(project: &Project, time: u32, levels: &[LevelSpan], when: &When) -> bool
     requires { IsTankThere (length levels.now) when.now }
-    ensures { result ≡ control_acts project.now time (acts_on (map level_interval levels.now)) when.now }
+    ensures { result ≡ control_acts project.now time (acts_on (map levels_of levels.now)) when.now }
 {
     match when {
         When::Level { tank, above, ticks } => {
@@ -173,8 +173,8 @@ fn carry_out(
     requires each_level { length levels.now ≡ tank_count project.now }
     requires each_link { length links.old ≡ length project.now.links.list }
     requires room { length project.now.controls.list ≤ changes.old.spare }
-    ensures links { links.new ≡ controlled project.now time (acts_on (map level_interval levels.now)) links.old }
-    ensures rows { let acts = acts_on (map level_interval levels.now) in
+    ensures links { links.new ≡ controlled project.now time (acts_on (map levels_of levels.now)) links.old }
+    ensures rows { let acts = acts_on (map levels_of levels.now) in
         changes.new.list ≡ changes.old.list
         ++ control_changes project.now time acts 0 project.now.controls.list links.old }
     ensures spare { changes.old.spare + length changes.old.list ≡ changes.new.spare + length changes.new.list }
@@ -218,13 +218,13 @@ pub fn settle(
     requires room { length project.now.controls.list ≤ changes.old.spare }
 
     // At each start of which all controls are decided.
-    ensures decided { OnOk result (ControlsAreDecided project.now (map level_interval levels.now)) }
+    ensures decided { OnOk result (ControlsAreDecided project.now (map levels_of levels.now)) }
     ensures links { OnOk result (links.new
-        ≡ started project.now time (acts_on (map level_interval levels.now)) links.old) }
-    ensures holds { (S : ℕ) (exact : List ℤ) → 0 < S → LevelsLie S (map level_interval levels.now) exact
+        ≡ started project.now time (acts_on (map levels_of levels.now)) links.old) }
+    ensures holds { (S : ℕ) (exact : List ℤ) → 0 < S → LevelsLie S (map levels_of levels.now) exact
         → OnOk result (links.new ≡ started project.now time (acts_at S exact) links.old) }
     ensures rows { OnOk result (changes.new.list ≡ changes.old.list
-        ++ start_changes project.now time (acts_on (map level_interval levels.now)) links.old) }
+        ++ start_changes project.now time (acts_on (map levels_of levels.now)) links.old) }
     ensures spare { OnOk result (changes.old.spare + length changes.old.list
         ≡ changes.new.spare + length changes.new.list) }
     ensures most { OnOk result (length changes.new.list

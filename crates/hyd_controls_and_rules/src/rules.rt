@@ -8,11 +8,12 @@ ghost use Rattle.hyd_spec.specs.ProgramTypes as types;
 ghost use Rattle.hyd_spec.specs.NodeNumbers.{nodes_before_tanks, tank_count};
 ghost use Rattle.hyd_spec_certificates.specs.ThreeValuedLogic as logic;
 ghost use Rattle.hyd_spec.specs.Rules.{Readings, rule_holds};
+ghost use Rattle.hyd_spec_certificates.specs.Spans.{levels_of, flows_of};
 ghost use Rattle.hyd_spec_certificates.specs.Decided.{rule_between, IsTruthBetween};
 ghost use Rattle.hyd_theorems_on_histories.specs.Agreement.{AreBetween};
 ghost use Rattle.hyd_controls_and_rules.specs.Verdicts.{verdict_of};
 ghost use Rattle.hyd_controls_and_rules.specs.TruthOfRule.{IsTruthOf, IsKnownAs};
-ghost use Rattle.hyd_controls_and_rules.specs.RuleReadings.{IsInstant, IsBounded, flow_interval, level_interval};
+ghost use Rattle.hyd_controls_and_rules.specs.RuleReadings.{IsInstant, IsBounded};
 ghost use Rattle.hyd_controls_and_rules.specs.RuleReadings.{lower_readings};
 ghost use Rattle.hyd_controls_and_rules.specs.RuleReadings.{upper_readings};
 ghost use Rattle.hyd_controls_and_rules.specs.KnownOfRules.{IsSoundRule, is_open, rule_there, IsTruthThere, premise_of};
@@ -150,24 +151,24 @@ pub fn decide(
     requires each_link { length links.now ≡ length project.now.links.list }
     ensures truth { (each : types.Rule) → slice_get project.now.rules.list rule ≡ Some each
         → IsTruthBetween project.now time
-        (lower_readings low.now (map flow_interval flows.now) (map level_interval levels.now) links.now)
-        (upper_readings high.now (map flow_interval flows.now) (map level_interval levels.now) links.now) each result }
+        (lower_readings low.now (map flows_of flows.now) (map levels_of levels.now) links.now)
+        (upper_readings high.now (map flows_of flows.now) (map levels_of levels.now) links.now) each result }
 
     // What is decided is so of the rule at whatever lies between, at every scale.
     ensures holds { (each : types.Rule) → slice_get project.now.rules.list rule ≡ Some each
         → (S : ℕ) (x : Readings) → 0 < S → AreBetween project.now S
-        (lower_readings low.now (map flow_interval flows.now) (map level_interval levels.now) links.now) x
-        (upper_readings high.now (map flow_interval flows.now) (map level_interval levels.now) links.now)
+        (lower_readings low.now (map flows_of flows.now) (map levels_of levels.now) links.now) x
+        (upper_readings high.now (map flows_of flows.now) (map levels_of levels.now) links.now)
         → IsTruthOf result (rule_holds project.now S time x each) }
 
     // And it is decided so by each two readings between.
     ensures nests { (each : types.Rule) → slice_get project.now.rules.list rule ≡ Some each
         → (lower upper : Readings) → AreBetween project.now 1
-        (lower_readings low.now (map flow_interval flows.now) (map level_interval levels.now) links.now) lower
-        (upper_readings high.now (map flow_interval flows.now) (map level_interval levels.now) links.now)
+        (lower_readings low.now (map flows_of flows.now) (map levels_of levels.now) links.now) lower
+        (upper_readings high.now (map flows_of flows.now) (map levels_of levels.now) links.now)
         → AreBetween project.now 1
-        (lower_readings low.now (map flow_interval flows.now) (map level_interval levels.now) links.now) upper
-        (upper_readings high.now (map flow_interval flows.now) (map level_interval levels.now) links.now)
+        (lower_readings low.now (map flows_of flows.now) (map levels_of levels.now) links.now) upper
+        (upper_readings high.now (map flows_of flows.now) (map levels_of levels.now) links.now)
         → IsKnownAs result (rule_between project.now time lower upper each) }
 {
     let instant = Instant {

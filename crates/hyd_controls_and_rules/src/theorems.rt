@@ -16,18 +16,18 @@ ghost use Rattle.hyd_controls_and_rules.specs.RuleReadings.{lower_readings, uppe
 /// known of a rule is the same with and without heads of tanks behind those of junctions and reservoirs, and so is what
 /// lies between.
 pub fn heads_of_tanks()
-    ensures truths { (network : Project) (time : ℕ) (below above other_below other_above : Readings) (rule : Rule)
-        (truth : Truth) → AreAlike network below other_below → AreAlike network above other_above
-        → IsTruthBetween network time below above rule truth
-        → IsTruthBetween network time other_below other_above rule truth }
-    ensures between { (network : Project) (S : ℕ) (below x above other_below other_above : Readings)
-        → AreAlike network below other_below → AreAlike network above other_above
-        → AreBetween network S below x above → AreBetween network S other_below x other_above }
-    ensures below { (network : Project) (low tanks : List ℤ) (flows levels : List Interval) (links : List LinkState)
-        → length low ≡ nodes_before_tanks network
-        → AreAlike network (lower_readings low flows levels links) (lower_readings (low ++ tanks) flows levels links) }
-    ensures above { (network : Project) (high tanks : List ℤ) (flows levels : List Interval) (links : List LinkState)
-        → length high ≡ nodes_before_tanks network
-        → AreAlike network (upper_readings high flows levels links)
+    ensures truths { (project : Project) (time : ℕ) (below above other_below other_above : Readings) (rule : Rule)
+        (truth : Truth) → AreAlike project below other_below → AreAlike project above other_above
+        → IsTruthBetween project time below above rule truth
+        → IsTruthBetween project time other_below other_above rule truth }
+    ensures between { (project : Project) (S : ℕ) (below x above other_below other_above : Readings)
+        → AreAlike project below other_below → AreAlike project above other_above
+        → AreBetween project S below x above → AreBetween project S other_below x other_above }
+    ensures below { (project : Project) (low tanks : List ℤ) (flows levels : List Interval) (links : List LinkState)
+        → length low ≡ nodes_before_tanks project
+        → AreAlike project (lower_readings low flows levels links) (lower_readings (low ++ tanks) flows levels links) }
+    ensures above { (project : Project) (high tanks : List ℤ) (flows levels : List Interval) (links : List LinkState)
+        → length high ≡ nodes_before_tanks project
+        → AreAlike project (upper_readings high flows levels links)
         (upper_readings (high ++ tanks) flows levels links) }
 {}

@@ -21,9 +21,9 @@ use Rattle.hyd_curves.specs.Points.{points_in, point_in}
 use Rattle.hyd_curves.specs.EachWithNext.{all_in_turn}
 use Rattle.hyd_curves.specs.declared.points.CurvePoint.{CurvePoint}
 use Rattle.hyd_curves.specs.declared.ticks.Ticks.{Ticks}
-use Rattle.hyd_curves.proofs.LineLemmas.{one_times, apart}
-use Rattle.hyd_curves.proofs.ShapeLemmas.{below, at_most}
-use Rattle.hyd_curves.proofs.TurnLemmas.{last_is, no_items, le_true}
+use Rattle.hyd_num.proofs.Integers.{one_times}
+use Rattle.hyd_lemmas.proofs.Trials.{lt-from, nat-le-from, le_z-yes, lt_z-yes}
+use Rattle.hyd_curves.proofs.TurnLemmas.{last_is, no_items}
 
 abbrev pub bend : FlowUnit → List CurvePoint → List HeadPoint
 bend unit points = head_points unit (is_us_unit unit) (points_in points)
@@ -53,12 +53,12 @@ ends_are unit points rest front first last e f =
 -- a head is at least the last one
 pub lifted : (a : HeadPoint) (points : List HeadPoint) → in_turn is_slower (a ∷ points) ≡ true
     → at_end (λ (p : HeadPoint). le_z (pos 0) p.head) (a ∷ points) ≡ true → pos 0 ≤ℤ a.head
-lifted a [] falls end = at_most (pos 0) a.head end
+lifted a [] falls end = le_z-yes (pos 0) a.head end
 lifted a (b ∷ points) falls end =
     let both = and_parts (is_slower a b) (in_turn is_slower (b ∷ points)) falls in
     let down = and_parts (lt_z a.flow b.flow) (lt_z b.head a.head) both.0 in
     let last : pos 0 ≤ℤ b.head = lifted b points both.1 end in
-    omega (arith, ints, below b.head a.head down.1, last)
+    omega (arith, ints, lt_z-yes b.head a.head down.1, last)
 
 -- what is known of the first two points, in ticks, of a curve
 pub record Begins (points : List HeadPoint) (x y : Ticks) : Type 0 where
@@ -91,20 +91,20 @@ begins a b c points x y p q turns ends =
     let down = and_parts (lt_z a.flow b.flow) (lt_z b.head a.head) order.0 in
     let edges = and_parts (at_start (λ (p : HeadPoint). le_z (pos 0) p.flow) all)
     (at_end (λ (p : HeadPoint). le_z (pos 0) p.head) all) ends in
-    let start : pos 0 ≤ℤ a.flow = at_most (pos 0) a.flow edges.0 in
-    let rise : a.flow <ℤ b.flow = below a.flow b.flow down.0 in
-    let fall : b.head <ℤ a.head = below b.head a.head down.1 in
+    let start : pos 0 ≤ℤ a.flow = le_z-yes (pos 0) a.flow edges.0 in
+    let rise : a.flow <ℤ b.flow = lt_z-yes a.flow b.flow down.0 in
+    let fall : b.head <ℤ a.head = lt_z-yes b.head a.head down.1 in
     let lift : pos 0 ≤ℤ b.head = lifted b (c ∷ points) order.1 edges.1 in
-    let most : a.flow ≤ℤ pos (10 ^ 15) = at_most a.flow (pos (10 ^ 15)) near.1 in
-    let more : b.flow ≤ℤ pos (10 ^ 15) = at_most b.flow (pos (10 ^ 15)) far.1 in
+    let most : a.flow ≤ℤ pos (10 ^ 15) = le_z-yes a.flow (pos (10 ^ 15)) near.1 in
+    let more : b.flow ≤ℤ pos (10 ^ 15) = le_z-yes b.flow (pos (10 ^ 15)) far.1 in
     let line : value_at 1 (head_knots all) (pos 0) ≡ on_line 1 (knot_of x) (knot_of y) (pos 0) =
     rw (
       p.place,
       p.value,
       q.place,
       q.value,
-      apart (pos 0) (pos 1 *ℤ b.flow) (omega (arith, ints, one_times b.flow, start, rise)),
-      apart a.flow b.flow rise,
+      lt-from (pos 0) (pos 1 *ℤ b.flow) (omega (arith, ints, one_times b.flow, start, rise)),
+      lt-from a.flow b.flow rise,
     ) refl in
     record {
       first = record {
@@ -146,7 +146,7 @@ pub two_points : (unit : FlowUnit) (points : List CurvePoint) → 2 ≤ length p
 two_points unit points l =
     let n : length (bend unit points) ≡ length points =
     length-map (points_in points) (head_point unit (is_us_unit unit)) ∙ length-map points point_in in
-    rw n (le_true 2 (length points) l)
+    rw n (nat-le-from 2 (length points) l)
 
 pub valve_right : (unit : FlowUnit) (points : List CurvePoint) → 2 ≤ length points
     → true ≡ begins_at_0 (points_in points) → true ≡ all_in_turn loss_passes is_faster (bend unit points)

@@ -40,8 +40,9 @@ use Rattle.hyd_spec_input.specs.Tables.{Point, place, is_of, rows_of, curve_name
 use Rattle.hyd_spec_input.specs.RowsTogether as others
 use Rattle.hyd_spec_input.specs.RowsTogether.{us}
 use Rattle.hyd_text_rows.specs.FirstWrongRow.{rows_at}
+use Rattle.hyd_num.proofs.Integers.{one_times}
 use Rattle.hyd_text_rows.proofs.FoundLemmas.{filter_more, filter_same}
-use Rattle.hyd_text_rows.proofs.SectionLemmas.{none_of, all_rows}
+use Rattle.hyd_text_rows.proofs.SectionLemmas.{all_rows}
 use Rattle.hyd_curves.specs.PumpAndValveCurveTests.{begins_and_ends, loss_passes}
 use Rattle.hyd_curves.specs.NamedVolumeCurves.{with_name}
 use Rattle.hyd_curves.specs.NamedStraightLineCurves.{IsSmallHead, AreBends, AreOf, AreOfPumps, AreOfValves, pump_names}
@@ -49,12 +50,13 @@ use Rattle.hyd_curves.specs.NamedStraightLineCurves.{valve_names}
 use Rattle.hyd_curves.specs.Points.{points_in, point_in}
 use Rattle.hyd_curves.specs.declared.straight_line_curves.Bends.{Bends}
 use Rattle.hyd_curves.specs.declared.points.CurvePoint.{CurvePoint}
+use Rattle.hyd_lemmas.proofs.Trials.{lt-from, le_z-yes, lt_z-yes}
+use Rattle.hyd_theorems_on_input.proofs.Matching.{match_push}
+use Rattle.hyd_theorems_on_input.proofs.Faultless.{unless_none, none_from}
 use Rattle.hyd_curves.proofs.BendLemmas.{lifted}
-use Rattle.hyd_curves.proofs.JudgedLemmas.{match_push}
-use Rattle.hyd_curves.proofs.LineLemmas.{one_times, apart, high_is}
+use Rattle.hyd_curves.proofs.LineLemmas.{high_is}
 use Rattle.hyd_curves.proofs.NamedLemmas.{one_name_more}
-use Rattle.hyd_curves.proofs.ShapeLemmas.{below, at_most}
-use Rattle.hyd_curves.proofs.TankRowLemmas.{behind_none, here_none, passes, length_with}
+use Rattle.hyd_curves.proofs.TankRowLemmas.{behind_none, here_none, length_with}
 
 -- ---- small points
 
@@ -74,15 +76,15 @@ small_at unit points k point all l is =
 flow_small : (p : HeadPoint) → has_flow p ≡ true → unsigned_abs p.flow ≤ 10 ^ 18
 flow_small p h =
     let both = and_parts (le_z (neg_ℤ (pos (10 ^ 15))) p.flow) (le_z p.flow (pos (10 ^ 15))) h in
-    let low = at_most (neg_ℤ (pos (10 ^ 15))) p.flow both.0 in
-    let high = at_most p.flow (pos (10 ^ 15)) both.1 in
+    let low = le_z-yes (neg_ℤ (pos (10 ^ 15))) p.flow both.0 in
+    let high = le_z-yes p.flow (pos (10 ^ 15)) both.1 in
     omega (arith, ints, low, high)
 
 head_small : (p : HeadPoint) → is_head p.head ≡ true → unsigned_abs p.head ≤ 10 ^ 18
 head_small p h =
     let both = and_parts (le_z (neg_ℤ (pos (10 ^ 17))) p.head) (le_z p.head (pos (10 ^ 17))) h in
-    let low = at_most (neg_ℤ (pos (10 ^ 17))) p.head both.0 in
-    let high = at_most p.head (pos (10 ^ 17)) both.1 in
+    let low = le_z-yes (neg_ℤ (pos (10 ^ 17))) p.head both.0 in
+    let high = le_z-yes p.head (pos (10 ^ 17)) both.1 in
     omega (arith, ints, low, high)
 
 -- heads that fall from a bound to no less than 0
@@ -99,7 +101,7 @@ falling_small a (b ∷ points) flows falls end most =
     let both = and_parts (is_slower a b) (in_turn is_slower (b ∷ points)) falls in
     let down = and_parts (lt_z a.flow b.flow) (lt_z b.head a.head) both.0 in
     let low : pos 0 ≤ℤ a.head = lifted a (b ∷ points) falls end in
-    let less : b.head <ℤ a.head = below b.head a.head down.1 in
+    let less : b.head <ℤ a.head = lt_z-yes b.head a.head down.1 in
     All-cons IsSmallHead a (b ∷ points) (record { flow = flow_small a here.0; head = omega (arith, ints, low, most) })
     (falling_small b points here.1 both.1 end (omega (arith, ints, less, most)))
 
@@ -112,8 +114,8 @@ first_low a b c points rise fall start low =
     let q : Knot = record { place = b.flow; value = b.head } in
     let line : value_at 1 (head_knots (a ∷ b ∷ c ∷ points)) (pos 0) ≡ on_line 1 p q (pos 0) =
     rw (
-      apart (pos 0) (pos 1 *ℤ b.flow) (omega (arith, ints, one_times b.flow, start, rise)),
-      apart a.flow b.flow
+      lt-from (pos 0) (pos 1 *ℤ b.flow) (omega (arith, ints, one_times b.flow, start, rise)),
+      lt-from a.flow b.flow
           rise,
     ) refl in
     by_lt_z (pos (10 ^ 16)) a.head
@@ -137,7 +139,7 @@ bend_small (a ∷ b ∷ c ∷ points) l right =
     let order = and_parts (is_slower a b) (in_turn is_slower (b ∷ c ∷ points)) both.1 in
     let down = and_parts (lt_z a.flow b.flow) (lt_z b.head a.head) order.0 in
     falling_small a (b ∷ c ∷ points) both.0 both.1 edges.1
-    (first_low a b c points (below a.flow b.flow down.0) (below b.head a.head down.1) (at_most (pos 0) a.flow
+    (first_low a b c points (lt_z-yes a.flow b.flow down.0) (lt_z-yes b.head a.head down.1) (le_z-yes (pos 0) a.flow
     edges.0) ends.1)
 
 losses_small : (points : List HeadPoint) → list_all loss_passes points ≡ true → All IsSmallHead points
@@ -168,7 +170,7 @@ valve_is _ rows k row h = absurd (true≢false (sym h))
 
 right_row : (rows : List Row) (k : ℕ) (row : Row) → NoneIs (IsWrongWithOthers rows) → slice_get rows k ≡ Some row
     → others.row_fault rows k row ≡ None
-right_row rows k row right is = none_of (others.row_fault rows k row)
+right_row rows k row right is = none_from (others.row_fault rows k row)
     (λ cause f. right k cause (record { row = row; row_is = is; fault = inl f }))
 
 bent_right : (rows : List Row) (name : List ℕ) → others.curve_of_pump rows (Some name) ≡ None
@@ -177,7 +179,7 @@ bent_right rows name right bent =
     let range : others.pump_curve_range rows name ≡ None =
     behind_none (unless (is_pump_curve (curve_named rows name)) (Unsupported 4)) (others.pump_curve_range rows name)
     right in
-    passes (is_pump_bend (bend_points rows name)) Range (rw bent at range)
+    unless_none (is_pump_bend (bend_points rows name)) Range (rw bent at range)
 
 bent_many : (rows : List Row) (name : List ℕ) → is_bent (curve_named rows name) ≡ true → 4 ≤ length (bend_points
     rows name)
@@ -209,7 +211,7 @@ valve_small rows k row name right is member e =
     (sym (valve_is row.section rows k row member) ∙ right_row rows k row right is) in
     let points = bend_points rows name in
     let test : (begins_at_0 (curve_named rows name) && is_valve_bend points) ≡ true =
-    passes (begins_at_0 (curve_named rows name) && is_valve_bend points) Range
+    unless_none (begins_at_0 (curve_named rows name) && is_valve_bend points) Range
     (ap (others.curve_of_valve rows) (sym e) ∙ fault) in
     let both = and_parts (begins_at_0 (curve_named rows name)) (is_valve_bend points) test in
     let parts = and_parts (nat_le 2 (length points) && in_turn is_faster points) (list_all loss_passes points) both.1 in
@@ -226,7 +228,7 @@ pub pump_is_right : (rows : List Row) (k : ℕ) (row : Row) → NoneIs (IsWrongB
     → slice_get rows k ≡ Some row → is_of Pumps row ≡ true → row_form.pump row.words ≡ None
 pump_is_right rows k row right is member =
     sym (by_itself row.section _ row.words _ member)
-    ∙ none_of (itself.row_fault rows k row) (λ cause f. right k cause (record { row = row; row_is = is; fault = f }))
+    ∙ none_from (itself.row_fault rows k row) (λ cause f. right k cause (record { row = row; row_is = is; fault = f }))
 
 -- ---- names
 

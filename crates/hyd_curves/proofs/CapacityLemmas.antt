@@ -21,7 +21,7 @@ use Rattle.hyd_spec_input.specs.Tables.{Point}
 use Rattle.hyd_curves.specs.CurveFaults.{pump_fault, IsRefusedPoints}
 use Rattle.hyd_curves.specs.Points.{points_in}
 use Rattle.hyd_curves.specs.declared.points.CurvePoint.{CurvePoint}
-use Rattle.hyd_curves.proofs.ShapeLemmas.{below, at_most}
+use Rattle.hyd_lemmas.proofs.Trials.{le_z-yes, lt_z-yes}
 
 -- ---- a flow, a drop and thirds
 
@@ -85,12 +85,12 @@ three unit a b c right =
     (pos (10 ^ 21))) ranges.1 in
     record {
       flow = record {
-        positive = below (pos 0) b.x.nano first.0;
-        at_most = at_most (flow_ticks unit b.x.nano) (pos
+        positive = lt_z-yes (pos 0) b.x.nano first.0;
+        at_most = le_z-yes (flow_ticks unit b.x.nano) (pos
             (10 ^ 15)) most.1;
       };
-      falls = below b.y.nano a.y.nano drops.0;
-      small = at_most (a.y.nano -ℤ b.y.nano) (pos (10 ^ 21)) heads.1;
+      falls = lt_z-yes b.y.nano a.y.nano drops.0;
+      small = le_z-yes (a.y.nano -ℤ b.y.nano) (pos (10 ^ 21)) heads.1;
       straight = refl;
       drop = refl;
     }

@@ -1,4 +1,4 @@
--- Verdicts on curves, one after another.
+-- CurveVerdicts on curves, one after another.
 use Rattle.std.proofs.Common.{◌≡◌, ◌≤◌, ◌+◌, ◌<◌, ◌++◌, ℕ, zero, suc, Bool, true, false, List, [], ◌∷◌, length, take}
 use Rattle.std.proofs.Common.{get_or, Option, Some, None, refl, sym, ap, ◌∙◌, subst, if◌then◌else◌}
 use Rattle.std.specs.Prelude.{◌&&◌}
@@ -18,19 +18,13 @@ use Rattle.hyd_spec_input.specs.RowsTogether as others
 use Rattle.hyd_curves.specs.CurveFaults.{pump_fault}
 use Rattle.hyd_curves.specs.Judged.{on_no_points, verdict_at, IsVerdictOf, IsVerdictOn, AreVerdicts}
 use Rattle.hyd_curves.specs.Points.{points_in, each, list_of, ArePoints}
-use Rattle.hyd_curves.specs.declared.judged.Verdict.{Verdict}
-use Rattle.hyd_curves.specs.declared.judged.Verdicts.{Verdicts}
+use Rattle.hyd_curves.specs.declared.judged.CurveVerdict.{CurveVerdict}
+use Rattle.hyd_curves.specs.declared.judged.CurveVerdicts.{CurveVerdicts}
 use Rattle.hyd_curves.specs.declared.points.Points.{Points}
 use Rattle.hyd_curves.specs.declared.points.CurvePoint.{CurvePoint}
+use Rattle.hyd_theorems_on_input.proofs.Matching.{match_push}
 
 -- ---- item by item
-
-pub match_push : {A B : Type 0} (R : A → B → Type 0) (xs : List A) (ys : List B) (x : A) (y : B) → Match R xs ys
-    → R x y → Match R (xs ++ x ∷ []) (ys ++ y ∷ [])
-match_push R [] [] x y m r = (r, tt)
-match_push R [] (b ∷ bs) x y m r = absurd m
-match_push R (a ∷ rest) [] x y m r = absurd m
-match_push R (a ∷ rest) (b ∷ bs) x y m r = (m.0, match_push R rest bs x y m.1 r)
 
 pub match_at : {A B : Type 0} (R : A → B → Type 0) (xs : List A) (ys : List B) (k : ℕ) (d : A) (e : B) → Match R xs ys
     → R d e → R (get_or xs k d) (get_or ys k e)
@@ -56,7 +50,7 @@ pump_is rows name =
     (one_range (is_bent points) (is_pump_bend (head_points (force.unit rows) (others.us rows) points))
     (are_flows (force.unit rows) points && has_shutoff (others.us rows) points) Range)
 
-of_name : (rows : List Row) (name : List ℕ) (verdict : Verdict)
+of_name : (rows : List Row) (name : List ℕ) (verdict : CurveVerdict)
     → IsVerdictOf (force.unit rows) (curve_named rows name) verdict → IsVerdictOn rows name verdict
 of_name rows name verdict is = record {
   pump = is.pump ∙ pump_is rows name;
@@ -74,14 +68,14 @@ no_number unit = record {
 }
 
 -- the verdict of a number that a name may have
-at_number : (unit : FlowUnit) (lists : List (List Point)) (verdicts : List Verdict)
+at_number : (unit : FlowUnit) (lists : List (List Point)) (verdicts : List CurveVerdict)
     → Match (IsVerdictOf unit) lists verdicts → (found : Option ℕ)
     → IsVerdictOf unit (list_of lists found) (verdict_at verdicts found)
 at_number unit lists verdicts m None = no_number unit
 at_number unit lists verdicts m (Some number) =
     match_at (IsVerdictOf unit) lists verdicts number [] on_no_points m (no_number unit)
 
-pub all_named : (rows : List Row) (names : List (List ℕ)) (unit : FlowUnit) (points : Points) (verdicts : Verdicts)
+pub all_named : (rows : List Row) (names : List (List ℕ)) (unit : FlowUnit) (points : Points) (verdicts : CurveVerdicts)
     → unit ≡ force.unit rows → ArePoints rows names points
     → Match (IsVerdictOf unit) (each points.lists.items) verdicts.each.items → AreVerdicts rows names verdicts
 all_named rows names unit points verdicts u are m = record {
@@ -97,7 +91,7 @@ all_named rows names unit points verdicts u are m = record {
 -- ---- one curve more
 
 pub verdict_more : (unit : FlowUnit) (lists : List (ListView CurvePoint)) (k : ℕ) (list : ListView CurvePoint)
-    (verdicts after : List Verdict) (verdict : Verdict) → k < length lists → list ≡ get_or lists k list
+    (verdicts after : List CurveVerdict) (verdict : CurveVerdict) → k < length lists → list ≡ get_or lists k list
     → Match (IsVerdictOf unit) (each (take k lists)) verdicts → IsVerdictOf unit (points_in list.list) verdict
     → after ≡ verdicts ++ verdict ∷ [] → Match (IsVerdictOf unit) (each (take (k + 1) lists)) after
 verdict_more unit lists k list verdicts after verdict l is before one e =
@@ -107,7 +101,7 @@ verdict_more unit lists k list verdicts after verdict l is before one e =
     ∙ ap (λ (v : ListView CurvePoint). each (take k lists) ++ points_in v.list ∷ []) (sym is) in
     rw (more, e) (match_push (IsVerdictOf unit) (each (take k lists)) verdicts (points_in list.list) verdict before one)
 
-pub verdicts_all : (unit : FlowUnit) (lists : List (ListView CurvePoint)) (k : ℕ) (verdicts : List Verdict)
+pub verdicts_all : (unit : FlowUnit) (lists : List (ListView CurvePoint)) (k : ℕ) (verdicts : List CurveVerdict)
     → length lists ≤ k → Match (IsVerdictOf unit) (each (take k lists)) verdicts
     → Match (IsVerdictOf unit) (each lists) verdicts
 verdicts_all unit lists k verdicts l m =

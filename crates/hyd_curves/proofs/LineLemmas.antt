@@ -1,56 +1,29 @@
 -- Straight lines between two knots.
-use Rattle.std.proofs.Common.{◌≡◌, ◌*◌, ◌/◌, ◌≤◌, ℕ, zero, suc, ℤ, pos, negsuc, ◌+ℤ◌, ◌-ℤ◌, ◌*ℤ◌, ◌≤ℤ◌, ◌<ℤ◌, true}
-use Rattle.std.proofs.Common.{false, unsigned_abs, refl, sym, ap, ◌∙◌, arith}
-use Rattle.std.specs.Prelude.{int_lt, int_le}
+use Rattle.std.proofs.Common.{◌≡◌, ◌*◌, ◌/◌, ◌≤◌, ℕ, zero, suc, ℤ, pos, negsuc, ◌+ℤ◌, ◌-ℤ◌, ◌*ℤ◌, ◌≤ℤ◌, ◌<ℤ◌, false}
+use Rattle.std.proofs.Common.{unsigned_abs, refl, sym, ap, ◌∙◌, arith}
+use Rattle.std.specs.Prelude.{int_le}
 use Rattle.std.proofs.lemmas.Int.{ints}
-use lib.Signed.{le_z, lt_z}
+use lib.Signed.{le_z}
 use Rattle.std.proofs.Math.IntN.{zero-*ℤ, *ℤ-zero, *ℤ_comm, negsuc-*ℤ-negsuc}
 use Rattle.std.specs.Int.{int_div_euclid}
 use Rattle.hyd_num.specs.Rational.{floor, whole, is_at_most}
-use Rattle.hyd_num.proofs.Integers.{times_one_more, times_rises, times_plus, times_one}
+use Rattle.hyd_num.proofs.Integers.{times_rises, times_plus, times_one, one_times}
 use Rattle.hyd_net.specs.Curves.{Knot, on_line, between}
-
-pub one_times : (z : ℤ) → pos 1 *ℤ z ≡ z
-one_times z = omega (arith, ints, times_one_more 0 z, zero-*ℤ z)
-
-pub product_is : (r x y a b : ℤ) → r ≡ x *ℤ y → x ≡ a → y ≡ b → r ≡ a *ℤ b
-product_is r x y a b e f g = e ∙ (rw (f, g) refl)
-
-pub line_is : (a b : Knot) (d p q : ℤ) → a.place <ℤ b.place → p ≡ (b.place -ℤ a.place) *ℤ a.value
-    → q ≡ (b.value -ℤ a.value) *ℤ (d -ℤ a.place)
-    → p +ℤ q ≡ (on_line 1 a b d).num
-line_is a b d p q less e f =
-    let w : b.place -ℤ a.place ≡ pos (1 * unsigned_abs (b.place -ℤ a.place)) = omega (arith, ints) in
-    let x : d -ℤ a.place ≡ d -ℤ (pos 1 *ℤ a.place) = ap (λ (z : ℤ). d -ℤ z) (sym (one_times a.place)) in
-    let l : p ≡ pos (1 * unsigned_abs (b.place -ℤ a.place)) *ℤ a.value = e ∙ ap (λ (z : ℤ). z *ℤ a.value) w in
-    let r : q ≡ (b.value -ℤ a.value) *ℤ (d -ℤ (pos 1 *ℤ a.place)) =
-    f ∙ ap (λ (z : ℤ). (b.value -ℤ a.value) *ℤ z) x in
-    rw (l, r) refl
+use Rattle.hyd_lemmas.proofs.KnotLines.{on_line_is}
+use Rattle.hyd_lemmas.proofs.Trials.{lt_z-yes}
 
 pub width_is : (a b : Knot) (d : ℤ) → a.place <ℤ b.place → b.place -ℤ a.place ≡ pos (on_line 1 a b d).den
 width_is a b d less = omega (arith, ints)
 
-pub apart : (a b : ℤ) → a <ℤ b → int_lt a b ≡ true
-apart a b less = grind (arith, ints)
-
-pub together : (a b : ℤ) → b ≤ℤ a → int_lt a b ≡ false
-together a b le = grind (arith, ints)
-
 not_le : (a b : ℤ) → b <ℤ a → false ≡ int_le a b
 not_le a b less = grind (arith, ints)
-
-pub above : (a b : ℤ) → lt_z a b ≡ true → a <ℤ b
-above a b e = grind (arith, ints)
-
-pub between_is : (a b : Knot) (d : ℤ) → a.place <ℤ b.place → on_line 1 a b d ≡ between 1 a b d
-between_is a b d less = sym (rw (apart a.place b.place less) refl)
 
 -- the value between two knots, cut
 pub floor_is : (a b : Knot) (d n w r : ℤ) → a.place <ℤ b.place → n ≡ (on_line 1 a b d).num
     → w ≡ b.place -ℤ a.place → r ≡ int_div_euclid n w → r ≡ floor (between 1 a b d)
 floor_is a b d n w r less e f g =
     let den : w ≡ pos (on_line 1 a b d).den = f ∙ width_is a b d less in
-    g ∙ rw (e, den) (ap floor (between_is a b d less))
+    g ∙ rw (e, den) (ap floor (on_line_is a b d less))
 
 over_1 : (z : ℤ) → int_div_euclid z (pos 1) ≡ z
 over_1 (pos n) = ap pos (let e : n / 1 ≡ n = omega arith in e)
@@ -62,9 +35,9 @@ floor_whole z = ap (λ (x : ℤ). floor (whole x)) (one_times z) ∙ over_1 z
 
 -- a quotient is no greater than what is divided
 pub quotient_small : (n w r : ℤ) → pos 0 <ℤ w → r ≡ int_div_euclid n w → unsigned_abs r ≤ unsigned_abs n
-quotient_small (pos a) (pos b) r above e = rw e (let l : a / b ≤ a = omega arith in l)
-quotient_small (negsuc a) (pos b) r above e = rw e (let l : a / b ≤ a = omega arith in omega (arith, l))
-quotient_small n (negsuc b) r above e = absurd (omega (arith, ints, above))
+quotient_small (pos a) (pos b) r lt_z-yes e = rw e (let l : a / b ≤ a = omega arith in l)
+quotient_small (negsuc a) (pos b) r lt_z-yes e = rw e (let l : a / b ≤ a = omega arith in omega (arith, l))
+quotient_small n (negsuc b) r lt_z-yes e = absurd (omega (arith, ints, lt_z-yes))
 
 -- ---- against a bound
 
@@ -88,7 +61,7 @@ low_is a b most n w less e f =
     let num : n ≡ (on_line 1 a b (pos 0)).num *ℤ pos 1 = e ∙ sym (over_one (on_line 1 a b (pos 0)).num) in
     rw (den, num) refl
 
--- a line that falls from above a bound, at 0 or beyond it
+-- a line that falls from lt_z-yes a bound, at 0 or beyond it
 pub high_is : (a b : Knot) (most : ℤ) → a.place <ℤ b.place → pos 0 ≤ℤ a.place → b.value ≤ℤ a.value
     → most <ℤ a.value → false ≡ is_at_most (on_line 1 a b (pos 0)) (whole most)
 high_is a b most less forward falls above =
@@ -103,7 +76,7 @@ high_is a b most less forward falls above =
       forward,
     )) in
     let up : (pos w *ℤ (most +ℤ pos 1)) ≤ℤ (pos w *ℤ a.value) =
-    times_rises w (most +ℤ pos 1) a.value (omega (arith, ints, above)) in
+    times_rises w (most +ℤ pos 1) a.value (omega (arith, ints, lt_z-yes)) in
     let one : 1 * w ≡ w = omega arith in
     let num : x.num ≡ (pos w *ℤ a.value) +ℤ ((b.value -ℤ a.value) *ℤ (pos 0 -ℤ (pos 1 *ℤ a.place))) = rw one refl in
     let same : x.num *ℤ pos 1 ≡ x.num = over_one x.num in

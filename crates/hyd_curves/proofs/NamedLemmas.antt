@@ -9,6 +9,7 @@ use Rattle.std.proofs.lemmas.Bool.{cases_Bool}
 use Rattle.std.proofs.lemmas.Map.Views.{Contains-from_any, list_any-from_Contains}
 use Rattle.hyd_spec_input.specs.MeaningsAcrossRows.{is_among, new_names}
 use Rattle.hyd_curves.specs.NamedVolumeCurves.{with_name}
+use Rattle.hyd_lemmas.proofs.Trials.{or-turned, or-true}
 
 -- ---- a name among others
 
@@ -35,18 +36,9 @@ same_among : (x y : List ℕ) (seen : List (List ℕ)) → bytes_eq y x ≡ true
     → is_among y seen ≡ true
 same_among x y seen e t = let same : y ≡ x = (bytes_decides y x).0 e in rw same t
 
-or_true : (b : Bool) → (b || true) ≡ true
-or_true true = refl
-or_true false = refl
-
-turn : (a b c : Bool) → ((a || b) || c) ≡ (b || (a || c))
-turn true true c = refl
-turn true false c = refl
-turn false b c = refl
-
 -- where it was seen, a name more changes nothing
 seen_more : (e b c : Bool) → (e ≡ true → c ≡ true) → ((e || b) || c) ≡ (b || c)
-seen_more true b c h = rw (h refl) (sym (or_true b))
+seen_more true b c h = rw (h refl) (sym (or-true b))
 seen_more false b c h = refl
 
 among_new : (seen names : List (List ℕ)) (y : List ℕ)
@@ -55,8 +47,8 @@ among_new seen [] y = refl
 among_new seen (x ∷ names) y = elim (cases_Bool (is_among x seen)) [
   | inl t ↦ rw t (among_new seen names y
       ∙ sym (seen_more (bytes_eq y x) (is_among y names) (is_among y seen) (λ e. same_among x y seen e t)))
-  | inr f ↦ rw f (turn (bytes_eq y x) (is_among y (new_names (x ∷ seen) names)) (is_among y seen)
-      ∙ among_new (x ∷ seen) names y ∙ sym (turn (bytes_eq y x) (is_among y names) (is_among y seen)))
+  | inr f ↦ rw f (or-turned (bytes_eq y x) (is_among y (new_names (x ∷ seen) names)) (is_among y seen)
+      ∙ among_new (x ∷ seen) names y ∙ sym (or-turned (bytes_eq y x) (is_among y names) (is_among y seen)))
 ]
 
 abbrev and_name : Bool → List (List ℕ) → List ℕ → List (List ℕ)
@@ -76,7 +68,7 @@ new_more seen (x ∷ names) y = elim (cases_Bool (is_among x seen)) [
   | inr f ↦ rw f (ap (λ (ns : List (List ℕ)). x ∷ ns) (new_more (x ∷ seen) names y)
       ∙ cons_and (is_among y names || is_among y (x ∷ seen)) x (new_names (x ∷ seen) names) y
       ∙ ap (λ (b : Bool). and_name b (x ∷ new_names (x ∷ seen) names) y)
-      (sym (turn (bytes_eq y x) (is_among y names) (is_among y seen))))
+      (sym (or-turned (bytes_eq y x) (is_among y names) (is_among y seen))))
 ]
 
 or_false : (b : Bool) → (b || false) ≡ b

@@ -1,17 +1,15 @@
 -- The points of curves, one row further.
-use Rattle.std.proofs.Common.{◌≡◌, All, ◌+◌, ◌<◌, ◌≤◌, ◌++◌, ℕ, Bool, true, false, List, [], ◌∷◌, map, filter, length}
-use Rattle.std.proofs.Common.{take, drop, position, Option, Some, None, slice_get, refl, sym, ap, ◌∙◌, subst, arith}
-use Rattle.std.proofs.Common.{◌==◌, true≢false, get_or, inl, inr, append-nil, append_assoc, length-append, nat_lt}
-use Rattle.std.proofs.Common.{ltb-true, ltb-false}
+use Rattle.std.proofs.Common.{◌≡◌, All, ◌+◌, ◌<◌, ◌≤◌, ◌++◌, ℕ, true, false, List, [], ◌∷◌, map, length, take, position}
+use Rattle.std.proofs.Common.{Option, Some, None, slice_get, refl, sym, ap, ◌∙◌, subst, arith, ◌==◌, true≢false, get_or}
+use Rattle.std.proofs.Common.{inl, inr, append-nil, length-append, nat_lt, ltb-true, ltb-false}
 use Rattle.std.specs.Prelude.{slice_set}
 use Rattle.std.specs.Str.{bytes_eq}
 use Rattle.std.specs.Cmp.Lexicographic.{bytes_decides}
 use Rattle.std.proofs.lemmas.Bool.{cases_Bool}
 use Rattle.std.proofs.lemmas.List.{map-set, map-append, length-map, get_or-set_same, get_or-set_other, length-set}
-use Rattle.std.proofs.lemmas.List.{get_or-map, take-append-drop}
+use Rattle.std.proofs.lemmas.List.{get_or-map}
 use Rattle.std.proofs.lemmas.List.Elements.{filter-append, All-push}
 use Rattle.std.proofs.Math.ListN.{get_or-eq_default}
-use Rattle.std.proofs.lemmas.List.Quantifiers.{position-Some}
 use Rattle.hyd_spec_lines.specs.Lines.{Row}
 use Rattle.hyd_spec_lines.specs.declared.line.Line.{Line}
 use Rattle.hyd_spec_lines.specs.declared.section.Section.{Section}
@@ -28,13 +26,14 @@ use Rattle.hyd_spec_input.specs.Columns.{word, or_empty}
 use Rattle.hyd_network_rows.specs.Rows.{IsCurveRow}
 use Rattle.hyd_network_rows.specs.declared.demands_curves_and_statuses.CurveRow.{CurveRow}
 use Rattle.hyd_text_rows.specs.IdTables.{AreFirsts}
-use Rattle.hyd_text_rows.proofs.FoundLemmas.{filter_more, filter_same}
-use Rattle.hyd_text_rows.proofs.SectionLemmas.{none_of, all_rows}
+use Rattle.hyd_text_rows.proofs.FoundLemmas.{filter_more, filter_same, one_name, has_more, not_named}
+use Rattle.hyd_text_rows.proofs.SectionLemmas.{all_rows}
 use Rattle.hyd_text_rows.specs.FirstWrongRow.{rows_at}
 use Rattle.hyd_text_rows.proofs.TableLemmas.{not_found, has_id-is, even}
 use Rattle.hyd_curves.specs.Points.{points_in, point_in, each, list_of, ArePoints, AreEmpty, AreGathered, HasOneMore}
 use Rattle.hyd_curves.specs.declared.points.CurvePoint.{CurvePoint}
 use Rattle.hyd_curves.specs.declared.points.Points.{Points}
+use Rattle.hyd_theorems_on_input.proofs.Faultless.{none_from}
 
 -- ---- lists
 
@@ -94,22 +93,6 @@ before_rows text rows names firsts points table empty = record {
   even = empty.count_is ∙ sym (even text (rows_of Curves rows) names firsts table);
   points_are = record { named = λ name. none_listed points.lists.items (length firsts) empty (number_in names name) };
 }
-
--- ---- names
-
--- another name than the row's
-not_named : (name : List ℕ) (row : Row) → bytes_eq name (own_id row) ≡ true → name ≡ own_id row
-not_named name row t = (bytes_decides name (own_id row)).0 t
-
--- two names with one number are the same
-one_name : (names : List (List ℕ)) (a b : List ℕ) (k : ℕ) → position (bytes_eq a) names ≡ Some k
-    → position (bytes_eq b) names ≡ Some k → a ≡ b
-one_name names a b k p q =
-    let x : a ≡ get_or names k [] = (bytes_decides a (get_or names k [])).0 (position-Some (bytes_eq a) names k []
-    p).1 in
-    let y : b ≡ get_or names k [] = (bytes_decides b (get_or names k [])).0 (position-Some (bytes_eq b) names k []
-    q).1 in
-    x ∙ sym y
 
 -- ---- the points of a curve, one row further
 
@@ -201,27 +184,7 @@ pub curve_is_right : (rows : List Row) (k : ℕ) (row : Row) → NoneIs (IsWrong
     → slice_get rows k ≡ Some row → is_of Curves row ≡ true → row_form.curve row.words ≡ None
 curve_is_right rows k row right is member =
     sym (by_itself row.section _ row.words _ member)
-    ∙ none_of (itself.row_fault rows k row) (λ cause f. right k cause (record { row = row; row_is = is; fault = f }))
-
-has_between : (name : List ℕ) (xs ys : List Row) (row : Row) → bytes_eq name (own_id row) ≡ true
-    → has_id name (xs ++ row ∷ ys) ≡ true
-has_between name [] ys row t = rw t refl
-has_between name (x ∷ xs) ys row t = elim (cases_Bool (bytes_eq name (own_id x))) [
-  | inl here ↦ rw here refl
-  | inr other ↦ rw other (has_between name xs ys row t)
-]
-
--- its ID stands among the rows that pass
-has_more : (p : Row → Bool) (rows : List Row) (k : ℕ) (row : Row) → slice_get rows k ≡ Some row → p row ≡ true
-    → has_id (own_id row) (filter p rows) ≡ true
-has_more p rows k row is member =
-    let parts : filter p rows ≡ filter p (take k rows) ++ row ∷ filter p (drop (k + 1) rows) =
-    ap (filter p) (sym (take-append-drop (k + 1) rows))
-    ∙ filter-append p (take (k + 1) rows) (drop (k + 1) rows)
-    ∙ ap (λ (rs : List Row). rs ++ filter p (drop (k + 1) rows)) (filter_more p rows k row is member)
-    ∙ simp append_assoc in
-    rw parts (has_between (own_id row) (filter p (take k rows)) (filter p (drop (k + 1) rows)) row
-    ((bytes_decides (own_id row) (own_id row)).1 refl))
+    ∙ none_from (itself.row_fault rows k row) (λ cause f. right k cause (record { row = row; row_is = is; fault = f }))
 
 -- its ID is in the table
 pub number_is_there : (text : List ℕ) (rows : List Row) (k : ℕ) (row : Row) (names : List (List ℕ))

@@ -19,8 +19,10 @@ use Rattle.hyd_curves.specs.TankCurveTests.{level_passes, begins_and_ends, IsRig
 use Rattle.hyd_curves.specs.PointsAsKnots.{IsSmall, knot_of}
 use Rattle.hyd_curves.specs.declared.points.CurvePoint.{CurvePoint}
 use Rattle.hyd_curves.specs.declared.ticks.Ticks.{Ticks}
-use Rattle.hyd_curves.proofs.LineLemmas.{one_times, apart, together, floor_whole}
-use Rattle.hyd_curves.proofs.TurnLemmas.{no_items, le_true, last_is}
+use Rattle.hyd_num.proofs.Integers.{one_times}
+use Rattle.hyd_lemmas.proofs.Trials.{lt-from, lt-not, nat-le-from, le_z-yes, lt_z-no, lt_z-yes}
+use Rattle.hyd_curves.proofs.LineLemmas.{floor_whole}
+use Rattle.hyd_curves.proofs.TurnLemmas.{no_items, last_is}
 
 -- a point as a volume point
 abbrev pub shape_point : Bool → CurvePoint → VolumePoint
@@ -74,24 +76,15 @@ pub record IsWalked (us : Bool) (points : List CurvePoint) (level : ℤ) (first 
 
 -- ---- what is asked of neighbours
 
-pub below : (a b : ℤ) → lt_z a b ≡ true → a <ℤ b
-below a b h = grind (arith, ints)
-
-not_below : (a b : ℤ) → lt_z a b ≡ false → b ≤ℤ a
-not_below a b h = grind (arith, ints)
-
-pub at_most : (a b : ℤ) → le_z a b ≡ true → a ≤ℤ b
-at_most a b h = grind (arith, ints)
-
 -- a point has at most the last one's volume
 full : (most : ℤ) (a : VolumePoint) (points : List VolumePoint) → in_turn is_fuller (a ∷ points) ≡ true
     → at_end (λ (p : VolumePoint). le_z p.volume most) (a ∷ points) ≡ true → a.volume ≤ℤ most
-full most a [] rises ends = at_most a.volume most ends
+full most a [] rises ends = le_z-yes a.volume most ends
 full most a (b ∷ points) rises ends =
     let both = and_parts (is_fuller a b) (in_turn is_fuller (b ∷ points)) rises in
     let up = and_parts (lt_z a.level b.level) (lt_z a.volume b.volume) both.0 in
     let last : b.volume ≤ℤ most = full most b points both.1 ends in
-    omega (arith, ints, below a.volume b.volume up.1, last)
+    omega (arith, ints, lt_z-yes a.volume b.volume up.1, last)
 
 -- a right point is small
 pub small : (ticks : Ticks) (points : List VolumePoint) → IsRight (point_of ticks ∷ points) → IsSmall ticks
@@ -102,10 +95,10 @@ small ticks points right =
     let level = and_parts (le_z (neg_ℤ (pos (10 ^ 17))) p.level) (le_z p.level (pos (10 ^ 17))) here.0 in
     let ends = and_parts (at_start (λ (p : VolumePoint). le_z (pos 0) p.volume) (p ∷ points))
     (at_end (λ (p : VolumePoint). le_z p.volume (pos (10 ^ 18))) (p ∷ points)) right.volumes in
-    let low : pos 0 ≤ℤ p.volume = at_most (pos 0) p.volume ends.0 in
+    let low : pos 0 ≤ℤ p.volume = le_z-yes (pos 0) p.volume ends.0 in
     let high : p.volume ≤ℤ pos (10 ^ 18) = full (pos (10 ^ 18)) p points both.1 ends.1 in
-    let least : neg_ℤ (pos (10 ^ 17)) ≤ℤ p.level = at_most _ p.level level.0 in
-    let most : p.level ≤ℤ pos (10 ^ 17) = at_most p.level _ level.1 in
+    let least : neg_ℤ (pos (10 ^ 17)) ≤ℤ p.level = le_z-yes _ p.level level.0 in
+    let most : p.level ≤ℤ pos (10 ^ 17) = le_z-yes p.level _ level.1 in
     record {
       place = omega (arith, ints, least, most);
       value = omega (arith, ints, low, high);
@@ -122,9 +115,9 @@ behind a b points right =
     let ends = and_parts (at_start (λ (p : VolumePoint). le_z (pos 0) p.volume) (a ∷ b ∷ points))
     (at_end (λ (p : VolumePoint). le_z p.volume (pos (10 ^ 18))) (a ∷ b ∷ points)) right.volumes in
     let start : le_z (pos 0) b.volume ≡ true =
-    grind (arith, ints, at_most (pos 0) a.volume ends.0, below a.volume b.volume up.1) in (
+    grind (arith, ints, le_z-yes (pos 0) a.volume ends.0, lt_z-yes a.volume b.volume up.1) in (
       record { rises = rw (levels.1, turns.1) refl; volumes = rw (start, ends.1) refl },
-      below a.level b.level up.0,
+      lt_z-yes a.level b.level up.0,
     )
 
 -- ---- the walk
@@ -136,8 +129,8 @@ reached : (us : Bool) (a b : Knot) (later : List CurvePoint) (level : ℤ)
 reached us a b [] level h = refl
 reached us a b (p ∷ later) level h =
     let more : (length (p ∷ later) == 0) ≡ false = grind (arith, nat_tests) in
-    let less : level <ℤ b.place = below level b.place (sym (rw more at h)) in
-    rw (apart level (pos 1 *ℤ b.place) (omega (arith, ints, one_times b.place, less))) refl
+    let less : level <ℤ b.place = lt_z-yes level b.place (sym (rw more at h)) in
+    rw (lt-from level (pos 1 *ℤ b.place) (omega (arith, ints, one_times b.place, less))) refl
 
 passed : (us : Bool) (a b : Knot) (later : List CurvePoint) (level : ℤ)
     → false ≡ ((length later == 0) || lt_z level b.place)
@@ -145,8 +138,8 @@ passed : (us : Bool) (a b : Knot) (later : List CurvePoint) (level : ℤ)
 passed us a b [] level h = absurd (true≢false (sym h))
 passed us a b (p ∷ later) level h =
     let more : (length (p ∷ later) == 0) ≡ false = grind (arith, nat_tests) in
-    let le : b.place ≤ℤ level = not_below level b.place (sym (rw more at h)) in
-    rw (together level (pos 1 *ℤ b.place) (omega (arith, ints, one_times b.place, le))) refl
+    let le : b.place ≤ℤ level = lt_z-no level b.place (sym (rw more at h)) in
+    rw (lt-not level (pos 1 *ℤ b.place) (omega (arith, ints, one_times b.place, le))) refl
 
 -- ticks are those of a point
 pub record AreTicks (us : Bool) (point : CurvePoint) (ticks : Ticks) : Type 0 where
@@ -238,12 +231,12 @@ covered_small minimum maximum points right covered order =
     let first = first_passes level_passes (λ p. le_z p.level minimum) points all ends.0 in
     let last = last_passes level_passes (λ p. le_z maximum p.level) points all ends.1 in
     let low : neg_ℤ (pos (10 ^ 17)) ≤ℤ first.0.level =
-    at_most _ _ (and_parts (le_z (neg_ℤ (pos (10 ^ 17))) first.0.level) (le_z first.0.level (pos (10 ^ 17)))
+    le_z-yes _ _ (and_parts (le_z (neg_ℤ (pos (10 ^ 17))) first.0.level) (le_z first.0.level (pos (10 ^ 17)))
     first.1).0 in
     let high : last.0.level ≤ℤ pos (10 ^ 17) =
-    at_most _ _ (and_parts (le_z (neg_ℤ (pos (10 ^ 17))) last.0.level) (le_z last.0.level (pos (10 ^ 17))) last.1).1 in
-    let from : first.0.level ≤ℤ minimum = at_most _ _ first.2 in
-    let to : maximum ≤ℤ last.0.level = at_most _ _ last.2 in
+    le_z-yes _ _ (and_parts (le_z (neg_ℤ (pos (10 ^ 17))) last.0.level) (le_z last.0.level (pos (10 ^ 17))) last.1).1 in
+    let from : first.0.level ≤ℤ minimum = le_z-yes _ _ first.2 in
+    let to : maximum ≤ℤ last.0.level = le_z-yes _ _ last.2 in
     (omega (arith, ints, low, high, from, to, order), omega (arith, ints, low, high, from, to, order))
 
 -- all tests but the last pass
@@ -258,4 +251,4 @@ pub two_points : (us : Bool) (points : List CurvePoint) → 2 ≤ length points
 two_points us points l =
     let n : length (shape us points) ≡ length points =
     length-map (points_in points) (volume_point us) ∙ length-map points point_in in
-    rw n (le_true 2 (length points) l)
+    rw n (nat-le-from 2 (length points) l)

@@ -20,7 +20,7 @@ use Rattle.hyd_net.specs.declared.refusal_cause.Cause.TheVariants.{Range}
 use Rattle.hyd_net.specs.declared.curves.VolumePoint.{VolumePoint}
 use Rattle.hyd_spec_input.specs.SingleRows as itself
 use Rattle.hyd_spec_input.specs.SingleRows.{IsWrongByItself}
-use Rattle.hyd_spec_input.specs.Columns.{or_else, first, unless, amount}
+use Rattle.hyd_spec_input.specs.Columns.{or_else, first, amount}
 use Rattle.hyd_spec_input.specs.Curves.{volume_point, volume_points, is_fuller, in_turn, is_volume_curve, covers}
 use Rattle.hyd_spec_input.specs.Faults.{NoneIs, IsWrongWithOthers}
 use Rattle.hyd_spec_input.specs.MeaningsAcrossRows.{as_list, new_names, shape_names, is_among}
@@ -32,7 +32,7 @@ use Rattle.hyd_spec_input.specs.RowsTogether as others
 use Rattle.hyd_spec_input.specs.RowsTogether.{us}
 use Rattle.hyd_text_rows.proofs.FoundLemmas.{filter_more, filter_same}
 use Rattle.hyd_text_rows.specs.FirstWrongRow.{rows_at}
-use Rattle.hyd_text_rows.proofs.SectionLemmas.{none_of, all_rows}
+use Rattle.hyd_text_rows.proofs.SectionLemmas.{all_rows}
 use Rattle.hyd_spec_lines.specs.declared.line.Line.{Line}
 use Rattle.hyd_spec_input.specs.InForce as force
 use Rattle.hyd_curves.specs.CurveFaults.{tank_curve_fault}
@@ -42,7 +42,8 @@ use Rattle.hyd_curves.specs.TankCurveTests.{IsRight, level_passes, begins_and_en
 use Rattle.hyd_curves.specs.declared.points.CurvePoint.{CurvePoint}
 use Rattle.hyd_curves.specs.declared.volume_curves.Shapes.{Shapes}
 use Rattle.hyd_curves.specs.declared.ticks.Ticks.{Ticks}
-use Rattle.hyd_curves.proofs.JudgedLemmas.{match_push}
+use Rattle.hyd_theorems_on_input.proofs.Matching.{match_push}
+use Rattle.hyd_theorems_on_input.proofs.Faultless.{unless_none, none_from}
 use Rattle.hyd_curves.proofs.NamedLemmas.{one_name_more}
 use Rattle.hyd_curves.proofs.ShapeLemmas.{small, behind}
 
@@ -105,12 +106,8 @@ curve_passes rows k row right is member =
     rows row)
     (others.head rows (amount 1 row.words +ℤ amount 4 row.words)) (others.volume_curve rows row (tank_curve row.words))
     (sym (fault_is row.section rows k row member)
-    ∙ none_of (others.row_fault rows k row)
+    ∙ none_from (others.row_fault rows k row)
     (λ cause f. right k cause (record { row = row; row_is = is; fault = inl f })))
-
-pub passes : (b : Bool) (cause : Cause) → unless b cause ≡ None → b ≡ true
-passes true cause e = refl
-passes false cause e = absurd (let x : ⊥ = cc in x)
 
 curve_right : (minimum maximum : ℤ) (points : List VolumePoint) → is_volume_curve minimum maximum points ≡ true
     → IsRight points
@@ -131,7 +128,7 @@ named_small rows k row name right is member e =
     ap (λ (n : Option (List ℕ)). others.volume_curve rows row n) (sym e) ∙ curve_passes rows k row right is member in
     right_small (shape_points rows name)
     (curve_right (head_ticks (us rows) (amount 3 row.words)) (head_ticks (us rows) (amount 4 row.words))
-    (shape_points rows name) (passes _ Range fault))
+    (shape_points rows name) (unless_none _ Range fault))
 
 -- ---- by itself
 
@@ -144,7 +141,7 @@ pub tank_is_right : (rows : List Row) (k : ℕ) (row : Row) → NoneIs (IsWrongB
     → slice_get rows k ≡ Some row → is_of Tanks row ≡ true → row_form.tank row.words ≡ None
 tank_is_right rows k row right is member =
     sym (by_itself row.section _ row.words _ member)
-    ∙ none_of (itself.row_fault rows k row) (λ cause f. right k cause (record { row = row; row_is = is; fault = f }))
+    ∙ none_from (itself.row_fault rows k row) (λ cause f. right k cause (record { row = row; row_is = is; fault = f }))
 
 -- ---- names
 

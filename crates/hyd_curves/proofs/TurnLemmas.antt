@@ -1,6 +1,6 @@
 -- Items in turn, one after another, and the items at both ends.
-use Rattle.std.proofs.Common.{◌≡◌, ◌≤◌, ◌++◌, ℕ, nat_le, Bool, true, false, true≢false, inl, inr, List, [], ◌∷◌, map}
-use Rattle.std.proofs.Common.{length, refl, sym, ◌∙◌, arith}
+use Rattle.std.proofs.Common.{◌≡◌, ◌++◌, Bool, true, false, true≢false, inl, inr, List, [], ◌∷◌, map, length, refl, sym}
+use Rattle.std.proofs.Common.{◌∙◌, arith}
 use Rattle.std.specs.Prelude.{◌&&◌}
 use Rattle.std.proofs.lemmas.Bool.{and_parts, cases_Bool}
 use Rattle.std.specs.List.{list_all}
@@ -9,14 +9,11 @@ use Rattle.hyd_spec_input.specs.Tables.{Point}
 use Rattle.hyd_curves.specs.Points.{points_in, point_in}
 use Rattle.hyd_curves.specs.EachWithNext.{goes_on, all_in_turn}
 use Rattle.hyd_curves.specs.declared.points.CurvePoint.{CurvePoint}
-use Rattle.std.proofs.lemmas.Bool.Decides.{nat_tests}
+use Rattle.hyd_lemmas.proofs.Trials.{and-false}
 
 pub no_items : {A : Type 0} (items : List A) → length items ≡ 0 → items ≡ []
 no_items [] e = refl
 no_items (a ∷ items) e = absurd (omega arith)
-
-pub le_true : (a b : ℕ) → a ≤ b → nat_le a b ≡ true
-le_true a b l = grind (arith, nat_tests)
 
 -- one test is decided
 pub and_then : (f s : Bool) → true ≡ f → s ≡ (f && s)
@@ -42,10 +39,6 @@ pub turned : {A : Type 0} (passes : A → Bool) (test : A → A → Bool) (made 
 turned passes test made all left rest point e h before =
     sym (turn_on passes test (made (point_in point)) (map made (points_in rest)) h) ∙ rw e at before
 
-and_false : (b : Bool) → (b && false) ≡ false
-and_false true = refl
-and_false false = refl
-
 -- an item that doesn't pass ends it
 turn_off : {A : Type 0} (passes : A → Bool) (test : A → A → Bool) (a : A) (items : List A)
     → false ≡ (passes a && goes_on test a items) → false ≡ all_in_turn passes test (a ∷ items)
@@ -55,7 +48,7 @@ turn_off passes test a [] e = elim (cases_Bool (passes a)) [
 ]
 turn_off passes test a (b ∷ items) e = elim (cases_Bool (passes a)) [
   | inl t ↦ (let g : false ≡ test a b = rw t at e in
-      rw (t, ← g) (sym (and_false (passes b && list_all passes items))))
+      rw (t, ← g) (sym (and-false (passes b && list_all passes items))))
   | inr f ↦ rw f refl
 ]
 

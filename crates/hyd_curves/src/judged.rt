@@ -27,7 +27,7 @@ use std::alloc::Global;
 
 /// What is wrong with a curve as a pump's, and as a general purpose valve's.
 #[derive(Debug, Clone, Copy, PartialEq, Eq, Drop)]
-pub struct Verdict {
+pub struct CurveVerdict {
     /// What is wrong with it as a pump's.
     pub pump: Option<Cause>,
     /// Whether it is one that a pump can have, of one point or three, whose capacity is out of range.
@@ -38,8 +38,8 @@ pub struct Verdict {
 
 /// The verdicts on all curves, by the number that a curve's ID has in the table of [CURVES].
 #[derive(Drop)]
-pub struct Verdicts {
-    pub each: Vec<Verdict>,
+pub struct CurveVerdicts {
+    pub each: Vec<CurveVerdict>,
 }
 
 // Whether a pump's flow, drop and thirds of the drop make a capacity out of range.
@@ -85,18 +85,18 @@ fn is_refused(points: &[CurvePoint], unit: FlowUnit) -> bool
 }
 
 // The verdict on the points of a curve.
-fn judge(points: &[CurvePoint], unit: FlowUnit) -> Verdict
+fn judge(points: &[CurvePoint], unit: FlowUnit) -> CurveVerdict
     ensures { IsVerdictOf unit (points_in points.now) result }
 {
     let valve = valve_fault(points, unit);
     if let Some(cause) = pump_fault(points, unit) {
-        return Verdict {
+        return CurveVerdict {
             pump: Some(cause),
             is_refused: false,
             valve,
         };
     }
-    Verdict {
+    CurveVerdict {
         pump: None,
         is_refused: is_refused(points, unit),
         valve,
@@ -108,7 +108,7 @@ pub fn curve_verdicts(
     alloc: Global,
     points: &Points,
     unit: FlowUnit,
-) -> Result<Verdicts, OutOfMemory>
+) -> Result<CurveVerdicts, OutOfMemory>
     ensures { IfOk result (λ verdicts. (rows : List Row) (names : List (List ℕ)) → unit ≡ force.unit rows
         → ArePoints rows names points.now → AreVerdicts rows names verdicts) }
 {
@@ -116,15 +116,15 @@ pub fn curve_verdicts(
     for list in &points.lists {
         each.push(judge(list.as_slice(), unit))?;
     }
-    Ok(Verdicts { each })
+    Ok(CurveVerdicts { each })
 }
 
-impl Verdicts {
+impl CurveVerdicts {
     // The verdict on the curve of a name.
-    fn named(&self, curves: &Table, name: &[u8]) -> Verdict
+    fn named(&self, curves: &Table, name: &[u8]) -> CurveVerdict
         ensures { result ≡ verdict_named curves.now.names self.now name.now }
     {
-        let none = Verdict {
+        let none = CurveVerdict {
             pump: Some(Cause::Unsupported(4)),
             is_refused: false,
             valve: Some(Cause::Range),

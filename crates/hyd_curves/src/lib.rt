@@ -13,7 +13,7 @@ mod valves;
 mod volume_at_level;
 mod volume_curves;
 
-pub use judged::{Verdict, Verdicts, curve_verdicts};
+pub use judged::{CurveVerdict, CurveVerdicts, curve_verdicts};
 pub use points::{CurvePoint, Points, gather_points};
 pub use straight_line_curves::{Bends, gather_bends};
 pub use tanks::tank_curve_fault;

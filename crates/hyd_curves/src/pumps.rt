@@ -19,8 +19,9 @@ ghost use Rattle.hyd_curves.specs.EachWithNext.{goes_on, all_in_turn};
 
 use crate::interpolation::on_line;
 use crate::points::CurvePoint;
-use crate::ticks::{GREATEST_FLOW, Ticks, falls, head_point, is_within};
+use crate::ticks::{Ticks, falls, head_point, is_within};
 use hyd_net::Cause;
+use hyd_net::ranges::GREATEST_FLOW;
 use hyd_num::{FlowUnit, compare_squares};
 use hyd_units::{flow_ticks, head_ticks};
 use std::cmp::Ordering;

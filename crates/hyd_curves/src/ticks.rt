@@ -11,12 +11,6 @@ use crate::points::CurvePoint;
 use hyd_num::{Decimal, FlowUnit};
 use hyd_units::{flow_ticks, head_ticks};
 
-/// The greatest head, up or down.
-pub(crate) const GREATEST_HEAD: i128 = 100_000_000_000_000_000;
-
-/// The greatest flow, either way.
-pub(crate) const GREATEST_FLOW: i128 = 1_000_000_000_000_000;
-
 /// A point of a curve in ticks, before its ranges are known: of a volume curve a level and a volume, of the others a
 /// flow and a head.
 #[derive(Clone, Copy, Drop)]

@@ -11,8 +11,9 @@ ghost use Rattle.hyd_curves.specs.Points.{points_in, point_in};
 ghost use Rattle.hyd_curves.specs.EachWithNext.{goes_on, all_in_turn};
 
 use crate::points::CurvePoint;
-use crate::ticks::{GREATEST_FLOW, GREATEST_HEAD, head_point, is_within, rises};
+use crate::ticks::{head_point, is_within, rises};
 use hyd_net::Cause;
+use hyd_net::ranges::{GREATEST_FLOW, GREATEST_HEAD};
 use hyd_num::FlowUnit;
 
 // Whether a point's flow and loss are in range, and both rise to the next point.

@@ -7,13 +7,13 @@ use Rattle.hyd_spec.specs.DemandsReservoirHeadsAndCurves.{demand_of, reservoir_h
 
 -- the demand of a junction of this number at a time, in flow ticks; none where there is no such junction
 abbrev pub junction_demand : Project → ℕ → ℕ → ℤ
-junction_demand network time junction =
-    option_map_or (λ j. demand_of network time j) (slice_get network.junctions.list junction) (pos 0)
+junction_demand project time junction =
+    option_map_or (λ j. demand_of project time j) (slice_get project.junctions.list junction) (pos 0)
 
 -- the head of a reservoir of this number at a time, in head ticks; 0 where there is no such reservoir
 abbrev pub head_of_reservoir : Project → ℕ → ℕ → ℤ
-head_of_reservoir network time reservoir =
-    option_map_or (λ r. reservoir_head network time r) (slice_get network.reservoirs.list reservoir) (pos 0)
+head_of_reservoir project time reservoir =
+    option_map_or (λ r. reservoir_head project time r) (slice_get project.reservoirs.list reservoir) (pos 0)
 
 -- a demand of a period: at most 10^8 cubic metres a day either way
 abbrev pub IsInRange : ℤ → Type 0

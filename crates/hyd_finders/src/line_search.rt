@@ -8,12 +8,9 @@ use crate::flows::put_misses;
 use crate::number_lists::copy;
 use crate::raises::{NoValue, mend};
 use hyd_period_network::Net;
-use hyd_spec_certificates::{Problem, Side};
+use hyd_spec_certificates::{BOX_LIMIT, Problem, Side};
 use std::alloc::{AllocError as OutOfMemory, Global};
 use std::num::{nearest_i64_to_f64, saturating_f64_to_i64};
-
-/// The end of the box in which heads are sought, either way, in head ticks.
-const BOX_LIMIT: i64 = 1_000_000_000_000_000_000;
 
 /// One part of a step in head ticks.
 pub(crate) const HEAD_TICK_PART: f64 = 0.0625;

@@ -1,2 +1,4 @@
 pub mod MemoryLemmas
 pub mod ToldLemmas
+pub mod KeepingLemmas
+pub mod PutLemmas

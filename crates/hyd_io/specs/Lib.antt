@@ -1,7 +1,10 @@
 pub mod DeskBytes
 pub mod FailureCounts
+pub mod Buffers
 pub mod Output
 pub mod Memory
 pub mod MemoryView
 pub mod RealFiles
 pub mod Replacing
+pub mod Keeping
+pub mod Putting

@@ -6,7 +6,7 @@ use Rattle.hyd_io.specs.declared.desk.Openings.{Openings}
 
 -- Whether a file is open to be read, whether a file was created and the last `create` succeeded, the two kinds of
 -- counts, and, where the file itself tells them, the bytes that are left in the one and those that the other holds.
-pub record Standing : Type 0 where
+pub record FilesState : Type 0 where
   pub reading : Bool
   pub ready : Bool
   pub counts : Faults
@@ -15,7 +15,7 @@ pub record Standing : Type 0 where
   pub content : Option (List ℕ)
 
 -- no call was made
-abbrev pub untouched : Standing
+abbrev pub untouched : FilesState
 untouched = record {
   reading = false;
   ready = false;
@@ -26,18 +26,18 @@ untouched = record {
 }
 
 -- the file that is read stays, and all that is left in it
-pub record KeepsInput (old new : Standing) : Type 0 where
+pub record KeepsInput (old new : FilesState) : Type 0 where
   pub reading : new.reading ≡ old.reading
   pub unread : new.unread ≡ old.unread
 
 -- a file is then open to be read exactly where the call didn't fail; the file that is written stays
-pub record OpensFile (old : Standing) (failed : Bool) (new : Standing) : Type 0 where
+pub record OpensFile (old : FilesState) (failed : Bool) (new : FilesState) : Type 0 where
   pub reading : new.reading ≡ not failed
   pub content : new.content ≡ old.content
 
 -- A read gives the front of what was left in the file, and takes it: nothing only where nothing is left. A failed one
 -- takes nothing. The file that is written stays.
-pub record ReadsFile (old : Standing) (given : Option (List ℕ)) (new : Standing) : Type 0 where
+pub record ReadsFile (old : FilesState) (given : Option (List ℕ)) (new : FilesState) : Type 0 where
   pub reading : new.reading ≡ old.reading
   pub taken : MatchOption given (Keeps old.unread new.unread) (Consumes old.unread new.unread)
   pub end : given ≡ Some [] → IsAtEnd new.unread
@@ -45,11 +45,11 @@ pub record ReadsFile (old : Standing) (given : Option (List ℕ)) (new : Standin
 
 -- A write appends to the file the front of the piece that it took. A failed one appends nothing. The file that is read
 -- stays.
-pub record WritesFile (old : Standing) (piece : List ℕ) (taken : Option ℕ) (new : Standing) : Type 0 where
+pub record WritesFile (old : FilesState) (piece : List ℕ) (taken : Option ℕ) (new : FilesState) : Type 0 where
   pub input : KeepsInput old new
   pub appended : MatchOption taken (Keeps old.content new.content) (λ n. Appends old.content new.content (take n piece))
 
 -- both files stay
-pub record PrintsAside (old new : Standing) : Type 0 where
+pub record PrintsAside (old new : FilesState) : Type 0 where
   pub input : KeepsInput old new
   pub content : new.content ≡ old.content

@@ -39,9 +39,9 @@ type Name = ArrayString<4096>;
 
 impl<R: Files + Print + Drop> Model for FileDesk<R> {
     ghost use Rattle.std.specs.Prelude.{is_some, option_and_then};
-    ghost use Rattle.hyd_io.specs.RealFiles.{Standing};
+    ghost use Rattle.hyd_io.specs.RealFiles.{FilesState};
 
-    ghost Value = { Standing };
+    ghost Value = { FilesState };
 
     ghost view = { λ desk. record {
       reading = is_some desk.input;

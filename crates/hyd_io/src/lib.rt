@@ -15,4 +15,4 @@ pub use failure::{Call, Failure};
 pub use files::FileDesk;
 pub use input::{InFault, read_all};
 pub use memory::MemDesk;
-pub use output::{Channel, OutFault, Pen};
+pub use output::{BUFFER_BYTES, Channel, OutFault, Pen};

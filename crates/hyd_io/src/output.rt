@@ -1,17 +1,19 @@
 //! Buffered writing to the file created last or to standard output.
 
-ghost use Rattle.std.specs.Prelude.{◌≡◌, ◌≢◌, ℕ, ◌+◌, ◌-◌, ◌<◌, ◌≤◌, List, [], ◌++◌, length, take, drop, min, Option};
-ghost use Rattle.std.specs.Prelude.{Some, None, Err, IsTrue, IfOk, IfErr, IfSome, IsSome, OnOk, OnErr, is_some};
-ghost use Rattle.hyd_io.specs.DeskBytes.{append_known, file_at, Moves, PutOut};
-ghost use Rattle.hyd_io.specs.FailureCounts.{NeverFall};
-ghost use Rattle.hyd_io.specs.Output.{by_channel, OnCert, OnReport, HasOutCause, PenState};
+ghost use Rattle.std.specs.Prelude.{◌≡◌, ℕ, ◌+◌, ◌-◌, ◌<◌, ◌≤◌, List, [], ◌++◌, length, take, drop, min, Option};
+ghost use Rattle.std.specs.Prelude.{Some, None, Err, IsTrue, IfOk, IfErr, OnOk, OnErr};
+ghost use Rattle.hyd_io.specs.Buffers.{buffer_bytes};
+ghost use Rattle.hyd_io.specs.DeskBytes.{append_known, Moves, PutOut};
+ghost use Rattle.hyd_io.specs.Output.{by_channel, OnCert, HasOutCause, PenState};
+ghost use Rattle.hyd_io.specs.Keeping.{KeepsOthers};
+ghost use Rattle.hyd_io.specs.Putting.{Puts, Empties};
 
 use crate::desk::Desk;
 use std::marker::Model;
 use thiserror::Error;
 
-/// How many bytes a pen gathers before it writes them.
-const SIZE: usize = 8192;
+/// How many bytes a pen gathers before it writes them; a source of lines reads as many ahead at most.
+pub const BUFFER_BYTES: usize = 8192;
 
 /// Where a pen writes.
 #[derive(Clone, Copy, Debug, PartialEq, Eq)]
@@ -38,19 +40,20 @@ pub enum OutFault {
 pub struct Pen {
     to: Channel,
     fault: Option<OutFault>,
-    buffer: [u8; SIZE],
+    buffer: [u8; BUFFER_BYTES],
     used: usize,
 }
 
 impl Model for Pen {
     ghost use Rattle.std.specs.Prelude.{ℕ, ◌<◌, take};
+    ghost use Rattle.hyd_io.specs.Buffers.{buffer_bytes};
     ghost use Rattle.hyd_io.specs.Output.{PenState};
 
     ghost Value = { PenState };
 
     ghost view = { λ pen. record { to = pen.to; fault = pen.fault; held = take pen.used pen.buffer } };
 
-    ghost invariant = { λ pen. pen.used < 8192 };
+    ghost invariant = { λ pen. pen.used < buffer_bytes };
 }
 
 impl Pen {
@@ -61,7 +64,7 @@ impl Pen {
         Pen {
             to,
             fault: None,
-            buffer: [0; SIZE],
+            buffer: [0; BUFFER_BYTES],
             used: 0,
         }
     }
@@ -76,35 +79,8 @@ impl Pen {
     /// same and makes no call on the desk. On channel `Cert` it needs what `Desk::write` needs.
     pub fn put<D: Desk>(&mut self, desk: &mut D, piece: &[u8]) -> Result<(), OutFault>
         requires { OnCert self.old.to (IsTrue (D.ready desk.old)) }
-        ensures moves { OnOk result (Moves
-            (by_channel self.old.to (D.written desk.old) (D.printed desk.old))
-            (by_channel self.old.to (D.written desk.new) (D.printed desk.new))
-            (self.old.held ++ piece.now) self.new.held) }
-        ensures prefix { OnErr result (PutOut
-            (by_channel self.old.to (D.written desk.old) (D.printed desk.old))
-            (by_channel self.old.to (D.written desk.new) (D.printed desk.new))
-            (self.old.held ++ piece.now)) }
-        ensures to_stays { self.new.to ≡ self.old.to }
-        ensures no_fault { OnOk result (self.new.fault ≡ None) }
-        ensures keeps_fault { IfErr result (λ fault. self.new.fault ≡ Some fault) }
-        ensures again { IfSome self.old.fault (λ fault. result ≡ Err fault) }
-        ensures does_nothing { IsSome self.old.fault
-            → (self.new ≡ self.old) × (desk.new ≡ desk.old) }
-        ensures cause { self.old.fault ≡ None
-            → IfErr result (λ fault.
-            HasOutCause self.old.to fault (D.counts desk.old) (D.counts desk.new)) }
-        ensures steady { OnOk result (D.counts desk.new ≡ D.counts desk.old) }
-        ensures never_fall { NeverFall (D.counts desk.old) (D.counts desk.new) }
-        ensures report_files { OnReport self.old.to (D.files desk.new ≡ D.files desk.old) }
-        ensures report_written { OnReport self.old.to (D.written desk.new ≡ D.written desk.old) }
-        ensures cert_printed { OnCert self.old.to (D.printed desk.new ≡ D.printed desk.old) }
-        ensures others { (other : List ℕ) → D.target desk.old ≢ Some other
-            → file_at (D.files desk.new) other ≡ file_at (D.files desk.old) other }
-        ensures still_told { is_some (D.files desk.new) ≡ is_some (D.files desk.old) }
-        ensures rest_stays { D.rest desk.new ≡ D.rest desk.old }
-        ensures target_stays { D.target desk.new ≡ D.target desk.old }
-        ensures ready_stays { D.ready desk.new ≡ D.ready desk.old }
-        ensures openings_stay { D.openings desk.new ≡ D.openings desk.old }
+        ensures { Puts D.files D.rest D.written D.printed D.target D.ready D.counts D.openings
+            piece.now result self.old self.new desk.old desk.new }
     {
         if let Some(fault) = self.fault {
             return Err(fault);
@@ -124,34 +100,8 @@ impl Pen {
     /// Puts out all that the pen holds. Its faults and its needs are those of `put`.
     pub fn flush<D: Desk>(&mut self, desk: &mut D) -> Result<(), OutFault>
         requires { OnCert self.old.to (IsTrue (D.ready desk.old)) }
-        ensures whole { OnOk result (by_channel self.old.to (D.written desk.new) (D.printed desk.new)
-            ≡ append_known
-            (by_channel self.old.to (D.written desk.old) (D.printed desk.old)) self.old.held) }
-        ensures empty { OnOk result (self.new.held ≡ []) }
-        ensures prefix { OnErr result (PutOut
-            (by_channel self.old.to (D.written desk.old) (D.printed desk.old))
-            (by_channel self.old.to (D.written desk.new) (D.printed desk.new)) self.old.held) }
-        ensures to_stays { self.new.to ≡ self.old.to }
-        ensures no_fault { OnOk result (self.new.fault ≡ None) }
-        ensures keeps_fault { IfErr result (λ fault. self.new.fault ≡ Some fault) }
-        ensures again { IfSome self.old.fault (λ fault. result ≡ Err fault) }
-        ensures does_nothing { IsSome self.old.fault
-            → (self.new ≡ self.old) × (desk.new ≡ desk.old) }
-        ensures cause { self.old.fault ≡ None
-            → IfErr result (λ fault.
-            HasOutCause self.old.to fault (D.counts desk.old) (D.counts desk.new)) }
-        ensures steady { OnOk result (D.counts desk.new ≡ D.counts desk.old) }
-        ensures never_fall { NeverFall (D.counts desk.old) (D.counts desk.new) }
-        ensures report_files { OnReport self.old.to (D.files desk.new ≡ D.files desk.old) }
-        ensures report_written { OnReport self.old.to (D.written desk.new ≡ D.written desk.old) }
-        ensures cert_printed { OnCert self.old.to (D.printed desk.new ≡ D.printed desk.old) }
-        ensures others { (other : List ℕ) → D.target desk.old ≢ Some other
-            → file_at (D.files desk.new) other ≡ file_at (D.files desk.old) other }
-        ensures still_told { is_some (D.files desk.new) ≡ is_some (D.files desk.old) }
-        ensures rest_stays { D.rest desk.new ≡ D.rest desk.old }
-        ensures target_stays { D.target desk.new ≡ D.target desk.old }
-        ensures ready_stays { D.ready desk.new ≡ D.ready desk.old }
-        ensures openings_stay { D.openings desk.new ≡ D.openings desk.old }
+        ensures { Empties D.files D.rest D.written D.printed D.target D.ready D.counts D.openings
+            result self.old self.new desk.old desk.new }
     {
         if let Some(fault) = self.fault {
             return Err(fault);
@@ -170,32 +120,23 @@ impl Pen {
 fn put_through<D: Desk>(
     to: Channel,
     desk: &mut D,
-    buffer: &mut [u8; SIZE],
+    buffer: &mut [u8; BUFFER_BYTES],
     mut used: usize,
     piece: &[u8],
 ) -> Result<usize, OutFault>
     requires ready { OnCert to (IsTrue (D.ready desk.old)) }
-    requires room { used < SIZE }
-    ensures within { IfOk result (λ left. left < SIZE) }
+    requires room { used < buffer_bytes }
+    ensures within { IfOk result (λ left. left < buffer_bytes) }
     ensures moves { IfOk result (λ left. Moves (by_channel to (D.written desk.old) (D.printed desk.old))
         (by_channel to (D.written desk.new) (D.printed desk.new))
         (take used buffer.old ++ piece.now) (take left buffer.new)) }
-    ensures prefix { OnErr result (PutOut (by_channel to (D.written desk.old) (D.printed desk.old))
+    ensures front { OnErr result (PutOut (by_channel to (D.written desk.old) (D.printed desk.old))
         (by_channel to (D.written desk.new) (D.printed desk.new)) (take used buffer.old ++ piece.now)) }
     ensures cause { IfErr result (λ fault.
         HasOutCause to fault (D.counts desk.old) (D.counts desk.new)) }
     ensures steady { OnOk result (D.counts desk.new ≡ D.counts desk.old) }
-    ensures never_fall { NeverFall (D.counts desk.old) (D.counts desk.new) }
-    ensures report_files { OnReport to (D.files desk.new ≡ D.files desk.old) }
-    ensures report_written { OnReport to (D.written desk.new ≡ D.written desk.old) }
-    ensures cert_printed { OnCert to (D.printed desk.new ≡ D.printed desk.old) }
-    ensures others { (other : List ℕ) → D.target desk.old ≢ Some other
-        → file_at (D.files desk.new) other ≡ file_at (D.files desk.old) other }
-    ensures still_told { is_some (D.files desk.new) ≡ is_some (D.files desk.old) }
-    ensures rest_stays { D.rest desk.new ≡ D.rest desk.old }
-    ensures target_stays { D.target desk.new ≡ D.target desk.old }
-    ensures ready_stays { D.ready desk.new ≡ D.ready desk.old }
-    ensures openings_stay { D.openings desk.new ≡ D.openings desk.old }
+    ensures stays { KeepsOthers D.files D.rest D.written D.printed D.target D.ready D.counts D.openings to
+        desk.old desk.new }
 {
     let mut rest = piece;
     while !rest.is_empty() {
@@ -222,32 +163,23 @@ pub(crate) fn gather(buffer: &mut [u8], used: usize, piece: &[u8]) -> usize
 fn put_when_full<D: Desk>(
     to: Channel,
     desk: &mut D,
-    buffer: &[u8; SIZE],
+    buffer: &[u8; BUFFER_BYTES],
     used: usize,
 ) -> Result<usize, OutFault>
     requires ready { OnCert to (IsTrue (D.ready desk.old)) }
-    requires room { used ≤ SIZE }
-    ensures within { IfOk result (λ left. left < SIZE) }
+    requires room { used ≤ buffer_bytes }
+    ensures within { IfOk result (λ left. left < buffer_bytes) }
     ensures moves { IfOk result (λ left. Moves (by_channel to (D.written desk.old) (D.printed desk.old))
         (by_channel to (D.written desk.new) (D.printed desk.new)) (take used buffer.now) (take left buffer.now)) }
-    ensures prefix { OnErr result (PutOut (by_channel to (D.written desk.old) (D.printed desk.old))
+    ensures front { OnErr result (PutOut (by_channel to (D.written desk.old) (D.printed desk.old))
         (by_channel to (D.written desk.new) (D.printed desk.new)) (take used buffer.now)) }
     ensures cause { IfErr result (λ fault.
         HasOutCause to fault (D.counts desk.old) (D.counts desk.new)) }
     ensures steady { OnOk result (D.counts desk.new ≡ D.counts desk.old) }
-    ensures never_fall { NeverFall (D.counts desk.old) (D.counts desk.new) }
-    ensures report_files { OnReport to (D.files desk.new ≡ D.files desk.old) }
-    ensures report_written { OnReport to (D.written desk.new ≡ D.written desk.old) }
-    ensures cert_printed { OnCert to (D.printed desk.new ≡ D.printed desk.old) }
-    ensures others { (other : List ℕ) → D.target desk.old ≢ Some other
-        → file_at (D.files desk.new) other ≡ file_at (D.files desk.old) other }
-    ensures still_told { is_some (D.files desk.new) ≡ is_some (D.files desk.old) }
-    ensures rest_stays { D.rest desk.new ≡ D.rest desk.old }
-    ensures target_stays { D.target desk.new ≡ D.target desk.old }
-    ensures ready_stays { D.ready desk.new ≡ D.ready desk.old }
-    ensures openings_stay { D.openings desk.new ≡ D.openings desk.old }
+    ensures stays { KeepsOthers D.files D.rest D.written D.printed D.target D.ready D.counts D.openings to
+        desk.old desk.new }
 {
-    if used < SIZE {
+    if used < BUFFER_BYTES {
         return Ok(used);
     }
     match put_all(to, desk, buffer) {
@@ -261,22 +193,13 @@ fn put_all<D: Desk>(to: Channel, desk: &mut D, bytes: &[u8]) -> Result<(), OutFa
     requires { OnCert to (IsTrue (D.ready desk.old)) }
     ensures whole { OnOk result (by_channel to (D.written desk.new) (D.printed desk.new)
         ≡ append_known (by_channel to (D.written desk.old) (D.printed desk.old)) bytes.now) }
-    ensures prefix { OnErr result (PutOut (by_channel to (D.written desk.old) (D.printed desk.old))
+    ensures front { OnErr result (PutOut (by_channel to (D.written desk.old) (D.printed desk.old))
         (by_channel to (D.written desk.new) (D.printed desk.new)) bytes.now) }
     ensures cause { IfErr result (λ fault.
         HasOutCause to fault (D.counts desk.old) (D.counts desk.new)) }
     ensures steady { OnOk result (D.counts desk.new ≡ D.counts desk.old) }
-    ensures never_fall { NeverFall (D.counts desk.old) (D.counts desk.new) }
-    ensures report_files { OnReport to (D.files desk.new ≡ D.files desk.old) }
-    ensures report_written { OnReport to (D.written desk.new ≡ D.written desk.old) }
-    ensures cert_printed { OnCert to (D.printed desk.new ≡ D.printed desk.old) }
-    ensures others { (other : List ℕ) → D.target desk.old ≢ Some other
-        → file_at (D.files desk.new) other ≡ file_at (D.files desk.old) other }
-    ensures still_told { is_some (D.files desk.new) ≡ is_some (D.files desk.old) }
-    ensures rest_stays { D.rest desk.new ≡ D.rest desk.old }
-    ensures target_stays { D.target desk.new ≡ D.target desk.old }
-    ensures ready_stays { D.ready desk.new ≡ D.ready desk.old }
-    ensures openings_stay { D.openings desk.new ≡ D.openings desk.old }
+    ensures stays { KeepsOthers D.files D.rest D.written D.printed D.target D.ready D.counts D.openings to
+        desk.old desk.new }
 {
     let mut left = bytes;
     while !left.is_empty() {
@@ -299,17 +222,8 @@ fn put_front<D: Desk>(to: Channel, desk: &mut D, piece: &[u8]) -> Result<usize, 
     ensures cause { IfErr result (λ fault.
         HasOutCause to fault (D.counts desk.old) (D.counts desk.new)) }
     ensures steady { OnOk result (D.counts desk.new ≡ D.counts desk.old) }
-    ensures never_fall { NeverFall (D.counts desk.old) (D.counts desk.new) }
-    ensures report_files { OnReport to (D.files desk.new ≡ D.files desk.old) }
-    ensures report_written { OnReport to (D.written desk.new ≡ D.written desk.old) }
-    ensures cert_printed { OnCert to (D.printed desk.new ≡ D.printed desk.old) }
-    ensures others { (other : List ℕ) → D.target desk.old ≢ Some other
-        → file_at (D.files desk.new) other ≡ file_at (D.files desk.old) other }
-    ensures still_told { is_some (D.files desk.new) ≡ is_some (D.files desk.old) }
-    ensures rest_stays { D.rest desk.new ≡ D.rest desk.old }
-    ensures target_stays { D.target desk.new ≡ D.target desk.old }
-    ensures ready_stays { D.ready desk.new ≡ D.ready desk.old }
-    ensures openings_stay { D.openings desk.new ≡ D.openings desk.old }
+    ensures stays { KeepsOthers D.files D.rest D.written D.printed D.target D.ready D.counts D.openings to
+        desk.old desk.new }
 {
     let taken = match to {
         Channel::Cert => desk.write(piece),

@@ -16,10 +16,6 @@ use Rattle.hyd_text_rows.proofs.SectionLemmas.{other_section}
 
 -- ---- faults in turn
 
-pub last_fault : (fault : Option Cause) → or_else fault None ≡ fault
-last_fault (Some cause) = refl
-last_fault None = refl
-
 -- a fault that is there comes before all else
 pub fault_first : (fault next : Option Cause) (cause : Cause) (Refused : Type 0) → fault ≡ Some cause
     → IsFaultThen (or_else fault next) Refused (Some cause)

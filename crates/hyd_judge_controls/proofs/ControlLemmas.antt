@@ -15,11 +15,11 @@ use Rattle.hyd_spec_input.specs.Keywords.{link_word}
 use Rattle.hyd_spec_input.specs.Tables.{is_of, rows_of, words_of, link_named}
 use Rattle.hyd_spec_input.specs.RowsTogether as others
 use Rattle.hyd_spec_input.specs.declared.LinkWord.{LinkWord}
-use Rattle.hyd_theorems_on_input.proofs.Faultless.{section_is}
+use Rattle.hyd_theorems_on_input.proofs.Faultless.{section_is, none_from}
 use Rattle.hyd_text_rows.specs.FirstWrongRow.{IsVerdict, kept}
 use Rattle.hyd_text_rows.specs.WrongInSection.{IsWrongIn, IsFaultThen}
 use Rattle.hyd_text_rows.proofs.FoundLemmas.{filter_more, filter_same, found_skip, found_kept}
-use Rattle.hyd_text_rows.proofs.SectionLemmas.{none_of, verdict_with_capacity, other_section}
+use Rattle.hyd_text_rows.proofs.SectionLemmas.{verdict_with_capacity, other_section}
 use Rattle.hyd_judge_controls.specs.Controls.{AreControls, IsControlFault, commanded_fault}
 use Rattle.hyd_judge_controls.specs.declared.controls.Controls.{Controls}
 
@@ -29,7 +29,7 @@ control_is_right rows k row right is member =
     let P : Section → Type 0 = λ s. itself.section_fault s (words_of Rules (take k rows)) row.words
     (words_of Rules (drop (k + 1) rows)) ≡ None in
     subst P (section_is InControls row member)
-    (none_of (itself.row_fault rows k row) (λ cause f. right k cause (record { row = row; row_is = is; fault = f })))
+    (none_from (itself.row_fault rows k row) (λ cause f. right k cause (record { row = row; row_is = is; fault = f })))
 
 -- ---- one control
 

@@ -12,21 +12,20 @@ use Rattle.hyd_spec_input.specs.CapacitiesOutOfRange.{IsRefusedIn, IsRefusedSett
 use Rattle.hyd_spec_input.specs.Columns.{or_else, unless, word}
 use Rattle.hyd_spec_input.specs.Faults.{NoneIs}
 use Rattle.hyd_spec_input.specs.RuleRows as form
-use Rattle.hyd_spec_input.specs.RuleRows.{begins_with, is_rule, stage_after, in_order, line_words}
-use Rattle.hyd_spec_input.specs.RuleRows.{words_about, gets_then}
+use Rattle.hyd_spec_input.specs.RuleRows.{begins_with, is_rule, stage_after, in_order, words_of_rule_line, words_about}
+use Rattle.hyd_spec_input.specs.RuleRows.{gets_then}
 use Rattle.hyd_spec_input.specs.Tables.{is_of, words_of, words_of_row, link_named}
 use Rattle.hyd_spec_input.specs.RowsTogether as others
 use Rattle.hyd_spec_input.specs.RowsTogether.{is_part_word, is_action_word, holds_action, rules_in, parts_in}
 use Rattle.hyd_spec_input.specs.declared.RuleWord.{RuleWord}
 use Rattle.hyd_spec_input.specs.declared.RuleWord.TheVariants.{Rule, If, And, Or, Then, Else, Priority}
-use Rattle.hyd_theorems_on_input.proofs.Faultless.{or_none, section_is}
+use Rattle.hyd_theorems_on_input.proofs.Faultless.{or_none, section_is, none_from, or_last}
 use Rattle.hyd_text_rows.specs.FirstWrongRow.{IsVerdict, kept}
 use Rattle.hyd_text_rows.specs.WrongInSection.{IsWrongIn, IsFaultThen}
-use Rattle.hyd_text_rows.proofs.SectionLemmas.{none_of, verdict_with_capacity, other_section}
+use Rattle.hyd_text_rows.proofs.SectionLemmas.{verdict_with_capacity, other_section}
 use Rattle.hyd_text_rows.proofs.FoundLemmas.{filter_same, found_skip, found_kept}
 use Rattle.hyd_judge_single_rows.specs.RuleLineStages.{stage_with}
 use Rattle.hyd_judge_single_rows.proofs.StageLemmas.{next_stage}
-use Rattle.hyd_judge_controls.proofs.CommandLemmas.{last_fault}
 use Rattle.hyd_judge_controls.proofs.RuleCounting.{counted_elsewhere}
 use Rattle.hyd_judge_controls.specs.Rules.{AreCounted, AreRules, IsRuleFault, acting_at}
 use Rattle.hyd_judge_controls.specs.declared.rules.Rules.{Rules}
@@ -34,15 +33,16 @@ use Rattle.hyd_judge_controls.specs.declared.rules.Rules.{Rules}
 -- ---- a line of a rule that is right by itself
 
 pub line_is_right : (rows : List Row) (k : ℕ) (row : Row) → NoneIs (IsWrongByItself rows)
-    → slice_get rows k ≡ Some row → is_of InRules row ≡ true → line_words (acting_at rows k) row.words ≡ None
+    → slice_get rows k ≡ Some row → is_of InRules row ≡ true → words_of_rule_line (acting_at rows k) row.words ≡ None
 line_is_right rows k row right is member =
     let earlier = words_of InRules (take k rows) in
     let later = words_of InRules (drop (k + 1) rows) in
     let P : Section → Type 0 = λ s. itself.section_fault s earlier row.words later ≡ None in
     let all : form.rule_line earlier row.words later ≡ None =
     subst P (section_is InRules row member)
-    (none_of (itself.row_fault rows k row) (λ cause f. right k cause (record { row = row; row_is = is; fault = f }))) in
-    let words = line_words (acting_at rows k) row.words in
+    (none_from (itself.row_fault rows k row)
+    (λ cause f. right k cause (record { row = row; row_is = is; fault = f }))) in
+    let words = words_of_rule_line (acting_at rows k) row.words in
     let rest = (or_none (in_order (stage_after earlier) (begins_with row.words))
     (or_else words (or_else (unless (gets_then row.words later) Syntax) None)) all).1 in
     (or_none words (or_else (unless (gets_then row.words later) Syntax) None) rest).0
@@ -103,7 +103,7 @@ rule_fault_is rows k row count new cause rule n fresh e =
       rule,
       n,
       fresh,
-      last_fault (unless (not (others.has_rule (word 1 row.words) (rules_in (take k rows))))
+      or_last (unless (not (others.has_rule (word 1 row.words) (rules_in (take k rows))))
           DuplicateId),
     ) refl in
     without_capacity (others.rule_line rows k row) _ cause fault
@@ -116,7 +116,7 @@ pub clause_fault_is : (rows : List Row) (k : ℕ) (row : Row) (count : ℕ) (cau
     → cause ≡ or_else (others.passes 100000 12 count) (others.clause rows row.words) → IsRuleFault rows k row cause
 clause_fault_is rows k row count cause rule part acts n e =
     let fault : cause ≡ others.rule_line rows k row =
-    e ∙ rw (rule, part, acts, n, last_fault (others.clause rows row.words)) refl in
+    e ∙ rw (rule, part, acts, n, or_last (others.clause rows row.words)) refl in
     without_capacity (others.rule_line rows k row) _ cause fault (λ refused. true≢false (sym refused.0 ∙ acts))
 
 pub nothing_is_wrong : (rows : List Row) (k : ℕ) (row : Row) → is_rule (begins_with row.words) ≡ false

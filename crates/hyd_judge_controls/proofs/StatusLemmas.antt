@@ -13,11 +13,10 @@ use Rattle.hyd_spec_input.specs.Faults.{NoneIs}
 use Rattle.hyd_spec_input.specs.Tables.{is_of, link_named, words_of}
 use Rattle.hyd_spec_input.specs.RowsTogether as others
 use Rattle.hyd_spec_input.specs.declared.LinkWord.TheVariants.{Link}
-use Rattle.hyd_theorems_on_input.proofs.Faultless.{section_is}
+use Rattle.hyd_theorems_on_input.proofs.Faultless.{section_is, none_from, or_last}
 use Rattle.hyd_text_rows.specs.FirstWrongRow.{IsVerdict}
 use Rattle.hyd_text_rows.specs.WrongInSection.{IsWrongIn, IsFaultThen}
-use Rattle.hyd_text_rows.proofs.SectionLemmas.{none_of, verdict_with_capacity}
-use Rattle.hyd_judge_controls.proofs.CommandLemmas.{last_fault}
+use Rattle.hyd_text_rows.proofs.SectionLemmas.{verdict_with_capacity}
 
 pub status_is_right : (rows : List Row) (k : ℕ) (row : Row) → NoneIs (IsWrongByItself rows)
     → slice_get rows k ≡ Some row → is_of Status row ≡ true → row_form.status row.words ≡ None
@@ -25,7 +24,7 @@ status_is_right rows k row right is member =
     let P : Section → Type 0 = λ s. itself.section_fault s (words_of Rules (take k rows)) row.words
     (words_of Rules (drop (k + 1) rows)) ≡ None in
     subst P (section_is Status row member)
-    (none_of (itself.row_fault rows k row) (λ cause f. right k cause (record { row = row; row_is = is; fault = f })))
+    (none_from (itself.row_fault rows k row) (λ cause f. right k cause (record { row = row; row_is = is; fault = f })))
 
 -- the link by its name, then its state and its capacity
 pub status_verdict : (rows : List Row) (k : ℕ) (row : Row) (name : List ℕ) (cause : Option Cause)
@@ -41,6 +40,6 @@ status_verdict rows k row name cause is member named then =
     cause in
     let all : IsFaultThen (others.status rows k row)
     (IsRefusedSetting rows (link_named rows (word 0 row.words)) (word 1 row.words)) cause =
-    rw (first, last_fault (others.set_link rows (link_named rows name) (word 1 row.words) None)) then in
+    rw (first, or_last (others.set_link rows (link_named rows name) (word 1 row.words) None)) then in
     verdict_with_capacity Status rows k row (others.row_fault rows k row) cause is member refl
     (subst P (sym (section_is Status row member)) all)

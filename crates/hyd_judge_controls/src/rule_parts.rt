@@ -62,7 +62,7 @@ fn part_of(line: RuleLine) -> Part
 /// What a line of a rule is, where an AND line holds an action or not.
 pub(crate) fn read_part(text: &Lines<'_>, line: &Line, acting: bool) -> Part
     requires lies { LiesIn text.now.text line.now }
-    requires right { form.line_words acting (words_at text.now line.now) ≡ None }
+    requires right { form.words_of_rule_line acting (words_at text.now line.now) ≡ None }
     ensures { IsPart acting (words_at text.now line.now) result }
 {
     match read_rule_line(text, line, acting) {

@@ -18,10 +18,12 @@ use Rattle.hyd_text_rows.specs.FirstWrongRow.{IsVerdict, kept}
 use Rattle.hyd_text_rows.specs.WrongInSection.{IsFaultThen, IsWrongIn}
 use Rattle.hyd_text_rows.specs.IdTables.{AreFirsts}
 use Rattle.hyd_text_rows.proofs.FoundLemmas.{filter_more, filter_same, found_skip, found_kept}
-use Rattle.hyd_text_rows.proofs.SectionLemmas.{none_of, verdict_with_capacity, fault_then_alike}
+use Rattle.hyd_text_rows.proofs.SectionLemmas.{verdict_with_capacity, fault_then_alike}
 use Rattle.hyd_judge_links.specs.LinksSoFar.{AreLinks, IsWrongLink}
 use Rattle.hyd_judge_links.specs.LinkFaults.{link_alone, fault_among, IsRefusedLink}
 use Rattle.hyd_judge_links.specs.declared.links.Links.{Links}
+use Rattle.hyd_theorems_on_input.proofs.Faultless.{none_from}
+use Rattle.hyd_theorems_on_input.proofs.Places.{own_section}
 
 -- ---- a link that is right by itself
 
@@ -36,7 +38,7 @@ pub link_is_right : (rows : List Row) (k : ℕ) (row : Row) → NoneIs (IsWrongB
     → slice_get rows k ≡ Some row → link_alone row.section row.words ≡ None
 link_is_right rows k row right is =
     by_itself row.section _ row.words _
-    (none_of (itself.row_fault rows k row) (λ cause f. right k cause (record { row = row; row_is = is; fault = f })))
+    (none_from (itself.row_fault rows k row) (λ cause f. right k cause (record { row = row; row_is = is; fault = f })))
 
 -- ---- a link among all rows
 
@@ -70,10 +72,6 @@ refused_in Pipes rows acting row unit h u = rw u (λ x. x, λ x. x)
 refused_in Pumps rows acting row unit h u = (λ x. x, λ x. x)
 refused_in Valves rows acting row unit h u = rw u (λ x. x, λ x. x)
 refused_in _ rows acting row unit h u = absurd (true≢false (sym h))
-
-own_section : (section : Section) → (place section == place section) ≡ true
-own_section Pipes = refl
-own_section _ = refl
 
 -- a verdict on a row of a section is one on a row of links
 among_links : (rows : List Row) (k : ℕ) (row : Row) (cause : Option Cause) → slice_get rows k ≡ Some row

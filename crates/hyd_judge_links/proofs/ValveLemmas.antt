@@ -1,15 +1,16 @@
--- Verdicts on valves with a capacity.
-use Rattle.std.proofs.Common.{◌≡◌, ℕ, Bool, true, false, List, Option, None, Some, refl, sym, inl, inr, ◌⊎◌, true≢false}
+-- CurveVerdicts on valves with a capacity.
+use Rattle.std.proofs.Common.{◌≡◌, ℕ, Bool, true, false, List, Option, None, refl, sym, inl, inr, ◌⊎◌, true≢false}
 use Rattle.hyd_num.specs.declared.flow_units.FlowUnit.{FlowUnit}
 use Rattle.hyd_spec_lines.specs.Lines.{Row}
 use Rattle.hyd_net.specs.declared.refusal_cause.Cause.{Cause}
 use Rattle.hyd_spec_input.specs.CapacitiesOutOfRange.{IsRefusedValve}
-use Rattle.hyd_spec_input.specs.Columns.{or_else, amount}
+use Rattle.hyd_spec_input.specs.Columns.{amount}
 use Rattle.hyd_spec_input.specs.NetworkRows.{is_throttle, is_general, valve_minor}
 use Rattle.hyd_text_rows.proofs.SectionLemmas.{fault_then_alike}
 use Rattle.hyd_text_rows.specs.QuantityRanges.{flow_fault}
 use Rattle.hyd_text_rows.specs.WrongInSection.{IsCapacityFault, IsFaultThen}
 use Rattle.hyd_judge_links.specs.LinkFaults.{setting_fault, IsRefusedValveOf}
+use Rattle.hyd_theorems_on_input.proofs.Faultless.{or_last}
 
 -- the verdict on a throttle control valve
 pub throttle_verdict : (rows : List Row) (unit : FlowUnit) (words : List (List ℕ)) (us : Bool) (cause : Option Cause)
@@ -26,10 +27,6 @@ throttle_verdict rows unit words us cause t g refused =
     (λ w. elim w [ inl a ↦ (refl, inl a) | inr b ↦ (refl, inr (refl, b)) ])
     (λ w. elim w.1 [ inl a ↦ inl a | inr b ↦ inr b.1 ])
     refused)
-
-or_last : (fault : Option Cause) → or_else fault None ≡ fault
-or_last None = refl
-or_last (Some cause) = refl
 
 -- the verdict on a flow control valve
 pub flow_verdict : (rows : List Row) (unit : FlowUnit) (words : List (List ℕ)) (us : Bool) (cause : Option Cause)

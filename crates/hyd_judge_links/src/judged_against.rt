@@ -1,7 +1,7 @@
 //! What rows of links are judged against.
 #![tactic(auto)]
 
-use hyd_curves::Verdicts;
+use hyd_curves::CurveVerdicts;
 use hyd_judge_nodes_curves_and_options::Patterns;
 use hyd_num::FlowUnit;
 use hyd_text_rows::Table;
@@ -12,7 +12,7 @@ pub struct LinkTables<'a> {
     pub nodes: &'a Table,
     pub curves: &'a Table,
     /// What pumps and general purpose valves ask of each curve.
-    pub verdicts: &'a Verdicts,
+    pub verdicts: &'a CurveVerdicts,
     pub patterns: &'a Patterns,
     pub unit: FlowUnit,
 }

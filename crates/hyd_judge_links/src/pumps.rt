@@ -23,11 +23,10 @@ use crate::judged_against::LinkTables;
 use hyd_judge_nodes_curves_and_options::Patterns;
 use hyd_lex::{Line, Lines};
 use hyd_net::Cause;
+use hyd_net::ranges::GREATEST_SPEED;
 use hyd_network_rows::{PumpRow, read_pump};
 use hyd_num::Decimal;
 use hyd_text_rows::{unknown_curve, unknown_pattern};
-
-const GREATEST_SPEED: i128 = 10 * 1_000_000_000;
 
 // A speed from 0 to 10.
 fn is_speed(number: Decimal) -> bool

@@ -24,7 +24,7 @@ ghost use Rattle.hyd_judge_links.specs.LinkFaults.{AreEven, IsRefusedValveOf};
 use crate::id_and_ends::ends_fault;
 use crate::judged_against::LinkTables;
 use hyd_asked_link_states::is_refused_valve;
-use hyd_curves::Verdicts;
+use hyd_curves::CurveVerdicts;
 use hyd_lex::{Line, Lines};
 use hyd_net::Cause;
 use hyd_network_rows::{ValveRow, ValveSetting, read_valve};
@@ -76,7 +76,12 @@ fn flow_valve_fault(
 }
 
 // What is wrong with the curve of a general purpose valve.
-fn curve_fault(text: &Lines<'_>, name: &[u8], curves: &Table, verdicts: &Verdicts) -> Option<Cause>
+fn curve_fault(
+    text: &Lines<'_>,
+    name: &[u8],
+    curves: &Table,
+    verdicts: &CurveVerdicts,
+) -> Option<Cause>
     requires { IsEven curves.now }
     ensures { (rows : List Row) → IsTable text.now.text (rows_of Curves rows) curves.now
         → AreVerdicts rows curves.now.names verdicts.now

@@ -1,6 +1,6 @@
 -- Rows of pressures, one row further.
-use Rattle.std.proofs.Common.{◌≡◌, ◌+◌, ℕ, ◌⊎◌, Bool, true, false, List, [], ◌∷◌, take, slice_get, Option, Some, None}
-use Rattle.std.proofs.Common.{refl, sym, ◌∙◌, subst, inl, inr, ◌==◌, true≢false}
+use Rattle.std.proofs.Common.{◌≡◌, ◌+◌, ℕ, ◌⊎◌, Bool, true, false, List, take, slice_get, Option, Some, None, refl, sym}
+use Rattle.std.proofs.Common.{◌∙◌, subst, inl, inr, ◌==◌, true≢false}
 use Rattle.std.specs.Prelude.{codes}
 use Rattle.std.proofs.lemmas.Bool.{cases_Bool}
 use Rattle.hyd_num.specs.declared.flow_units.FlowUnit.{FlowUnit}
@@ -12,31 +12,30 @@ use Rattle.hyd_spec_lines.specs.declared.section.Section.TheVariants.{Options}
 use Rattle.hyd_spec_input.specs.SingleRows as itself
 use Rattle.hyd_spec_input.specs.SingleRows.{IsWrongByItself}
 use Rattle.hyd_spec_input.specs.CapacitiesOutOfRange.{IsRefusedIn}
-use Rattle.hyd_spec_input.specs.Columns.{first, of_needed, needed, ends, one_of, number, not_negative, word, word_is}
-use Rattle.hyd_spec_input.specs.Columns.{is_option_of, is_option_keyword}
+use Rattle.hyd_spec_input.specs.Columns.{first, needed, number, word, word_is, is_option_of, is_option_keyword}
 use Rattle.hyd_spec_input.specs.Faults.{NoneIs}
 use Rattle.hyd_spec_input.specs.InForce as force
 use Rattle.hyd_spec_input.specs.InForce.{begins, option_row}
-use Rattle.hyd_spec_input.specs.Keywords.{option_word, option_words, more_option_words, unused_option, unused_words}
-use Rattle.hyd_spec_input.specs.Keywords.{more_unused_words, last_unused_words}
+use Rattle.hyd_spec_input.specs.Keywords.{option_word}
 use Rattle.hyd_spec_input.specs.OptionRows as row_form
-use Rattle.hyd_spec_input.specs.OptionRows.{option_about, bound_line}
+use Rattle.hyd_spec_input.specs.OptionRows.{option_about}
 use Rattle.hyd_spec_input.specs.declared.OptionWord.{OptionWord}
 use Rattle.hyd_spec_input.specs.declared.OptionWord.TheVariants as at
 use Rattle.hyd_spec_input.specs.Tables.{place, is_of}
 use Rattle.hyd_spec_input.specs.RowsTogether as others
 use Rattle.hyd_net.specs.declared.refusal_cause.Cause.{Cause}
-use Rattle.hyd_theorems_on_input.proofs.Faultless.{or_none, all_none}
-use Rattle.hyd_theorems_on_input.proofs.InForce.{in_force, word_is_keyword, first_named_same, is_one_of_same}
+use Rattle.hyd_theorems_on_input.proofs.Faultless.{none_from}
+use Rattle.hyd_theorems_on_input.proofs.InForce.{in_force, word_is_keyword}
 use Rattle.hyd_text_rows.specs.FirstWrongRow.{HasFound, kept}
 use Rattle.hyd_text_rows.specs.WrongInSection.{IsWrongIn}
 use Rattle.hyd_text_rows.specs.declared.first_wrong.Found.{Found}
 use Rattle.hyd_text_rows.proofs.FoundLemmas.{found_skip, found_kept}
-use Rattle.hyd_text_rows.proofs.SectionLemmas.{none_of, verdict_without_capacity, other_section}
+use Rattle.hyd_text_rows.proofs.SectionLemmas.{verdict_without_capacity, other_section}
 use Rattle.hyd_judge_nodes_curves_and_options.specs.RowOfOptionalLine.{row_in}
 use Rattle.hyd_judge_nodes_curves_and_options.specs.Options.{ArePressures, HasAmount, IsBound, bound_words}
 use Rattle.hyd_judge_nodes_curves_and_options.specs.Options.{option_fault}
 use Rattle.hyd_judge_nodes_curves_and_options.specs.declared.options.Pressures.{Pressures}
+use Rattle.hyd_theorems_on_input.proofs.OptionRanges.{option_word_same, minimum_is, required_is, bound_number}
 
 -- ---- a row of options that is right by itself
 
@@ -49,32 +48,9 @@ option_is_right : (rows : List Row) (k : ℕ) (row : Row) → NoneIs (IsWrongByI
     → slice_get rows k ≡ Some row → is_of Options row ≡ true → row_form.option row.words ≡ None
 option_is_right rows k row right is member =
     sym (by_itself row.section _ row.words _ member)
-    ∙ none_of (itself.row_fault rows k row) (λ cause f. right k cause (record { row = row; row_is = is; fault = f }))
+    ∙ none_from (itself.row_fault rows k row) (λ cause f. right k cause (record { row = row; row_is = is; fault = f }))
 
 -- ---- lines of pressures
-
-unused_same : (a word : List ℕ) → is_keyword a word ≡ true → unused_option word ≡ unused_option a
-unused_same a word e = rw (
-  is_one_of_same unused_words a word e,
-  is_one_of_same more_unused_words a word e,
-  is_one_of_same last_unused_words a word e,
-) refl
-
-option_word_same : (a word : List ℕ) → is_keyword a word ≡ true → option_word word ≡ option_word a
-unfolding option_word
-option_word_same a word e = rw (
-  first_named_same option_words a word e,
-  first_named_same more_option_words a word e,
-  unused_same a word e,
-) refl
-
-minimum_is : option_word (codes "MINIMUM") ≡ Some at.Minimum
-unfolding option_word is_keyword
-minimum_is = refl
-
-required_is : option_word (codes "REQUIRED") ≡ Some at.Required
-unfolding option_word is_keyword
-required_is = refl
 
 about : (words : List (List ℕ)) (a : List ℕ) (meaning : OptionWord) → row_form.option words ≡ None
     → word_is 0 a words ≡ true → option_word a ≡ Some meaning → option_about (Some meaning) words ≡ None
@@ -82,16 +58,6 @@ about words a meaning line first is =
     let e : option_word (word 0 words) ≡ Some meaning =
     option_word_same a (word 0 words) (word_is_keyword 0 a words first) ∙ is in
     subst (λ (o : Option OptionWord). option_about o words ≡ None) e line
-
-of_needed_number : (o : Option (List ℕ)) → of_needed not_negative o ≡ None → of_needed number o ≡ None
-of_needed_number None e = absurd (let x : ⊥ = cc in x)
-of_needed_number (Some w) e = (or_none (number w) _ e).0
-
-bound_number : (words : List (List ℕ)) → bound_line words ≡ None → needed number 2 words ≡ None
-bound_number words line =
-    let each = all_none (needed (one_of (codes "PRESSURE" ∷ [])) 1 words ∷ needed not_negative 2 words ∷ ends 3 words
-    ∷ []) line in
-    of_needed_number (slice_get words 2) each.1.0
 
 minimum_number : (words : List (List ℕ)) → row_form.option words ≡ None → word_is 0 (codes "MINIMUM") words ≡ true
     → needed number 2 words ≡ None

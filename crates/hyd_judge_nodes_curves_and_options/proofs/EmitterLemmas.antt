@@ -20,7 +20,8 @@ use Rattle.hyd_text_rows.specs.FirstWrongRow.{HasFound, IsVerdict, kept}
 use Rattle.hyd_text_rows.specs.WrongInSection.{IsWrongIn, IsFaultThen}
 use Rattle.hyd_text_rows.specs.declared.first_wrong.Found.{Found}
 use Rattle.hyd_text_rows.proofs.FoundLemmas.{found_skip, found_kept}
-use Rattle.hyd_text_rows.proofs.SectionLemmas.{none_of, verdict_with_capacity, fault_then_alike, other_section}
+use Rattle.hyd_text_rows.proofs.SectionLemmas.{verdict_with_capacity, fault_then_alike, other_section}
+use Rattle.hyd_theorems_on_input.proofs.Faultless.{none_from}
 
 by_itself : (section : Section) (earlier : List (List (List ℕ))) (words : List (List ℕ)) (later : List (List (List ℕ)))
     → (place section == 7) ≡ true → itself.section_fault section earlier words later ≡ row_form.emitter words
@@ -31,7 +32,7 @@ pub emitter_is_right : (rows : List Row) (k : ℕ) (row : Row) → NoneIs (IsWro
     → slice_get rows k ≡ Some row → is_of Emitters row ≡ true → row_form.emitter row.words ≡ None
 emitter_is_right rows k row right is member =
     sym (by_itself row.section _ row.words _ member)
-    ∙ none_of (itself.row_fault rows k row) (λ cause f. right k cause (record { row = row; row_is = is; fault = f }))
+    ∙ none_from (itself.row_fault rows k row) (λ cause f. right k cause (record { row = row; row_is = is; fault = f }))
 
 fault_is : (section : Section) (rows : List Row) (k : ℕ) (row : Row) → (place section == 7) ≡ true
     → others.section_fault section rows k row ≡ known_junction rows (word 0 row.words)

@@ -1,7 +1,7 @@
 -- The extremes of multipliers, one row further.
 use Rattle.std.proofs.Common.{◌≡◌, ◌+◌, ◌*◌, ◌^◌, ◌<◌, ◌≤◌, ◌++◌, ◌⊎◌, ℕ, Bool, true, false, ◌&&◌, List, [], ◌∷◌}
-use Rattle.std.proofs.Common.{filter, length, take, drop, position, Option, Some, None, slice_get, refl, sym, ap, ◌∙◌}
-use Rattle.std.proofs.Common.{subst, arith, ◌==◌, true≢false, get_or, inl, inr, append-nil, append_assoc, length-append}
+use Rattle.std.proofs.Common.{length, take, drop, position, Option, Some, None, slice_get, refl, sym, ap, ◌∙◌, subst}
+use Rattle.std.proofs.Common.{arith, ◌==◌, true≢false, get_or, inl, inr, append-nil, append_assoc, length-append}
 use Rattle.std.proofs.Common.{nat_lt, ltb-true, ltb-false}
 use Rattle.std.specs.Prelude.{slice_set, ℤ, pos, neg_ℤ, ◌≤ℤ◌, ◌*ℤ◌, unsigned_abs, flat_map}
 use Rattle.std.specs.List.{All, list_all}
@@ -13,11 +13,10 @@ use Rattle.std.proofs.lemmas.Grind.{flat_map-append}
 use Rattle.std.proofs.Math.Nat.{mul-le-mul_left}
 use Rattle.std.proofs.Math.ListN.{get_or-eq_default}
 use Rattle.std.proofs.lemmas.Option.{get_or_from_slice_get, slice_get-get_or}
-use Rattle.std.proofs.lemmas.List.{get_or-set_same, get_or-set_other, length-set, take-append-drop}
+use Rattle.std.proofs.lemmas.List.{get_or-set_same, get_or-set_other, length-set}
 use Rattle.std.proofs.lemmas.List.Elements.{filter-append, All-push, All-nil, All-contains, Contains-push}
 use Rattle.std.proofs.lemmas.List.Elements.{Contains-append_left}
 use Rattle.std.proofs.lemmas.List.Sums.{AllPass-from_list_all, list_all-from_AllPass}
-use Rattle.std.proofs.lemmas.List.Quantifiers.{position-Some}
 use lib.Signed.{le_z, lt_z}
 use Rattle.hyd_spec_lines.specs.Lines.{Row}
 use Rattle.hyd_spec_lines.specs.declared.line.Line.{Line}
@@ -34,16 +33,15 @@ use Rattle.hyd_spec_input.specs.MeaningsAcrossRows.{number_in}
 use Rattle.hyd_spec_input.specs.Tables.{place, is_of, rows_of, rows_with, own_id, pattern_named, row_multipliers}
 use Rattle.hyd_spec_input.specs.Tables.{row_with, has_id}
 use Rattle.hyd_spec_input.specs.RowsTogether.{multipliers_of}
-use Rattle.hyd_theorems_on_input.proofs.Faultless.{all_none}
+use Rattle.hyd_lemmas.proofs.Trials.{and-true, lt_z-no}
+use Rattle.hyd_theorems_on_input.proofs.Faultless.{all_none, none_from}
 use Rattle.hyd_text_rows.specs.IdTables.{AreFirsts}
-use Rattle.hyd_text_rows.proofs.FoundLemmas.{filter_more, filter_same}
-use Rattle.hyd_text_rows.proofs.SectionLemmas.{none_of, all_rows}
+use Rattle.hyd_text_rows.proofs.FoundLemmas.{filter_more, filter_same, one_name, has_more, not_named}
+use Rattle.hyd_text_rows.proofs.SectionLemmas.{all_rows}
 use Rattle.hyd_text_rows.specs.FirstWrongRow.{rows_at}
 use Rattle.hyd_text_rows.proofs.TableLemmas.{not_found, has_id-is, even}
 use Rattle.hyd_judge_nodes_curves_and_options.specs.Extremes.{Bounds, bounds, Enclose, AreExtremes, pass, is_between}
-use Rattle.hyd_judge_nodes_curves_and_options.specs.Extremes.{widened}
-use Rattle.hyd_judge_nodes_curves_and_options.specs.Extremes.{all_widened}
-use Rattle.hyd_judge_nodes_curves_and_options.specs.Extremes.{bounds_of, AreNone, AreWidened}
+use Rattle.hyd_judge_nodes_curves_and_options.specs.Extremes.{widened, all_widened, bounds_of, AreNone, AreWidened}
 use Rattle.hyd_judge_nodes_curves_and_options.specs.Patterns.{ArePatterns}
 use Rattle.hyd_judge_nodes_curves_and_options.specs.declared.pattern_extremes.Extremes.{Extremes}
 use Rattle.hyd_judge_nodes_curves_and_options.specs.declared.patterns.Patterns.{Patterns}
@@ -59,9 +57,6 @@ le_other a b c l m = grind (arith, ints)
 
 le_itself : (a : ℤ) → a ≤ℤ a
 le_itself a = grind (arith, ints)
-
-not_less : (a b : ℤ) → lt_z a b ≡ false → b ≤ℤ a
-not_less a b l = grind (arith, ints)
 
 All-from : (P Q : ℤ → Type 0) (xs : List ℤ) → ((v : ℤ) → P v → Q v) → All P xs → All Q xs
 All-from P Q xs each all k d l = each (get_or xs k d) (all k d l)
@@ -81,15 +76,15 @@ one_more values n b e = elim (cases_Bool (lt_z n b.least)) [
     | inl t ↦ rw (f, t) (record {
       least_is_there = Contains-append_left values (n ∷ []) b.least e.least_is_there;
       greatest_is_there = Contains-push values n;
-      at_least = All-push (λ v. b.least ≤ℤ v) values n e.at_least (not_less n b.least f);
+      at_least = All-push (λ v. b.least ≤ℤ v) values n e.at_least (lt_z-no n b.least f);
       at_most = All-push (λ v. v ≤ℤ n) values n (All-from (λ v. v ≤ℤ b.greatest) (λ v. v ≤ℤ n) values
           (λ v l. le_other b.greatest n v t l) e.at_most) (le_itself n);
     })
     | inr g ↦ rw (f, g) (record {
       least_is_there = Contains-append_left values (n ∷ []) b.least e.least_is_there;
       greatest_is_there = Contains-append_left values (n ∷ []) b.greatest e.greatest_is_there;
-      at_least = All-push (λ v. b.least ≤ℤ v) values n e.at_least (not_less n b.least f);
-      at_most = All-push (λ v. v ≤ℤ b.greatest) values n e.at_most (not_less b.greatest n g);
+      at_least = All-push (λ v. b.least ≤ℤ v) values n e.at_least (lt_z-no n b.least f);
+      at_most = All-push (λ v. v ≤ℤ b.greatest) values n e.at_most (lt_z-no b.greatest n g);
     })
   ]
 ]
@@ -124,9 +119,6 @@ are_extremes values = all_steps [] values None refl
 abbrev pub IsConvex : (ℤ → Bool) → Type 0
 IsConvex test = (a v b : ℤ) → a ≤ℤ v → v ≤ℤ b → test a ≡ true → test b ≡ true → test v ≡ true
 
-both_true : (a b : Bool) → a ≡ true → b ≡ true → (a && b) ≡ true
-both_true a b s t = rw (s, t) refl
-
 enclosed_test : (test : ℤ → Bool) → IsConvex test → (values : List ℤ) (b : Bounds) → Enclose values b
     → list_all test values ≡ (test b.least && test b.greatest)
 enclosed_test test convex values b e = elim (cases_Bool (test b.least && test b.greatest)) [
@@ -138,7 +130,7 @@ enclosed_test test convex values b e = elim (cases_Bool (test b.least && test b.
         let low : test b.least ≡ true = All-contains (λ v. test v ≡ true) values b.least all e.least_is_there in
         let high : test b.greatest ≡ true = All-contains
         (λ v. test v ≡ true) values b.greatest all e.greatest_is_there in
-        absurd (true≢false (sym (both_true (test b.least) (test b.greatest) low high) ∙ f)))
+        absurd (true≢false (sym (and-true (test b.least) (test b.greatest) low high) ∙ f)))
     | inr g ↦ g ∙ sym f
   ]
 ]
@@ -153,7 +145,7 @@ pub between_is_convex : (low high : ℤ) → IsConvex (is_between low high)
 between_is_convex low high a v b l m s t =
     let p = and_parts (le_z low a) (le_z a high) s in
     let q = and_parts (le_z low b) (le_z b high) t in
-    both_true (le_z low v) (le_z v high) (grind (arith, ints, p.0)) (grind (arith, ints, q.1))
+    and-true (le_z low v) (le_z v high) (grind (arith, ints, p.0)) (grind (arith, ints, q.1))
 
 -- ---- products
 
@@ -163,7 +155,7 @@ within_abs most z e =
     grind (arith, ints, p.0, p.1)
 
 abs_within : (most : ℕ) (z : ℤ) → unsigned_abs z ≤ most → is_within most z ≡ true
-abs_within most z l = both_true (le_z (neg_ℤ (pos most)) z) (le_z z (pos most)) (grind (arith, ints)) (grind
+abs_within most z l = and-true (le_z (neg_ℤ (pos most)) z) (le_z z (pos most)) (grind (arith, ints)) (grind
     (arith, ints))
 
 one_is_greater : (a v b : ℤ) → a ≤ℤ v → v ≤ℤ b → (unsigned_abs v ≤ unsigned_abs a) ⊎ (unsigned_abs v ≤ unsigned_abs b)
@@ -217,19 +209,6 @@ none_here rows k row name is member other =
     ap (λ (rs : List Row). flat_map row_multipliers (rows_with name rs)) (filter_more
     (is_of InPatterns) rows k row is member) in
     all ∙ ap (flat_map row_multipliers) kept
-
-not_named : (name : List ℕ) (row : Row) → bytes_eq name (own_id row) ≡ true → name ≡ own_id row
-not_named name row t = (bytes_decides name (own_id row)).0 t
-
--- two names with one number are the same
-one_name : (names : List (List ℕ)) (a b : List ℕ) (k : ℕ) → position (bytes_eq a) names ≡ Some k
-    → position (bytes_eq b) names ≡ Some k → a ≡ b
-one_name names a b k p q =
-    let x : a ≡ get_or names k [] = (bytes_decides a (get_or names k [])).0 (position-Some
-    (bytes_eq a) names k [] p).1 in
-    let y : b ≡ get_or names k [] = (bytes_decides b (get_or names k [])).0 (position-Some
-    (bytes_eq b) names k [] q).1 in
-    x ∙ sym y
 
 -- the bounds of a number that a name may have
 bounds_more : (rows : List Row) (k : ℕ) (row : Row) (names : List (List ℕ)) (each : List (Option Extremes))
@@ -344,7 +323,7 @@ pub pattern_is_right : (rows : List Row) (k : ℕ) (row : Row) → NoneIs (IsWro
     → slice_get rows k ≡ Some row → is_of InPatterns row ≡ true → row_form.pattern row.words ≡ None
 pattern_is_right rows k row right is member =
     sym (by_itself row.section _ row.words _ member)
-    ∙ none_of (itself.row_fault rows k row) (λ cause f. right k cause (record { row = row; row_is = is; fault = f }))
+    ∙ none_from (itself.row_fault rows k row) (λ cause f. right k cause (record { row = row; row_is = is; fault = f }))
 
 pub multipliers_are_right : (words : List (List ℕ)) → row_form.pattern words ≡ None
     → row_form.each (within (10 ^ 6)) (drop 1 words) ≡ None
@@ -352,25 +331,6 @@ multipliers_are_right words e =
     let each = all_none (needed id 0 words ∷ needed any 1 words ∷ row_form.each (within (10 ^ 6))
     (drop 1 words) ∷ []) e in
     each.1.1.0
-
-has_between : (name : List ℕ) (xs ys : List Row) (row : Row) → bytes_eq name (own_id row) ≡ true
-    → has_id name (xs ++ row ∷ ys) ≡ true
-has_between name [] ys row t = rw t refl
-has_between name (x ∷ xs) ys row t = elim (cases_Bool (bytes_eq name (own_id x))) [
-  | inl here ↦ rw here refl
-  | inr other ↦ rw other (has_between name xs ys row t)
-]
-
-has_more : (p : Row → Bool) (rows : List Row) (k : ℕ) (row : Row) → slice_get rows k ≡ Some row → p row ≡ true
-    → has_id (own_id row) (filter p rows) ≡ true
-has_more p rows k row is member =
-    let parts : filter p rows ≡ filter p (take k rows) ++ row ∷ filter p (drop (k + 1) rows) =
-    ap (filter p) (sym (take-append-drop (k + 1) rows))
-    ∙ filter-append p (take (k + 1) rows) (drop (k + 1) rows)
-    ∙ ap (λ (rs : List Row). rs ++ filter p (drop (k + 1) rows)) (filter_more p rows k row is member)
-    ∙ simp append_assoc in
-    rw parts (has_between (own_id row) (filter p (take k rows)) (filter p (drop (k + 1) rows)) row
-    ((bytes_decides (own_id row) (own_id row)).1 refl))
 
 -- its ID is in the table
 pub number_is_there : (text : List ℕ) (rows : List Row) (k : ℕ) (row : Row) (names : List (List ℕ))

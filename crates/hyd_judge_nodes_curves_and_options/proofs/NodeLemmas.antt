@@ -25,17 +25,17 @@ use Rattle.hyd_text_rows.specs.QuantityRanges.{head_fault, flow_fault}
 use Rattle.hyd_text_rows.specs.WrongInSection.{IsWrongIn}
 use Rattle.hyd_text_rows.specs.IdTables.{AreFirsts}
 use Rattle.hyd_text_rows.proofs.FoundLemmas.{filter_more, filter_same, found_skip, found_kept}
-use Rattle.hyd_text_rows.proofs.SectionLemmas.{none_of, verdict_without_capacity}
+use Rattle.hyd_text_rows.proofs.SectionLemmas.{verdict_without_capacity}
 use Rattle.hyd_judge_nodes_curves_and_options.specs.Extremes.{Bounds, AreExtremes}
 use Rattle.hyd_judge_nodes_curves_and_options.specs.NodeFaults.{junction_fault, is_head_times, times_fault, heads_fault}
-use Rattle.hyd_judge_nodes_curves_and_options.specs.NodeFaults.{reservoir_fault}
-use Rattle.hyd_judge_nodes_curves_and_options.specs.NodeFaults.{tank_fault}
+use Rattle.hyd_judge_nodes_curves_and_options.specs.NodeFaults.{reservoir_fault, tank_fault}
 use Rattle.hyd_curves.specs.CurveFaults.{tank_curve_fault}
 use Rattle.hyd_judge_nodes_curves_and_options.specs.JudgedNodes.{IsWrongNode, counted, node_alone, fault_among}
-use Rattle.hyd_judge_nodes_curves_and_options.specs.JudgedNodes.{AreCounts}
-use Rattle.hyd_judge_nodes_curves_and_options.specs.JudgedNodes.{AreNodes}
+use Rattle.hyd_judge_nodes_curves_and_options.specs.JudgedNodes.{AreCounts, AreNodes}
 use Rattle.hyd_judge_nodes_curves_and_options.specs.declared.nodes.Counts.{Counts}
 use Rattle.hyd_judge_nodes_curves_and_options.specs.declared.nodes.Nodes.{Nodes}
+use Rattle.hyd_theorems_on_input.proofs.Faultless.{none_from}
+use Rattle.hyd_theorems_on_input.proofs.Places.{own_section}
 use Rattle.hyd_judge_nodes_curves_and_options.proofs.ExtremeLemmas.{test_of_all, times_is_convex}
 
 -- ---- heads times multipliers
@@ -60,7 +60,7 @@ pub node_is_right : (rows : List Row) (k : ℕ) (row : Row) → NoneIs (IsWrongB
     → slice_get rows k ≡ Some row → node_alone row.section row.words ≡ None
 node_is_right rows k row right is =
     by_itself row.section _ row.words _
-    (none_of (itself.row_fault rows k row) (λ cause f. right k cause (record { row = row; row_is = is; fault = f })))
+    (none_from (itself.row_fault rows k row) (λ cause f. right k cause (record { row = row; row_is = is; fault = f })))
 
 -- ---- a node among all rows
 
@@ -80,10 +80,6 @@ nodes_are _ = refl
 in_turn : (one two next : Option Cause) → or_else (or_else one two) next ≡ or_else one (or_else two next)
 in_turn None two next = refl
 in_turn (Some cause) two next = refl
-
-last_one : (one : Option Cause) → or_else one None ≡ one
-last_one None = refl
-last_one (Some cause) = refl
 
 -- the faults before the quantities
 abbrev before : List Row → ℕ → ℕ → List Row → Row → Option Cause → Option Cause → Option Cause
@@ -145,10 +141,6 @@ no_capacity Junctions rows acting row h refused = refused
 no_capacity Reservoirs rows acting row h refused = refused
 no_capacity Tanks rows acting row h refused = refused
 no_capacity _ rows acting row h refused = absurd (true≢false (sym h))
-
-own_section : (section : Section) → (place section == place section) ≡ true
-own_section Junctions = refl
-own_section _ = refl
 
 -- a verdict on a row of a section is one on a row of nodes
 among_nodes : (rows : List Row) (k : ℕ) (row : Row) (cause : Option Cause) → slice_get rows k ≡ Some row

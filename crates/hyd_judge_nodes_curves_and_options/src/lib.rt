@@ -1,5 +1,5 @@
-//! The rows of an input file judged among all rows, section by section (EPANET 2.2 User Manual, appendix C). Each pass
-//! keeps the table of its IDs and its first wrong row.
+//! The rows of nodes, demands, emitters, curves, patterns and options judged among all rows, a section at a time
+//! (EPANET 2.2 User Manual, appendix C). Each pass keeps the table of its IDs and its first wrong row.
 #![tactic(auto)]
 
 mod curves;

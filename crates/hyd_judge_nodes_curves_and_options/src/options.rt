@@ -21,7 +21,11 @@ ghost use Rattle.hyd_judge_nodes_curves_and_options.specs.Options.{ArePressures,
 use crate::options_in_force::{is_options, last_option};
 use hyd_lex::{Line, Lines};
 use hyd_net::Cause;
-use hyd_num::{Decimal, FlowUnit};
+use hyd_net::ranges::GREATEST_HEAD;
+use hyd_num::{
+    Decimal, FlowUnit, HEAD_TICKS_IN_BILLIONTH_OF_METRE, NUMERATOR_OF_BILLIONTH_OF_POUND,
+    TEN_THOUSANDTHS_OF_POUND_IN_FOOT,
+};
 use hyd_row_words::{number, word_is};
 use hyd_text_rows::{Found, kept};
 
@@ -134,12 +138,13 @@ fn pressure_fault(pressure: Decimal, unit: FlowUnit) -> Option<Cause>
     ensures { result ≡ option.pressure_fault unit pressure.nano }
 {
     if unit.is_us() {
-        if pressure.nano * 30_480_000 > 433_300_000_000_000_000_000 {
+        let numerator = pressure.nano * NUMERATOR_OF_BILLIONTH_OF_POUND as i128;
+        if numerator > GREATEST_HEAD * TEN_THOUSANDTHS_OF_POUND_IN_FOOT as i128 {
             return Some(Cause::Range);
         }
         return None;
     }
-    if pressure.nano * 10_000 > 100_000_000_000_000_000 {
+    if pressure.nano * HEAD_TICKS_IN_BILLIONTH_OF_METRE as i128 > GREATEST_HEAD {
         return Some(Cause::Range);
     }
     None

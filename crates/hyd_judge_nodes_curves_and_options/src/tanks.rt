@@ -1,9 +1,8 @@
 //! Tanks among all rows.
 #![tactic(auto)]
 
-ghost use Rattle.std.specs.Prelude.{◌≡◌, ℕ, ◌≤◌, ◌*◌, ◌^◌, ◌+ℤ◌, ◌-ℤ◌, ◌≤ℤ◌, List, None, unsigned_abs, pos};
+ghost use Rattle.std.specs.Prelude.{◌≡◌, ◌+ℤ◌, ◌-ℤ◌, ◌≤ℤ◌, List, None, pos};
 ghost use lib.Signed.{le_z};
-ghost use Rattle.hyd_num.specs.FileQuantity as quantity;
 ghost use Rattle.hyd_spec_lines.specs.WordsOfLines.{text_of};
 ghost use Rattle.hyd_spec_lines.specs.Lines.{LiesIn, Row};
 ghost use Rattle.hyd_spec_lines.specs.declared.section.Section.TheVariants.{Curves};
@@ -22,40 +21,15 @@ use crate::judged_against::NodeTables;
 use hyd_curves::{Points, tank_curve_fault};
 use hyd_lex::{Line, Lines};
 use hyd_net::Cause;
+use hyd_net::ranges::GREATEST_HEAD;
 use hyd_network_rows::{TankRow, read_tank};
-use hyd_num::{Decimal, FlowUnit};
+use hyd_num::{FlowUnit, TEN_THOUSANDTHS_OF_METRE_IN_FOOT};
 use hyd_text_rows::{Table, head_fault, limit, unknown_curve};
+use hyd_units::head_ticks;
 
 const MOST_TANKS: usize = 32;
 
-const GREATEST_HEAD: i128 = 100_000_000_000_000_000;
-
-const LEAST_APART: i128 = 30_480_000_000;
-
-// A head of so many billionths in head ticks.
-fn ticks_of(nano: i128, us: bool) -> i128
-    requires { unsigned_abs nano ≤ 2 * 10 ^ 21 }
-    ensures { result ≡ quantity.head_ticks us nano }
-{
-    if us {
-        return nano * 3_048;
-    }
-    nano * 10_000
-}
-
-fn sum(a: Decimal, b: Decimal) -> i128
-    ensures value { result ≡ a.nano +ℤ b.nano }
-    ensures small { unsigned_abs result ≤ 2 * 10 ^ 21 }
-{
-    a.nano + b.nano
-}
-
-fn difference(a: Decimal, b: Decimal) -> i128
-    ensures value { result ≡ a.nano -ℤ b.nano }
-    ensures small { unsigned_abs result ≤ 2 * 10 ^ 21 }
-{
-    a.nano - b.nano
-}
+const LEAST_APART: i128 = 10_000_000 * TEN_THOUSANDTHS_OF_METRE_IN_FOOT as i128;
 
 // Range where levels are less than a hundredth of a foot apart.
 fn near_fault(ticks: i128) -> Option<Cause>
@@ -81,16 +55,16 @@ fn far_fault(ticks: i128) -> Option<Cause>
 fn apart_fault(row: &TankRow<'_>, unit: FlowUnit) -> Option<Cause>
     ensures { result ≡ node.apart_fault unit (row.now.maximum.nano -ℤ row.now.minimum.nano) }
 {
-    let apart = difference(row.maximum, row.minimum);
-    near_fault(ticks_of(apart, unit.is_us()))
+    let us = unit.is_us();
+    near_fault(head_ticks(row.maximum, us) - head_ticks(row.minimum, us))
 }
 
 // What is wrong with the head at a tank's maximum level.
 fn top_fault(row: &TankRow<'_>, unit: FlowUnit) -> Option<Cause>
     ensures { result ≡ range.head_fault unit (row.now.bottom.nano +ℤ row.now.maximum.nano) }
 {
-    let top = sum(row.bottom, row.maximum);
-    far_fault(ticks_of(top, unit.is_us()))
+    let us = unit.is_us();
+    far_fault(head_ticks(row.bottom, us) + head_ticks(row.maximum, us))
 }
 
 // What is wrong with the levels of a tank and its volume curve.

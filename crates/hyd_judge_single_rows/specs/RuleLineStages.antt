@@ -6,7 +6,7 @@ use Rattle.hyd_spec_lines.specs.declared.section.Section.{Section}
 use Rattle.hyd_spec_lines.specs.declared.section.Section.TheVariants.{Rules}
 use Rattle.hyd_spec_input.specs.SingleRows.{section_fault}
 use Rattle.hyd_spec_input.specs.Columns.{first, unless}
-use Rattle.hyd_spec_input.specs.RuleRows.{stage_by, begins_with, in_order, line_words, is_acting, gets_then}
+use Rattle.hyd_spec_input.specs.RuleRows.{stage_by, begins_with, in_order, words_of_rule_line, is_acting, gets_then}
 use Rattle.hyd_spec_input.specs.Tables.{is_of, words_of}
 use Rattle.hyd_spec_input.specs.declared.Stage.{Stage}
 use Rattle.hyd_net.specs.declared.refusal_cause.Cause.{Cause}
@@ -24,7 +24,7 @@ rule_lines text lines = words_of Rules (rows_at text lines)
 -- what is wrong with a line of a rule at a stage, before later lines
 abbrev pub line_fault : Stage → List (List ℕ) → List (List (List ℕ)) → Option Cause
 line_fault stage words later =
-    first (in_order stage (begins_with words) ∷ line_words (is_acting stage) words
+    first (in_order stage (begins_with words) ∷ words_of_rule_line (is_acting stage) words
     ∷ unless (gets_then words later) Syntax ∷ [])
 
 -- what is wrong with the words of a row of a section at a stage, before later lines of rules

@@ -2,18 +2,14 @@
 use Rattle.std.proofs.Common.{◌≡◌, ℕ, suc, ◌*◌, ◌^◌, ◌<◌, ◌≤◌, ℤ, pos, negsuc, neg_ℤ, ◌≤ℤ◌, ◌<ℤ◌, unsigned_abs, ap}
 use Rattle.std.proofs.Common.{subst, arith}
 use Rattle.std.proofs.Math.Nat.{mul-le-mul_right, le_of_mul-le-mul_right}
-use Rattle.std.proofs.lemmas.Nat.{pow_pos}
 use Rattle.std.proofs.lemmas.Int.{ints}
-use borrow.Author.Differences.{down}
 use Rattle.hyd_num.specs.declared.binary.Scaled.{Scaled}
 use Rattle.hyd_num.specs.BinaryNumbers.{numerator, denominator}
 use Rattle.hyd_num.specs.QuotientsAndRoots.{IsSquareRootDown, IsSquareRootUp}
 use Rattle.hyd_spec.specs.ProgramTypes.{Capacity}
 use Rattle.hyd_spec_certificates.specs.EnclosingFunctions.{root_down, root_up, quadratic_low, quadratic_high}
+use Rattle.hyd_num.proofs.Ends.{denominator_positive}
 use Rattle.hyd_theorems_on_definitions.proofs.Roots.{down_is, up_is}
-
-positive : (s : Scaled) → 0 < denominator s
-positive s = pow_pos (down s.exp)
 
 -- ---- the capacity's upper end is at least its lower one
 
@@ -24,7 +20,8 @@ least_over nl dl nh dh above ordered least =
     le_of_mul-le-mul_right m above
 
 pub upper_least : (c : Capacity) → denominator c.hi ≤ numerator c.hi * 2 ^ 61
-upper_least c = least_over (numerator c.lo) (denominator c.lo) (numerator c.hi) (denominator c.hi) (positive c.lo)
+upper_least c = least_over (numerator c.lo) (denominator c.lo) (numerator c.hi) (denominator c.hi)
+    (denominator_positive c.lo)
     c.ordered c.least
 
 -- ---- the roots are those of the laws
@@ -32,12 +29,12 @@ upper_least c = least_over (numerator c.lo) (denominator c.lo) (numerator c.hi) 
 down_at : (s : Scaled) (d m r : ℕ) → m ≡ d → IsSquareRootDown (numerator s * m) (denominator s) r
     → r ≡ root_down (numerator s * d) (denominator s)
 down_at s d m r e root = subst (λ (n : ℕ). r ≡ root_down (numerator s * n) (denominator s)) e
-    (down_is _ _ r (positive s) root)
+    (down_is _ _ r (denominator_positive s) root)
 
 up_at : (s : Scaled) (d m r : ℕ) → m ≡ d → IsSquareRootUp (numerator s * m) (denominator s) r
     → r ≡ root_up (numerator s * d) (denominator s)
 up_at s d m r e root = subst (λ (n : ℕ). r ≡ root_up (numerator s * n) (denominator s)) e
-    (up_is _ _ r (positive s) root)
+    (up_is _ _ r (denominator_positive s) root)
 
 pub low_forward : (c : Capacity) (d : ℤ) (m r : ℕ) → pos 0 ≤ℤ d → m ≡ unsigned_abs d
     → IsSquareRootDown (numerator c.lo * m) (denominator c.lo) r → pos r ≡ quadratic_low c d

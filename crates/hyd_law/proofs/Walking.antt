@@ -1,53 +1,29 @@
 -- Straight lines between knots, by the two knots at a head difference.
-use Rattle.std.proofs.Common.{◌≡◌, ℕ, ◌+◌, ◌*◌, ◌<◌, ◌≤◌, ℤ, pos, ◌+ℤ◌, ◌-ℤ◌, ◌*ℤ◌, ◌≤ℤ◌, ◌<ℤ◌, true, false, List, []}
-use Rattle.std.proofs.Common.{◌∷◌, length, drop, slice_index_or, unsigned_abs, refl, sym, ap, subst, ◌∙◌, arith}
+use Rattle.std.proofs.Common.{◌≡◌, ℕ, ◌+◌, ◌*◌, ◌<◌, ◌≤◌, ℤ, pos, ◌*ℤ◌, ◌≤ℤ◌, ◌<ℤ◌, true, false, List, [], ◌∷◌, length}
+use Rattle.std.proofs.Common.{drop, slice_index_or, refl, sym, ap, subst, ◌∙◌, arith}
 use Rattle.std.specs.Prelude.{int_lt}
 use Rattle.std.proofs.lemmas.Int.{ints}
 use Rattle.std.proofs.lemmas.List.{drop_more, drop_all, get_or-map, length-map}
 use Rattle.hyd_law.specs.declared.law_kinds.Knot.{Knot as LawKnot}
 use Rattle.hyd_law.specs.Curves.{place_of, places, IsValue}
 use Rattle.hyd_num.specs.Rational.{Rational, whole}
-use Rattle.hyd_num.proofs.Integers.{times_one_more}
-use Rattle.std.proofs.Math.IntN.{zero-*ℤ}
-use Rattle.hyd_net.specs.Curves.{Knot, on_line, between, value_from, value_at}
-
-one_times : (z : ℤ) → pos 1 *ℤ z ≡ z
-one_times z = omega (arith, ints, times_one_more 0 z, zero-*ℤ z)
+use Rattle.hyd_num.proofs.Integers.{one_times}
+use Rattle.hyd_net.specs.Curves.{Knot, between, value_from, value_at}
+use Rattle.hyd_lemmas.proofs.Trials.{lt-from, lt-not}
 
 -- ---- two knots
 
-pub product_is : (r x y a b : ℤ) → r ≡ x *ℤ y → x ≡ a → y ≡ b → r ≡ a *ℤ b
-product_is r x y a b e f g = e ∙ (rw (f, g) refl)
-
-pub line_is : (a b : Knot) (d p q : ℤ) → a.place <ℤ b.place → p ≡ (b.place -ℤ a.place) *ℤ a.value
-    → q ≡ (b.value -ℤ a.value) *ℤ (d -ℤ a.place)
-    → p +ℤ q ≡ (on_line 1 a b d).num
-line_is a b d p q less e f =
-    let w : b.place -ℤ a.place ≡ pos (1 * unsigned_abs (b.place -ℤ a.place)) = omega (arith, ints) in
-    let x : d -ℤ a.place ≡ d -ℤ (pos 1 *ℤ a.place) = ap (λ (z : ℤ). d -ℤ z) (sym (one_times a.place)) in
-    let l : p ≡ pos (1 * unsigned_abs (b.place -ℤ a.place)) *ℤ a.value = e ∙ ap (λ (z : ℤ). z *ℤ a.value) w in
-    let r : q ≡ (b.value -ℤ a.value) *ℤ (d -ℤ (pos 1 *ℤ a.place)) = f ∙ ap (λ (z : ℤ). (b.value -ℤ a.value) *ℤ z) x in
-    rw (l, r) refl
-
-apart : (a b : ℤ) → a <ℤ b → int_lt a b ≡ true
-apart a b less = grind (arith, ints)
-
-together : (a b : ℤ) → b ≤ℤ a → int_lt a b ≡ false
-together a b le = grind (arith, ints)
-
-pub on_line_is : (a b : Knot) (d : ℤ) → a.place <ℤ b.place → on_line 1 a b d ≡ between 1 a b d
-on_line_is a b d less = sym (rw (apart a.place b.place less) refl)
-
 pub first_is : (a b : Knot) (d : ℤ) → b.place ≤ℤ a.place → d <ℤ a.place → whole a.value ≡ between 1 a b d
 first_is a b d same less =
-    let t : int_lt d (pos 1 *ℤ a.place) ≡ true = apart d (pos 1 *ℤ a.place) (omega (arith, ints, one_times a.place)) in
-    sym (rw (together a.place b.place same, t) (ap whole (one_times a.value)))
+    let t : int_lt d (pos 1 *ℤ a.place) ≡ true = lt-from d (pos 1 *ℤ a.place) (omega (arith, ints, one_times a.place))
+    in
+    sym (rw (lt-not a.place b.place same, t) (ap whole (one_times a.value)))
 
 pub second_is : (a b : Knot) (d : ℤ) → b.place ≤ℤ a.place → a.place ≤ℤ d → whole b.value ≡ between 1 a b d
 second_is a b d same le =
-    let t : int_lt d (pos 1 *ℤ a.place) ≡ false = together d (pos 1 *ℤ a.place)
+    let t : int_lt d (pos 1 *ℤ a.place) ≡ false = lt-not d (pos 1 *ℤ a.place)
     (omega (arith, ints, one_times a.place)) in
-    sym (rw (together a.place b.place same, t) (ap whole (one_times b.value)))
+    sym (rw (lt-not a.place b.place same, t) (ap whole (one_times b.value)))
 
 -- ---- the walk
 
@@ -59,13 +35,14 @@ begin (x ∷ xs) a d h = refl
 go_on : (p q r : Knot) (rest : List Knot) (d : ℤ) → q.place ≤ℤ d → value_from 1 p (q ∷ (r ∷ rest)) d
     ≡ value_from 1 q (r ∷ rest) d
 go_on p q r rest d le =
-    let t : int_lt d (pos 1 *ℤ q.place) ≡ false = together d (pos 1 *ℤ q.place)
+    let t : int_lt d (pos 1 *ℤ q.place) ≡ false = lt-not d (pos 1 *ℤ q.place)
     (omega (arith, ints, one_times q.place)) in
     rw t refl
 
 here : (p q r : Knot) (rest : List Knot) (d : ℤ) → d <ℤ q.place → value_from 1 p (q ∷ (r ∷ rest)) d ≡ between 1 p q d
 here p q r rest d less =
-    let t : int_lt d (pos 1 *ℤ q.place) ≡ true = apart d (pos 1 *ℤ q.place) (omega (arith, ints, one_times q.place)) in
+    let t : int_lt d (pos 1 *ℤ q.place) ≡ true = lt-from d (pos 1 *ℤ q.place) (omega (arith, ints, one_times q.place))
+    in
     rw t refl
 
 two : (xs : List Knot) (i : ℕ) (a : Knot) → i + 1 < length xs → drop i xs ≡ slice_index_or xs i a

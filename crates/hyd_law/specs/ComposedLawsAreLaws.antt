@@ -15,7 +15,7 @@ pub IsLaw-directed : (forward : Bool) (A B : Relation) (l h : ℤ → ℤ) → I
 IsLaw-directed true A B l h law = IsLaw-forward A B l h law
 IsLaw-directed false A B l h law = IsLaw-reverse A B l h law
 
-lift-above : (us : Bool) (head : ShutoffHead) (speed : ℤ) → 0 < (lift_of us head speed).den
+pub lift-above : (us : Bool) (head : ShutoffHead) (speed : ℤ) → 0 < (lift_of us head speed).den
 lift-above us (FourThirds head) speed = lit< tt
 lift-above us (Given head) speed = lit< tt
 

@@ -1,21 +1,18 @@
 -- What each operation on pairs encloses.
-use Rattle.std.proofs.Common.{◌≡◌, ℕ, ◌+◌, ◌*◌, ◌^◌, ◌<◌, sym, ap, subst, ◌∙◌, arith, mul-pos, pow-suc}
+use Rattle.std.proofs.Common.{◌≡◌, ℕ, ◌+◌, ◌*◌, ◌^◌, ◌<◌, sym, ap, subst, ◌∙◌, arith, mul-pos, pow-suc, true, false}
+use Rattle.std.proofs.Common.{true≢false}
 use Rattle.std.proofs.Math.Nat.{pow-zero}
-use Rattle.std.proofs.lemmas.Nat.{pow_pos, pow-add}
-use borrow.Author.Differences.{up, down}
+use Rattle.std.proofs.lemmas.Nat.{pow-add}
+use borrow.Author.Differences.{up}
 use Rattle.hyd_num.specs.declared.binary.Scaled.{Scaled}
 use Rattle.hyd_num.specs.declared.pairs.Pair.{Pair}
 use Rattle.hyd_num.specs.Fraction.{Fraction, fraction, times, plus, over, power, AtMost}
-use Rattle.hyd_num.specs.BinaryNumbers.{numerator, denominator, as_fraction, IsDown, IsUp}
+use Rattle.hyd_num.specs.BinaryNumbers.{numerator, as_fraction, IsDown, IsUp, denominator}
 use Rattle.hyd_num.specs.Pairs.{Encloses, IsRatio, IsProduct, IsQuotient, IsSum, IsPower, once, even, odd, IsOwnPower}
 use Rattle.hyd_num.specs.Pairs.{IsRoot533}
+use Rattle.hyd_num.proofs.Ends.{denominator_positive, numerator_positive}
+use Rattle.hyd_num.proofs.RoundingLemmas.{IsDown-from_cut}
 use Rattle.hyd_lemmas.proofs.Fractions.{AtMost-itself, AtMost-along, times-rises, over-rises, plus-rises}
-
-pub numerator_above : (s : Scaled) → 0 < numerator s
-numerator_above s = mul-pos (omega (arith, s.normal)) (pow_pos (up s.exp))
-
-pub denominator_above : (s : Scaled) → 0 < denominator s
-denominator_above s = pow_pos (down s.exp)
 
 -- a rounded lower end of something at most x, and a rounded upper end of something at least x
 pub down_below : (p q : ℕ) (s : Scaled) (x : Fraction) → 0 < q → IsDown p q s → AtMost (fraction p q) x
@@ -39,9 +36,9 @@ ratio-encloses p q r made = record {
 pub product-encloses : (x y r : Pair) (a b : Fraction) → IsProduct x y r → Encloses x a → Encloses y b
     → Encloses r (times a b)
 product-encloses x y r a b made ex ey = record {
-  low = down_below _ _ r.lo (times a b) (mul-pos (denominator_above x.lo) (denominator_above y.lo)) made.low
+  low = down_below _ _ r.lo (times a b) (mul-pos (denominator_positive x.lo) (denominator_positive y.lo)) made.low
       (times-rises (as_fraction x.lo) a (as_fraction y.lo) b ex.low ey.low);
-  high = up_above _ _ r.hi (times a b) (mul-pos (denominator_above x.hi) (denominator_above y.hi)) made.high
+  high = up_above _ _ r.hi (times a b) (mul-pos (denominator_positive x.hi) (denominator_positive y.hi)) made.high
       (times-rises a (as_fraction x.hi) b (as_fraction y.hi) ex.high ey.high);
 }
 
@@ -50,14 +47,14 @@ pub quotient-low : (x y r : Pair) (a b : Fraction) → IsQuotient x y r → AtMo
     → AtMost b (as_fraction y.hi)
     → AtMost (as_fraction r.lo) (over a b)
 quotient-low x y r a b made p q =
-    down_below _ _ r.lo (over a b) (mul-pos (denominator_above x.lo) (numerator_above y.hi)) made.low
+    down_below _ _ r.lo (over a b) (mul-pos (denominator_positive x.lo) (numerator_positive y.hi)) made.low
     (over-rises (as_fraction x.lo) a (as_fraction y.hi) b p q)
 
 pub quotient-high : (x y r : Pair) (a b : Fraction) → IsQuotient x y r → AtMost a (as_fraction x.hi)
     → AtMost (as_fraction y.lo) b
     → AtMost (over a b) (as_fraction r.hi)
 quotient-high x y r a b made p q =
-    up_above _ _ r.hi (over a b) (mul-pos (denominator_above x.hi) (numerator_above y.lo)) made.high
+    up_above _ _ r.hi (over a b) (mul-pos (denominator_positive x.hi) (numerator_positive y.lo)) made.high
     (over-rises a (as_fraction x.hi) b (as_fraction y.lo) p q)
 
 pub quotient-encloses : (x y r : Pair) (a b : Fraction) → IsQuotient x y r → Encloses x a → Encloses y b
@@ -70,13 +67,13 @@ quotient-encloses x y r a b made ex ey = record {
 pub sum-low : (x y r : Pair) (a b : Fraction) → IsSum x y r → AtMost (as_fraction x.lo) a → AtMost (as_fraction y.lo) b
     → AtMost (as_fraction r.lo) (plus a b)
 sum-low x y r a b made p q =
-    down_below _ _ r.lo (plus a b) (mul-pos (denominator_above x.lo) (denominator_above y.lo)) made.low
+    down_below _ _ r.lo (plus a b) (mul-pos (denominator_positive x.lo) (denominator_positive y.lo)) made.low
     (plus-rises (as_fraction x.lo) a (as_fraction y.lo) b p q)
 
 pub sum-high : (x y r : Pair) (a b : Fraction) → IsSum x y r → AtMost a (as_fraction x.hi) → AtMost b (as_fraction y.hi)
     → AtMost (plus a b) (as_fraction r.hi)
 sum-high x y r a b made p q =
-    up_above _ _ r.hi (plus a b) (mul-pos (denominator_above x.hi) (denominator_above y.hi)) made.high
+    up_above _ _ r.hi (plus a b) (mul-pos (denominator_positive x.hi) (denominator_positive y.hi)) made.high
     (plus-rises a (as_fraction x.hi) b (as_fraction y.hi) p q)
 
 -- the powers of a fraction, digit by digit
@@ -126,9 +123,9 @@ root-low d r a root ed =
     let below = root.low.below in
     let end : AtMost (as_fraction below.result.hi) (power a 533) =
     AtMost-along (as_fraction below.result.hi) (as_fraction root.raised.lo) (power a 533)
-    (denominator_above root.raised.lo) (record { crossed = below.at_most }) raised.low in
+    (denominator_positive root.raised.lo) (record { crossed = below.at_most }) raised.low in
     AtMost-along (power (as_fraction r.lo) 100) (as_fraction below.result.hi) (power a 533)
-    (denominator_above below.result.hi)
+    (denominator_positive below.result.hi)
     (own-encloses r.lo 100 below.result below.made).high end
 
 pub root-high : (d r : Pair) (a : Fraction) → IsRoot533 d r → Encloses d a
@@ -138,7 +135,17 @@ root-high d r a root ed =
     let above = root.high.above in
     let end : AtMost (power a 533) (as_fraction above.result.lo) =
     AtMost-along (power a 533) (as_fraction root.raised.hi) (as_fraction above.result.lo)
-    (denominator_above root.raised.hi) raised.high (record { crossed = above.at_least }) in
+    (denominator_positive root.raised.hi) raised.high (record { crossed = above.at_least }) in
     AtMost-along (power a 533) (as_fraction above.result.lo) (power (as_fraction r.hi) 100)
-    (denominator_above above.result.lo) end
+    (denominator_positive above.result.lo) end
     (own-encloses r.hi 100 above.result above.made).low
+
+-- between two binary numbers that follow each other, below and above
+pub IsDown-near : (p q : ℕ) (s : Scaled) → numerator s * q < p * denominator s
+    → p * denominator s < (s.mant + 1) * 2 ^ up s.exp * q → IsDown p q s
+IsDown-near p q s lost below = IsDown-from_cut p q s false (record {
+  at_most = omega (arith, lost);
+  below = below;
+  whole = λ e. absurd (true≢false (let x : true ≡ false = cc in x));
+  lost = λ e. lost;
+})

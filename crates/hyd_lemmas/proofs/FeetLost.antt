@@ -8,14 +8,13 @@ use Rattle.hyd_num.specs.FileQuantity.{billionths, ordinary, feet, feet_across}
 use Rattle.hyd_num.specs.BinaryNumbers.{numerator, denominator, as_fraction}
 use Rattle.hyd_num.specs.Pairs.{Encloses}
 use Rattle.hyd_num.specs.CapacityPairs.{IsMinorPair, IsFrictionPair, IsUnitOver, IsValvePair, IsPlainPipePair}
-use Rattle.hyd_num.specs.CapacityPairs.{IsFittedPipePair}
-use Rattle.hyd_num.specs.CapacityPairs.{IsPipePair, IsPipePairWith}
+use Rattle.hyd_num.specs.CapacityPairs.{IsFittedPipePair, IsPipePair, IsPipePairWith}
 use Rattle.hyd_spec.specs.Loss.{head_in_feet, flow_in_cfs, friction, minor_loss, PipeLossAtMost, PipeLossAtLeast}
 use Rattle.hyd_spec.specs.Loss.{ValveLossAtMost, ValveLossAtLeast}
+use Rattle.hyd_num.proofs.Ends.{denominator_positive, numerator_positive}
 use Rattle.hyd_lemmas.proofs.Fractions.{AtMost-itself, AtMost-along}
-use Rattle.hyd_lemmas.proofs.Enclosing.{numerator_above, denominator_above, turned, ratio-encloses, product-encloses}
-use Rattle.hyd_lemmas.proofs.Enclosing.{quotient-encloses, power-encloses, quotient-low, quotient-high, sum-low}
-use Rattle.hyd_lemmas.proofs.Enclosing.{sum-high, root-low, root-high}
+use Rattle.hyd_lemmas.proofs.Enclosing.{turned, ratio-encloses, product-encloses, quotient-encloses, power-encloses}
+use Rattle.hyd_lemmas.proofs.Enclosing.{quotient-low, quotient-high, sum-low, sum-high, root-low, root-high}
 use Rattle.hyd_lemmas.proofs.Losses.{square_is, at_most_lost, at_least_lost, second_at_most, first_at_most}
 use Rattle.hyd_lemmas.proofs.Losses.{first_at_least, power_at_most, power_at_least}
 
@@ -49,14 +48,14 @@ feet_at_most : (lost : Fraction) (end : Scaled) (S q y : ℕ) → AtMost (as_fra
     (head_in_feet S y)
 feet_at_most lost end S q y below flow =
     at_most_lost unit lost (as_fraction end) 24465755455488 1000 (3048 * 10 ^ 9) S q y (lit< tt)
-    (denominator_above end) refl below flow
+    (denominator_positive end) refl below flow
 
 feet_at_least : (lost : Fraction) (end : Scaled) (S q y : ℕ) → AtMost (over unit lost) (as_fraction end)
     → numerator end * (S * y) ≤ (q * q) * denominator end → AtMost (head_in_feet S y)
     (times lost (power (flow_in_cfs S q) 2))
 feet_at_least lost end S q y above flow =
     at_least_lost unit lost (as_fraction end) 24465755455488 1000 (3048 * 10 ^ 9) S q y (lit< tt)
-    (denominator_above end) refl above flow
+    (denominator_positive end) refl above flow
 
 -- ---- valves
 
@@ -106,7 +105,7 @@ friction-low length diameter roughness us r made =
     quotient-low made.along made.root r _ _ made.friction_is (along-encloses length diameter roughness us r made).low
     (AtMost-itself (as_fraction made.root.hi))
 
-feet_above : (us : Bool) (v : ℕ) → 0 < (feet us v).den
+pub feet_above : (us : Bool) (v : ℕ) → 0 < (feet us v).den
 feet_above true v = lit< tt
 feet_above false v = lit< tt
 
@@ -123,10 +122,10 @@ pipe_at_most length diameter roughness minor us f r made S q y end flow =
     flow in
     record {
       minor_within = second_at_most rub fit squared (head_in_feet S y)
-          (mul-pos (mul-pos (lit< tt) (feet_above us (billionths length))) (numerator_above made.root.lo)) all;
+          (mul-pos (mul-pos (lit< tt) (feet_above us (billionths length))) (numerator_positive made.root.lo)) all;
       friction_within = power_at_most (friction us length roughness) (as_fraction made.root.lo) squared
           (minus (head_in_feet S y) (times fit squared)) (feet_across us (billionths diameter)) 100 533
-          (denominator_above made.root.lo)
+          (denominator_positive made.root.lo)
           (first_at_most rub fit squared (head_in_feet S y) all)
           (root-low made.across made.root _ made.root_is (ratio-encloses _ _ made.across made.across_is));
     }
@@ -142,7 +141,7 @@ pipe_at_least length diameter roughness minor us f r made S q y end flow =
     let squared : Fraction = power (flow_in_cfs S q) 2 in
     power_at_least (friction us length roughness) (as_fraction made.root.hi) squared
     (minus (head_in_feet S y) (times fit squared)) (feet_across us (billionths diameter)) 100 533
-    (denominator_above made.root.hi)
+    (denominator_positive made.root.hi)
     (first_at_least rub fit squared (head_in_feet S y) (feet_at_least (plus rub fit) r.hi S q y end flow))
     (root-high made.across made.root _ made.root_is (ratio-encloses _ _ made.across made.across_is))
 
@@ -167,7 +166,7 @@ plain_at_most length diameter roughness minor us r S q y none made flow =
     pipe_at_most length diameter roughness minor us made.friction r made.friction_is S q y
     (unit-low made.friction r (plus rub fit) made.capacity_is
     (AtMost-along (plus rub fit) rub (as_fraction made.friction.hi)
-    (mul-pos (mul-pos (lit< tt) (feet_above us (billionths length))) (numerator_above made.friction_is.root.lo))
+    (mul-pos (mul-pos (lit< tt) (feet_above us (billionths length))) (numerator_positive made.friction_is.root.lo))
     (nothing_more rub fit (no_fittings diameter minor us none))
     (friction-high length diameter roughness us made.friction made.friction_is)))
     flow
@@ -181,7 +180,7 @@ plain_at_least length diameter roughness minor us r S q y made flow =
     pipe_at_least length diameter roughness minor us made.friction r made.friction_is S q y
     (unit-high made.friction r (plus rub fit) made.capacity_is
     (AtMost-along (as_fraction made.friction.lo) rub (plus rub fit)
-    (mul-pos (mul-pos (lit< tt) (feet_above us (billionths length))) (numerator_above made.friction_is.root.hi))
+    (mul-pos (mul-pos (lit< tt) (feet_above us (billionths length))) (numerator_positive made.friction_is.root.hi))
     (friction-low length diameter roughness us made.friction made.friction_is)
     (nothing_less rub fit)))
     flow

@@ -16,3 +16,7 @@ pub mod Sharpness
 pub mod OnePair
 pub mod Ratios
 pub mod PressurePairs
+pub mod ListsAndOptions
+pub mod KnotLines
+pub mod OneScaled
+pub mod Quantities

@@ -71,7 +71,7 @@ at_least_lost unit lost end F K T s q y above some is below flow =
     }
 
 -- differences under a factor
-difference_times : (a b k : ℕ) → (a - b) * k ≡ a * k - b * k
+pub difference_times : (a b k : ℕ) → (a - b) * k ≡ a * k - b * k
 difference_times a b k = mul_comm (a - b) k ∙ mul-sub k a b ∙ omega arith
 
 less_by : (x a b k : ℕ) → x + b * k ≤ a * k → x ≤ (a - b) * k

@@ -11,8 +11,9 @@ use Rattle.hyd_num.specs.FileQuantity.{billionths}
 use Rattle.hyd_num.specs.CapacityPairs.{StandsFor, IsMinorPair, IsFrictionPair, IsUnitOver, IsSquareOver}
 use Rattle.hyd_num.specs.CapacityPairs.{IsPipePairWith}
 use Rattle.hyd_spec.specs.ProgramTypes.{Origin, Pipe, Valve, Pump, Emitter, PressureDemand}
+use Rattle.hyd_num.proofs.Ends.{denominator_positive, numerator_positive}
 use Rattle.hyd_lemmas.proofs.Fractions.{AtMost-itself, AtMost-along, times-rises, over-rises, plus-rises}
-use Rattle.hyd_lemmas.proofs.Enclosing.{numerator_above, denominator_above, down_below, up_above}
+use Rattle.hyd_lemmas.proofs.Enclosing.{down_below, up_above}
 use Rattle.hyd_lemmas.proofs.SquaredFlows.{ratio-above}
 use Rattle.hyd_lemmas.proofs.Sharpness.{some_factor}
 
@@ -43,25 +44,25 @@ ratio-below p q r s mr ms =
 
 product-below : (x y r u v s : Pair) → IsProduct x y r → IsProduct u v s → IsBelow x u → IsBelow y v → IsBelow r s
 product-below x y r u v s mr ms p q = record {
-  low = down-rises _ _ _ _ r.lo s.lo (mul-pos (denominator_above x.lo) (denominator_above y.lo)) mr.low ms.low
+  low = down-rises _ _ _ _ r.lo s.lo (mul-pos (denominator_positive x.lo) (denominator_positive y.lo)) mr.low ms.low
       (times-rises (as_fraction x.lo) (as_fraction u.lo) (as_fraction y.lo) (as_fraction v.lo) p.low q.low);
-  high = up-rises _ _ _ _ r.hi s.hi (mul-pos (denominator_above u.hi) (denominator_above v.hi)) mr.high ms.high
+  high = up-rises _ _ _ _ r.hi s.hi (mul-pos (denominator_positive u.hi) (denominator_positive v.hi)) mr.high ms.high
       (times-rises (as_fraction x.hi) (as_fraction u.hi) (as_fraction y.hi) (as_fraction v.hi) p.high q.high);
 }
 
 quotient-below : (x y r u v s : Pair) → IsQuotient x y r → IsQuotient u v s → IsBelow x u → IsBelow v y → IsBelow r s
 quotient-below x y r u v s mr ms p q = record {
-  low = down-rises _ _ _ _ r.lo s.lo (mul-pos (denominator_above x.lo) (numerator_above y.hi)) mr.low ms.low
+  low = down-rises _ _ _ _ r.lo s.lo (mul-pos (denominator_positive x.lo) (numerator_positive y.hi)) mr.low ms.low
       (over-rises (as_fraction x.lo) (as_fraction u.lo) (as_fraction y.hi) (as_fraction v.hi) p.low q.high);
-  high = up-rises _ _ _ _ r.hi s.hi (mul-pos (denominator_above u.hi) (numerator_above v.lo)) mr.high ms.high
+  high = up-rises _ _ _ _ r.hi s.hi (mul-pos (denominator_positive u.hi) (numerator_positive v.lo)) mr.high ms.high
       (over-rises (as_fraction x.hi) (as_fraction u.hi) (as_fraction y.lo) (as_fraction v.lo) p.high q.low);
 }
 
 sum-below : (x y r u v s : Pair) → IsSum x y r → IsSum u v s → IsBelow x u → IsBelow y v → IsBelow r s
 sum-below x y r u v s mr ms p q = record {
-  low = down-rises _ _ _ _ r.lo s.lo (mul-pos (denominator_above x.lo) (denominator_above y.lo)) mr.low ms.low
+  low = down-rises _ _ _ _ r.lo s.lo (mul-pos (denominator_positive x.lo) (denominator_positive y.lo)) mr.low ms.low
       (plus-rises (as_fraction x.lo) (as_fraction u.lo) (as_fraction y.lo) (as_fraction v.lo) p.low q.low);
-  high = up-rises _ _ _ _ r.hi s.hi (mul-pos (denominator_above u.hi) (denominator_above v.hi)) mr.high ms.high
+  high = up-rises _ _ _ _ r.hi s.hi (mul-pos (denominator_positive u.hi) (denominator_positive v.hi)) mr.high ms.high
       (plus-rises (as_fraction x.hi) (as_fraction u.hi) (as_fraction y.hi) (as_fraction v.hi) p.high q.high);
 }
 
@@ -95,7 +96,7 @@ root_down-below : (b c s t : Scaled) → AtMost (as_fraction b) (as_fraction c) 
 root_down-below b c s t le ms mt =
     let below = ms.below in
     let end : AtMost (as_fraction below.result.hi) (as_fraction c) =
-    AtMost-along (as_fraction below.result.hi) (as_fraction b) (as_fraction c) (denominator_above b) (record {
+    AtMost-along (as_fraction below.result.hi) (as_fraction b) (as_fraction c) (denominator_positive b) (record {
       crossed = below.at_most;
     }) le in
     record { crossed = mt.greatest s (record { result = below.result; made = below.made; at_most = end.crossed }) }
@@ -105,7 +106,7 @@ root_up-below : (b c s t : Scaled) → AtMost (as_fraction b) (as_fraction c) �
 root_up-below b c s t le ms mt =
     let over = mt.above in
     let end : AtMost (as_fraction b) (as_fraction over.result.lo) =
-    AtMost-along (as_fraction b) (as_fraction c) (as_fraction over.result.lo) (denominator_above c) le (record {
+    AtMost-along (as_fraction b) (as_fraction c) (as_fraction over.result.lo) (denominator_positive c) le (record {
       crossed = over.at_least;
     }) in
     record { crossed = ms.least t (record { result = over.result; made = over.made; at_least = end.crossed }) }

@@ -15,9 +15,9 @@ use Rattle.hyd_num.specs.Pairs.{IsRatio}
 use Rattle.hyd_num.specs.CapacityPairs.{IsPairOf, IsSquareOver, IsPressurePair, IsMade}
 use Rattle.hyd_num.specs.declared.link_capacities.Capacity.{Capacity}
 use Rattle.hyd_num.specs.declared.link_capacities.Origin.TheVariants.{PressureDemand}
+use Rattle.hyd_num.proofs.Ends.{denominator_positive}
 use Rattle.hyd_lemmas.proofs.Products.{product_of}
 use Rattle.hyd_lemmas.proofs.Ratios.{ratio_of, quotient_of}
-use Rattle.hyd_lemmas.proofs.Enclosing.{denominator_above}
 
 pub pressure_pair : (demand : ℤ) (minimum required : Decimal) (us : Bool) (n m : ℕ) (flows head r : Pair)
     → n ≡ up demand → m ≡ up (required.nano -ℤ minimum.nano) → IsRatio n 1 flows
@@ -89,7 +89,7 @@ capacity_to a b c d s square head made =
     let m : a * d ≤ 2 ^ 100 * b * d = mul-le-mul_right d square in
     let n : b * (2 ^ 39 * d) ≤ b * c = mul-le-mul_left b head in
     let l : numerator s * 2 ≤ 2 ^ 62 * denominator s = made.least (at_exponent (negsuc 0)) (omega (arith, m, n)) in
-    omega (arith, l, denominator_above s)
+    omega (arith, l, denominator_positive s)
 
 nothing_below : (z : ℤ) → pos 0 ≤ℤ z → down z ≡ 0
 nothing_below (pos n) above = refl
@@ -160,7 +160,7 @@ pressure-greatest demand minimum required us r most are made =
 
 -- ---- there is one
 
-pressure-some : (us : Bool) (v : ℕ) → 0 < v → 0 < (pressure_fraction us v).num
+pub pressure-some : (us : Bool) (v : ℕ) → 0 < v → 0 < (pressure_fraction us v).num
 pressure-some true v some = omega (arith, some)
 pressure-some false v some = omega (arith, some)
 

@@ -11,8 +11,7 @@ use Rattle.hyd_num.specs.BinaryNumbers.{numerator, denominator, IsDown, IsUp}
 use Rattle.hyd_num.specs.Rounding.{IsCut}
 use Rattle.hyd_num.specs.Pairs.{IsProduct, IsPower, once, even, odd, IsOwnPower}
 use Rattle.hyd_num.proofs.RoundingLemmas.{IsCut-product, IsDown-from_cut, IsUp-exact, IsUp-next}
-use Rattle.hyd_num.proofs.Ends.{products_ordered}
-use Rattle.hyd_lemmas.proofs.Enclosing.{denominator_above}
+use Rattle.hyd_num.proofs.Ends.{products_ordered, denominator_positive}
 use Rattle.hyd_lemmas.proofs.Grains.{above_of}
 
 record ProductCut (a b : Scaled) : Type 0 where
@@ -71,7 +70,7 @@ product_of x y =
     let down : IsDown (numerator x.lo * numerator y.lo) (denominator x.lo * denominator y.lo) low.number =
     IsDown-from_cut _ _ low.number low.exact low.cut in
     let over = raised (numerator x.hi * numerator y.hi) (denominator x.hi * denominator y.hi) high.number high.exact
-    (mul-pos (denominator_above x.hi) (denominator_above y.hi)) high.cut in
+    (mul-pos (denominator_positive x.hi) (denominator_positive y.hi)) high.cut in
     record {
       pair = record {
         lo = low.number;

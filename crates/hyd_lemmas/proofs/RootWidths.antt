@@ -7,7 +7,8 @@ use Rattle.hyd_num.specs.declared.pairs.Pair.{Pair}
 use Rattle.hyd_num.specs.Fraction.{power, AtMost}
 use Rattle.hyd_num.specs.BinaryNumbers.{numerator, denominator, as_fraction}
 use Rattle.hyd_num.specs.Pairs.{IsOwnPower, IsRootDown, IsRootUp, IsRoot533}
-use Rattle.hyd_lemmas.proofs.Enclosing.{own-encloses, denominator_above, pow_once}
+use Rattle.hyd_num.proofs.Ends.{denominator_positive}
+use Rattle.hyd_lemmas.proofs.Enclosing.{own-encloses, pow_once}
 use Rattle.hyd_lemmas.proofs.Losses.{square_is}
 use Rattle.hyd_lemmas.proofs.Grains.{grain, above_of, below_of}
 use Rattle.hyd_lemmas.proofs.Widths.{IsNear, above, power-near}
@@ -45,12 +46,12 @@ root-low-within bound s root =
           absurd (omega (arith, below, next.passes)))
     ] in
     let near : IsWithin 1 (as_fraction t) (as_fraction s) = record { crossed = one_factor _ _ grain above next.near } in
-    within-along (as_fraction bound) (as_fraction r.hi) (power (as_fraction s) 100) 0 300 (denominator_above r.hi)
+    within-along (as_fraction bound) (as_fraction r.hi) (power (as_fraction s) 100) 0 300 (denominator_positive r.hi)
     (within-none _ _ passes)
-    (within-along (as_fraction r.hi) (as_fraction r.lo) (power (as_fraction s) 100) 200 100 (denominator_above r.lo)
+    (within-along (as_fraction r.hi) (as_fraction r.lo) (power (as_fraction s) 100) 200 100 (denominator_positive r.lo)
     (own-within t r own.made)
     (within-along (as_fraction r.lo) (power (as_fraction t) 100) (power (as_fraction s) 100) 0 100
-    (one-le-pow 100 _ (denominator_above t))
+    (one-le-pow 100 _ (denominator_positive t))
     (within-none _ _ (own-encloses t 100 r own.made).low)
     (within-power (as_fraction t) (as_fraction s) 1 100 near)))
 
@@ -73,11 +74,11 @@ root-high-within bound s root =
     ] in
     let near : IsWithin 1 (as_fraction s) (as_fraction t) = record { crossed = one_factor _ _ grain above next.near } in
     within-along (power (as_fraction s) 100) (power (as_fraction t) 100) (as_fraction bound) 100 200
-    (one-le-pow 100 _ (denominator_above t))
+    (one-le-pow 100 _ (denominator_positive t))
     (within-power (as_fraction s) (as_fraction t) 1 100 near)
-    (within-along (power (as_fraction t) 100) (as_fraction r.hi) (as_fraction bound) 0 200 (denominator_above r.hi)
+    (within-along (power (as_fraction t) 100) (as_fraction r.hi) (as_fraction bound) 0 200 (denominator_positive r.hi)
     (within-none _ _ (own-encloses t 100 r own.made).high)
-    (within-along (as_fraction r.hi) (as_fraction r.lo) (as_fraction bound) 200 0 (denominator_above r.lo)
+    (within-along (as_fraction r.hi) (as_fraction r.lo) (as_fraction bound) 200 0 (denominator_positive r.lo)
     (own-within t r own.made)
     (within-none _ _ passes)))
 
@@ -87,9 +88,9 @@ root-near d r near root =
     root.raised (power-near d root.raised 533 4 near root.made) in
     let all : IsWithin 2732 (power (as_fraction r.hi) 100) (power (as_fraction r.lo) 100) =
     within-along (power (as_fraction r.hi) 100) (as_fraction root.raised.hi) (power (as_fraction r.lo) 100) 300 2432
-    (denominator_above root.raised.hi)
+    (denominator_positive root.raised.hi)
     (root-high-within root.raised.hi r.hi root.high)
     (within-along (as_fraction root.raised.hi) (as_fraction root.raised.lo) (power (as_fraction r.lo) 100) 2132 300
-    (denominator_above root.raised.lo) raised
+    (denominator_positive root.raised.lo) raised
     (root-low-within root.raised.lo r.lo root.low)) in
     near-within 28 r (within-root (as_fraction r.hi) (as_fraction r.lo) 28 100 (lit< tt) (within-wider _ _ 2732 68 all))

@@ -10,14 +10,14 @@ use Rattle.hyd_num.specs.CapacityPairs.{StandsFor, IsMade, IsMinorPair, IsFricti
 use Rattle.hyd_num.specs.CapacityPairs.{IsSquareOver}
 use Rattle.hyd_spec.specs.ProgramTypes.{Origin, Pipe, Valve, Pump, Emitter, PressureDemand, Capacity}
 use Rattle.hyd_spec.specs.CapacityEnclosure.{IsSharp}
-use Rattle.hyd_lemmas.proofs.Enclosing.{denominator_above}
+use Rattle.hyd_num.proofs.Ends.{denominator_positive}
 use Rattle.hyd_lemmas.proofs.SquaredFlows.{ratio-above}
 use Rattle.hyd_lemmas.proofs.Widths.{IsNear, high, low, ratio-near, product-near, quotient-near, sum-near, power-near}
 use Rattle.hyd_lemmas.proofs.Widths.{wider, near-sharp}
 use Rattle.hyd_lemmas.proofs.RootWidths.{root-near}
 
 pub some_factor : (p q : ℕ) (s : Scaled) → 0 < p → IsUp p q s → 0 < q
-some_factor p zero s above made = absurd (nothing_left p (denominator s) above (denominator_above s)
+some_factor p zero s above made = absurd (nothing_left p (denominator s) above (denominator_positive s)
     (omega (arith, made.at_least)))
   where
     nothing_left : (n d : ℕ) → 0 < n → 0 < d → n * d ≤ 0 → ⊥

@@ -17,8 +17,8 @@ use Rattle.hyd_num.specs.Pairs.{Encloses, IsRatio}
 use Rattle.hyd_num.specs.CapacityPairs.{IsSquareOver, IsPumpPair, IsEmitterPair, IsPressurePair}
 use Rattle.hyd_spec.specs.Loss.{SquareLossAtMost, SquareLossAtLeast}
 use Rattle.hyd_spec.specs.Law.{pump_resistance, emitter_resistance, pressure_resistance}
-use Rattle.hyd_lemmas.proofs.Enclosing.{numerator_above, denominator_above, ratio-encloses, product-encloses}
-use Rattle.hyd_lemmas.proofs.Enclosing.{quotient-encloses}
+use Rattle.hyd_num.proofs.Ends.{denominator_positive, numerator_positive}
+use Rattle.hyd_lemmas.proofs.Enclosing.{ratio-encloses, product-encloses, quotient-encloses}
 use Rattle.hyd_lemmas.proofs.Losses.{square_is}
 
 square_below : (a b w v c d s q y : ℕ) → 0 < d → c * (b * b * w) ≤ a * a * v * d → q * q * d ≤ c * (s * y)
@@ -46,13 +46,13 @@ square-encloses flow head r q w made eq ew =
 square-at_most : (q w : Fraction) (r : Pair) (S f y : ℕ) → Encloses r (over (times q q) w)
     → (f * f) * denominator r.lo ≤ numerator r.lo * (S * y) → SquareLossAtMost (over w (power q 2)) S f y
 square-at_most q w r S f y e flow =
-    square_below q.num q.den w.num w.den (numerator r.lo) (denominator r.lo) S f y (denominator_above r.lo)
+    square_below q.num q.den w.num w.den (numerator r.lo) (denominator r.lo) S f y (denominator_positive r.lo)
     e.low.crossed flow
 
 square-at_least : (q w : Fraction) (r : Pair) (S f y : ℕ) → Encloses r (over (times q q) w)
     → numerator r.hi * (S * y) ≤ (f * f) * denominator r.hi → SquareLossAtLeast (over w (power q 2)) S f y
 square-at_least q w r S f y e flow =
-    square_above q.num q.den w.num w.den (numerator r.hi) (denominator r.hi) S f y (denominator_above r.hi)
+    square_above q.num q.den w.num w.den (numerator r.hi) (denominator r.hi) S f y (denominator_positive r.hi)
     e.high.crossed flow
 
 -- the double of a number, which is above it
@@ -68,7 +68,7 @@ above_itself : (s : Scaled) → numerator (twice s) * denominator s ≤ numerato
 unfolding twice
 above_itself s h =
     not_twice s.mant (2 ^ up s.exp) (2 ^ down s.exp) (2 ^ up (s.exp +ℤ pos 1)) (2 ^ down (s.exp +ℤ pos 1))
-    (mul-pos (numerator_above s) (pow_pos (down (s.exp +ℤ pos 1))))
+    (mul-pos (numerator_positive s) (pow_pos (down (s.exp +ℤ pos 1))))
     (sym (pow-add 2 (up (s.exp +ℤ pos 1)) (down s.exp))
     ∙ ap (λ i. 2 ^ i) (exponents s.exp)
     ∙ pow-add 2 1 (up s.exp + down (s.exp +ℤ pos 1))
@@ -87,7 +87,7 @@ pub down-above : (p q : ℕ) (s : Scaled) → IsDown p q s → 0 < p
 down-above zero q s made = absurd (above_itself s (made.greatest (twice s)
     (omega (
       arith,
-      ap (λ x. numerator (twice s) * x) (no_factor (numerator s) q (numerator_above s)
+      ap (λ x. numerator (twice s) * x) (no_factor (numerator s) q (numerator_positive s)
           (omega (arith, made.at_most))),
     ))))
 down-above (suc p) q s made = omega arith

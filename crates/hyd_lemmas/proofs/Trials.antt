@@ -1,10 +1,13 @@
 -- Facts that are tried by computing: tests of whole numbers, of lists, and of all numbers below one.
 use Rattle.std.proofs.Common.{◌≡◌, ℕ, zero, suc, ◌+◌, ◌<◌, ◌≤◌, ℤ, ◌≤ℤ◌, Bool, true, false, ◌&&◌, ◌||◌, not}
-use Rattle.std.proofs.Common.{if◌then◌else◌, inl, inr, List, [], ◌∷◌, length, int_le, refl, subst, arith}
-use Rattle.std.specs.Prelude.{slice_get, slice_index_or, Some, Contains}
+use Rattle.std.proofs.Common.{if◌then◌else◌, inl, inr, List, [], ◌∷◌, length, int_le, refl, subst, arith, ◌<ℤ◌, ◌-◌}
+use Rattle.std.proofs.Common.{nat_le}
+use Rattle.std.specs.Prelude.{slice_get, slice_index_or, Some, Contains, int_lt, nat_lt}
 use Rattle.std.specs.List.{list_any}
 use Rattle.std.proofs.lemmas.Int.{ints}
 use Rattle.std.proofs.lemmas.Bool.{cases_lt}
+use Rattle.std.proofs.lemmas.Bool.Decides.{nat_tests}
+use lib.Signed.{le_z, lt_z}
 
 -- ---- whole numbers
 
@@ -91,3 +94,63 @@ fails_below test (suc n) none k le e = elim (cases_lt k n) [
 -- what passes a test that fails below n is at least n
 pub from : (test : ℕ → Bool) (n : ℕ) → none_below test n ≡ true → (k : ℕ) → test k ≡ true → n ≤ k
 from test n none k e = elim (cases_lt k n) [ inl l ↦ absurd (fails_below test n none k l e) | inr g ↦ g ]
+
+pub lt-from : (a b : ℤ) → a <ℤ b → int_lt a b ≡ true
+lt-from a b less = grind (arith, ints)
+
+pub lt-not : (a b : ℤ) → b ≤ℤ a → int_lt a b ≡ false
+lt-not a b le = grind (arith, ints)
+
+pub or-false : (a b : Bool) → (a || b) ≡ false → (a ≡ false) × (b ≡ false)
+or-false true b e = absurd (cc)
+or-false false b e = (refl, e)
+
+pub lt-no : (a b : ℤ) → int_lt a b ≡ false → b ≤ℤ a
+lt-no a b e = grind (arith, ints)
+
+pub lt-yes : (a b : ℤ) → int_lt a b ≡ true → a <ℤ b
+lt-yes a b e = grind (arith, ints)
+
+pub and-false : (b : Bool) → (b && false) ≡ false
+and-false true = refl
+and-false false = refl
+
+pub equal_by_order : (a b : ℕ) → (a < b → ⊥) → (b < a → ⊥) → a ≡ b
+equal_by_order a b first second = omega (arith, first, second)
+
+pub nat-lt-from : (a b : ℕ) → a < b → nat_lt a b ≡ true
+nat-lt-from a b e = grind arith
+
+pub nat-le-from : (a b : ℕ) → a ≤ b → nat_le a b ≡ true
+nat-le-from a b l = grind (arith, nat_tests)
+
+pub nat-lt-no : (a b : ℕ) → nat_lt a b ≡ false → b ≤ a
+nat-lt-no a b e = grind arith
+
+pub le-not : (a b : ℤ) → b <ℤ a → int_le a b ≡ false
+le-not a b lt = grind (arith, ints)
+
+pub le-no : (a b : ℤ) → int_le a b ≡ false → b <ℤ a
+le-no a b e = grind (arith, ints)
+
+pub le_z-yes : (a b : ℤ) → le_z a b ≡ true → a ≤ℤ b
+le_z-yes a b h = grind (arith, ints)
+
+pub lt_z-no : (a b : ℤ) → lt_z a b ≡ false → b ≤ℤ a
+lt_z-no a b l = grind (arith, ints)
+
+pub lt_z-yes : (a b : ℤ) → lt_z a b ≡ true → a <ℤ b
+lt_z-yes a b h = grind (arith, ints)
+
+pub or-turned : (a b c : Bool) → ((a || b) || c) ≡ (b || (a || c))
+or-turned true true c = refl
+or-turned true false c = refl
+or-turned false true c = refl
+or-turned false false c = refl
+
+pub or-true : (b : Bool) → (b || true) ≡ true
+or-true true = refl
+or-true false = refl
+
+pub nat-le-no : (n node : ℕ) → nat_le n node ≡ false → node < n
+nat-le-no n node e = grind arith

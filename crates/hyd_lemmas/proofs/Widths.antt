@@ -9,7 +9,8 @@ use Rattle.std.proofs.lemmas.Nat.{mul-le, pow-add}
 use Rattle.hyd_num.specs.declared.pairs.Pair.{Pair}
 use Rattle.hyd_num.specs.BinaryNumbers.{numerator, denominator, IsDown, IsUp}
 use Rattle.hyd_num.specs.Pairs.{IsRatio, IsProduct, IsQuotient, IsSum, IsPower, once, even, odd}
-use Rattle.hyd_lemmas.proofs.Enclosing.{numerator_above, denominator_above, square_is as twice_power, pow_once}
+use Rattle.hyd_num.proofs.Ends.{denominator_positive, numerator_positive}
+use Rattle.hyd_lemmas.proofs.Enclosing.{square_is as twice_power, pow_once}
 use Rattle.hyd_lemmas.proofs.Grains.{grain, grain_is, grain_above, down-near, up-near}
 
 abbrev pub above : ℕ
@@ -27,7 +28,7 @@ pub record IsNear (w : ℕ) (x : Pair) : Type 0 where
   pub within : high x * (above * above * grain ^ w) ≤ low x * (grain * grain * above ^ w)
 
 low_above : (x : Pair) → 0 < low x
-low_above x = mul-pos (numerator_above x.lo) (denominator_above x.hi)
+low_above x = mul-pos (numerator_positive x.lo) (denominator_positive x.hi)
 
 -- what rounding adds to two widths
 combined : (h l h1 l1 h2 l2 g u a1 b1 a2 b2 : ℕ) → 0 < l1 * l2 * (g * g) → h * (l1 * l2) * (g * g) ≤ l * (h1 * h2)
@@ -124,7 +125,8 @@ pub sum-near : (x y r : Pair) (w : ℕ) → IsSum x y r → IsNear w x → IsNea
 sum-near x y r w made nx ny =
     let ex = denominator x.lo * denominator x.hi in
     let ey = denominator y.lo * denominator y.hi in
-    let first : 0 < low x * ey = mul-pos (low_above x) (mul-pos (denominator_above y.lo) (denominator_above y.hi)) in
+    let first : 0 < low x * ey = mul-pos (low_above x)
+    (mul-pos (denominator_positive y.lo) (denominator_positive y.hi)) in
     let some : 0 < (low x * ey + low y * ex) * (grain * grain) = mul-pos (omega (arith, first))
     (mul-pos grain_above grain_above) in
     let l : high r * grain ^ w ≤ low r * above ^ w =

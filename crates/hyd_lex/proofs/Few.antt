@@ -1,6 +1,6 @@
 -- A text has at most as many rows as bytes.
 use Rattle.std.proofs.Common.{filter, nat_le, true, false, ◌<◌, Option, Some, None, IfSome, slice_get, sym, ◌≡◌, ℕ, suc}
-use Rattle.std.proofs.Common.{◌+◌, ◌==◌, ◌≤◌, Bool, false, List, [], ◌∷◌, length, refl, arith, inl, inr, lit≤}
+use Rattle.std.proofs.Common.{◌+◌, ◌==◌, ◌≤◌, Bool, List, [], ◌∷◌, length, refl, arith, inl, inr, lit≤}
 use Rattle.std.proofs.Common.{length-append}
 use Rattle.std.specs.List.{slice_split, onto_first}
 use Rattle.std.specs.Str.Lines.{strip_carriage_return}

@@ -1,21 +1,9 @@
 -- Places of bytes in texts, and fronts of texts.
-use Rattle.std.proofs.Common.{◌≡◌, ℕ, ◌-◌, ◌==◌, ◌≤◌, Bool, List, length, take, nat_lt, refl, sym, ap, ◌∙◌, arith}
-use Rattle.std.proofs.Common.{unwrap_or, position, ltb-false, le_antisymm, inl, inr, not, slice_index}
-use Rattle.std.specs.List.{position_or_len}
+use Rattle.std.proofs.Common.{◌≡◌, ℕ, ◌-◌, ◌==◌, ◌≤◌, List, length, take, sym, ap, ◌∙◌, arith, inl, inr, slice_index}
 use Rattle.std.specs.Str.Lines.{strip_carriage_return}
 use Rattle.std.proofs.Math.Seq.{take-length}
 use Rattle.std.proofs.lemmas.Bool.{cases_Bool}
 use Rattle.std.proofs.lemmas.List.{length-take, take_min}
-use Rattle.std.proofs.lemmas.List.Sums.{prefix_len-le-length}
-
--- the first place that passes, or the end
-pub place_is : (p : ℕ → Bool) (xs : List ℕ) → unwrap_or (position p xs) (length xs) ≡ position_or_len p xs
-place_is p xs = elim (cases_Bool (nat_lt (position_or_len p xs) (length xs))) [
-  | inl t ↦ rw t refl
-  | inr f ↦ (let a : length xs ≤ position_or_len p xs = ltb-false (position_or_len p xs) (length xs) f in
-      let b : position_or_len p xs ≤ length xs = prefix_len-le-length (λ x. not (p x)) xs in
-      rw f (le_antisymm a b))
-]
 
 -- a front, by its own length
 pub front_of_take : (n : ℕ) (xs : List ℕ) → take n xs ≡ take (length (take n xs)) xs

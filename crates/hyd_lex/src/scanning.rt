@@ -81,7 +81,7 @@ fn before(text: &[u8], place: Option<usize>) -> &[u8]
 }
 
 /// A line before its comment.
-#[tactic(auto, using(crate::proofs::Places::place_is, crate::proofs::Places::front_of_take, crate::proofs::Places::length_of_take))]
+#[tactic(auto, using(hyd_num::proofs::Digits::place_is, crate::proofs::Places::front_of_take, crate::proofs::Places::length_of_take))]
 pub(crate) fn body(line: &[u8]) -> &[u8]
     ensures body { result.now ≡ form.body line.now }
     ensures front { result.now ≡ take (length result.now) line.now }

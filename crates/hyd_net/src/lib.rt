@@ -12,6 +12,7 @@ mod nodes;
 mod options;
 mod patterns;
 mod project;
+pub mod ranges;
 mod refusal_cause;
 mod rules;
 

@@ -13,6 +13,7 @@ use Rattle.hyd_spec_input.specs.NetworkRows.{speed_of}
 use Rattle.hyd_spec_input.specs.declared.EarlierKeys.{EarlierKeys}
 use Rattle.hyd_net.specs.declared.refusal_cause.Cause.{Cause}
 use Rattle.hyd_net.specs.declared.refusal_cause.Cause.TheVariants.{Range}
+use Rattle.hyd_theorems_on_input.proofs.Faultless.{or_none}
 
 nothing_more : (fault : Option Cause) → fault ≡ or_else fault None
 nothing_more None = refl
@@ -25,10 +26,6 @@ pub pair_more : (earlier next : EarlierKeys) (key value : List ℕ) (all behind 
 pair_more earlier next key value all behind rest a b k v n =
     rw (a, b, k, v, n) (nothing_more (pump_pairs (and_key earlier key) rest))
 
-none_of : (fault next : Option Cause) → or_else fault next ≡ None → (fault ≡ None) × (next ≡ None)
-none_of None next e = (refl, e)
-none_of (Some cause) next e = absurd (let x : ⊥ = cc in x)
-
 -- the speed among right pairs is a number
 pub speed_is_number : (earlier : EarlierKeys) (words : List (List ℕ)) (word : List ℕ) → pump_pairs earlier words ≡ None
     → pair_value (codes "SPEED") words ≡ Some word → number word ≡ None
@@ -36,13 +33,13 @@ speed_is_number earlier [] word right found = absurd (let x : ⊥ = cc in x)
 speed_is_number earlier (key ∷ []) word right found = absurd (let x : ⊥ = cc in x)
 speed_is_number earlier (key ∷ value ∷ words) word right found =
     let later = pump_pairs (and_key earlier key) words in
-    let all = none_of (pump_key earlier key) (or_else (pump_value key value) (or_else later None)) right in
-    let behind = none_of (pump_value key value) (or_else later None) all.1 in
-    let rest = none_of later None behind.1 in
+    let all = or_none (pump_key earlier key) (or_else (pump_value key value) (or_else later None)) right in
+    let behind = or_none (pump_value key value) (or_else later None) all.1 in
+    let rest = or_none later None behind.1 in
     elim (cases_Bool (is_keyword (codes "SPEED") key)) [
       | inl is ↦ (let same : Some value ≡ Some word = rw is at found in
           let speed : up_to 10 value ≡ None = rw is at behind.0 in
-          let number_is = none_of (number value)
+          let number_is = or_none (number value)
           (unless (le_z (pos 0) (nano_of value) && le_z (nano_of value) (units 10)) Range) speed in
           let equal : value ≡ word = cc in
           rw (← equal) number_is.0)

@@ -10,11 +10,10 @@ ghost use Rattle.hyd_network_rows.specs.Rows.{IsCurveRow, IsDemandRow, IsEmitter
 use crate::columns::optional_id;
 use hyd_lex::{Line, Lines};
 use hyd_net::Cause;
+use hyd_net::ranges::GREATEST_COEFFICIENT;
 use hyd_num::Decimal;
 use hyd_option_and_rule_lines::{Asked, asked_at};
 use hyd_row_words::{ends, id, number, number_within};
-
-const GREATEST_COEFFICIENT: i128 = 1_000_000 * 1_000_000_000;
 
 /// A row of [DEMANDS], in the file's units. Its category isn't used.
 #[derive(Debug, Clone, Copy, PartialEq, Eq, Drop)]

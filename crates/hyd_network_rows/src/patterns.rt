@@ -12,9 +12,8 @@ ghost use Rattle.hyd_network_rows.specs.Rows.{IsPatternRow};
 use crate::columns::{behind_first, within};
 use hyd_lex::{Line, Lines, split_word};
 use hyd_net::Cause;
+use hyd_net::ranges::GREATEST_MULTIPLIER;
 use hyd_row_words::{id, needed};
-
-const GREATEST_MULTIPLIER: i128 = 1_000_000 * 1_000_000_000;
 
 /// A row of [PATTERNS].
 #[derive(Debug, Clone, Copy, PartialEq, Eq, Drop)]

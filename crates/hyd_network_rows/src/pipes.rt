@@ -13,16 +13,13 @@ use crate::columns::{has_word, within_or_0};
 use crate::end_nodes::{LinkEnds, read_ends};
 use hyd_lex::{Line, Lines, is_keyword};
 use hyd_net::Cause;
+use hyd_net::ranges::{GREATEST_COEFFICIENT, GREATEST_DIAMETER};
 use hyd_num::Decimal;
 use hyd_row_words::{ends, number_within, word_is};
 
 const GREATEST_LENGTH: i128 = 1_000_000 * 1_000_000_000;
 
-const GREATEST_DIAMETER: i128 = 10_000 * 1_000_000_000;
-
 const GREATEST_ROUGHNESS: i128 = 10 * 1_000_000_000;
-
-const GREATEST_MINOR: i128 = 1_000_000 * 1_000_000_000;
 
 /// Whether a pipe is open, closed, or has a check valve.
 #[derive(Debug, Clone, Copy, PartialEq, Eq, Drop)]
@@ -77,7 +74,7 @@ fn minor(text: &Lines<'_>, line: &Line) -> Result<Decimal, Cause>
     if has_status_alone(text, line) {
         return Ok(Decimal { nano: 0 });
     }
-    within_or_0(text, line, 6, 0, GREATEST_MINOR)
+    within_or_0(text, line, 6, 0, GREATEST_COEFFICIENT)
 }
 
 // A status behind the coefficient, where the word is there.

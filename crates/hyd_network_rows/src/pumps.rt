@@ -13,11 +13,10 @@ use crate::columns::{behind_first, within};
 use crate::end_nodes::{LinkEnds, read_ends};
 use hyd_lex::{Line, Lines, is_keyword, split_word};
 use hyd_net::Cause;
+use hyd_net::ranges::GREATEST_SPEED;
 use hyd_num::Decimal;
 use hyd_row_words::{check_id, number_of};
 use hyd_spec_input::EarlierKeys;
-
-const GREATEST_SPEED: i128 = 10 * 1_000_000_000;
 
 const ONE: i128 = 1_000_000_000;
 

@@ -13,12 +13,9 @@ use crate::columns::within_or_0;
 use crate::end_nodes::{LinkEnds, read_ends};
 use hyd_lex::{Line, Lines, is_keyword};
 use hyd_net::Cause;
+use hyd_net::ranges::{GREATEST_COEFFICIENT, GREATEST_DIAMETER};
 use hyd_num::Decimal;
 use hyd_row_words::{ends, id, needed, not_negative, number_within, word_is};
-
-const GREATEST_DIAMETER: i128 = 10_000 * 1_000_000_000;
-
-const GREATEST_COEFFICIENT: i128 = 1_000_000 * 1_000_000_000;
 
 /// The setting of a valve, by its type.
 #[derive(Debug, Clone, Copy, PartialEq, Eq, Drop)]

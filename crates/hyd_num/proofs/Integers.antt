@@ -65,3 +65,6 @@ times_times (suc a) b z = rw suc-mul (omega (
   times_sum
       (a * b) b z,
 ))
+
+pub one_times : (z : ℤ) → pos 1 *ℤ z ≡ z
+one_times z = omega (arith, ints, times_one_more 0 z, zero-*ℤ z)

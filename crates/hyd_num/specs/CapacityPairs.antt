@@ -16,7 +16,7 @@ use Rattle.hyd_num.specs.declared.link_capacities.Origin.TheVariants.{Pipe, Valv
 use Rattle.hyd_num.specs.Fraction.{Fraction}
 use Rattle.hyd_num.specs.Pairs.{IsRatio, IsProduct, IsQuotient, IsSum, IsPower, IsRoot533}
 use Rattle.hyd_num.specs.FileQuantity.{billionths, ordinary, feet, feet_across, flow_fraction, pressure_fraction}
-use Rattle.hyd_num.specs.FileQuantity.{head_ticks, is_us_unit}
+use Rattle.hyd_num.specs.FileQuantity.{head_ticks, is_us_unit, ten_thousandths_of_metre_in_foot}
 
 -- r encloses x as tightly as can be
 abbrev pub IsPairOf : Fraction → Pair → Type 0
@@ -24,7 +24,7 @@ IsPairOf x r = IsRatio x.num x.den r
 
 -- the capacity of a link that loses one foot at one cubic foot a second
 abbrev pub IsUnitPair : Pair → Type 0
-IsUnitPair r = IsRatio (86400 ^ 2 * 3048 ^ 5 * 10) (10 ^ 20) r
+IsUnitPair r = IsRatio (86400 ^ 2 * ten_thousandths_of_metre_in_foot ^ 5 * 10) (10 ^ 20) r
 
 -- the feet lost to friction at one cubic foot a second: 4.66 times the roughness, times the roughness, times the
 -- length, divided by the diameter to the power 5.33

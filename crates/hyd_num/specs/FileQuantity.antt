@@ -35,6 +35,22 @@ flow_factor Mld = fraction 1000 1
 flow_factor Cmh = fraction 24 1
 flow_factor Cmd = fraction 1 1
 
+-- a foot in ten-thousandths of a metre; so many head ticks are a billionth of a foot
+abbrev pub ten_thousandths_of_metre_in_foot : ℕ
+ten_thousandths_of_metre_in_foot = 3048
+
+-- a foot of water in ten-thousandths of a pound a square inch
+abbrev pub ten_thousandths_of_pound_in_foot : ℕ
+ten_thousandths_of_pound_in_foot = 4333
+
+-- a billionth of a metre in head ticks
+abbrev pub head_ticks_in_billionth_of_metre : ℕ
+head_ticks_in_billionth_of_metre = 10000
+
+-- a billionth of a pound a square inch in head ticks, times the ten-thousandths of a pound in a foot
+abbrev pub numerator_of_billionth_of_pound : ℕ
+numerator_of_billionth_of_pound = 10000 * ten_thousandths_of_metre_in_foot
+
 -- the billionths of a number that isn't negative, 0 for a negative one
 abbrev pub billionths : Decimal → ℕ
 billionths d = up d.nano
@@ -45,8 +61,8 @@ ordinary v = fraction v (10 ^ 9)
 
 -- a head of v billionths of a foot or a metre, in head ticks
 abbrev pub head_ticks : Bool → ℤ → ℤ
-head_ticks true v = pos 3048 *ℤ v
-head_ticks false v = pos 10000 *ℤ v
+head_ticks true v = pos ten_thousandths_of_metre_in_foot *ℤ v
+head_ticks false v = pos head_ticks_in_billionth_of_metre *ℤ v
 
 -- a flow of v billionths of a unit, in flow ticks
 abbrev pub flow_fraction : FlowUnit → ℕ → Fraction
@@ -59,25 +75,25 @@ flow_ticks unit v = int_div (v *ℤ pos (flow_factor unit).num) (pos (100 * (flo
 -- a pressure of v billionths of a pound a square inch or a metre, in head ticks: the numerator, and the denominator
 -- below it
 abbrev pub pressure_numerator : Bool → ℤ → ℤ
-pressure_numerator true v = pos 30480000 *ℤ v
-pressure_numerator false v = pos 10000 *ℤ v
+pressure_numerator true v = pos numerator_of_billionth_of_pound *ℤ v
+pressure_numerator false v = pos head_ticks_in_billionth_of_metre *ℤ v
 
 -- the denominator of a pressure in head ticks
 abbrev pub pressure_denominator : Bool → ℕ
-pressure_denominator true = 4333
+pressure_denominator true = ten_thousandths_of_pound_in_foot
 pressure_denominator false = 1
 
 -- a pressure that isn't negative, in head ticks
 abbrev pub pressure_fraction : Bool → ℕ → Fraction
-pressure_fraction true v = fraction (30480000 * v) 4333
-pressure_fraction false v = fraction (10 ^ 4 * v) 1
+pressure_fraction true v = fraction (numerator_of_billionth_of_pound * v) ten_thousandths_of_pound_in_foot
+pressure_fraction false v = fraction (head_ticks_in_billionth_of_metre * v) 1
 
 -- a length of v billionths of a foot or a metre, in feet
 abbrev pub feet : Bool → ℕ → Fraction
 feet true v = fraction v (10 ^ 9)
-feet false v = fraction (10 ^ 4 * v) (3048 * 10 ^ 9)
+feet false v = fraction (10 ^ 4 * v) (ten_thousandths_of_metre_in_foot * 10 ^ 9)
 
 -- a diameter of v billionths of an inch or a millimetre, in feet
 abbrev pub feet_across : Bool → ℕ → Fraction
 feet_across true v = fraction v (12 * 10 ^ 9)
-feet_across false v = fraction (10 * v) (3048 * 10 ^ 9)
+feet_across false v = fraction (10 * v) (ten_thousandths_of_metre_in_foot * 10 ^ 9)

@@ -5,7 +5,8 @@ use Rattle.std.specs.Prelude.{ℕ, zero, suc, ◌+◌, ◌*◌, ◌/◌, ◌%◌
 use Rattle.std.specs.Prelude.{◌*ℤ◌, unsigned_abs, codes}
 use Rattle.std.specs.Int.{is_negative}
 use Rattle.std.specs.Fmt.{decimal, sign_text}
-use Rattle.hyd_num.specs.FileQuantity.{flow_factor}
+use Rattle.hyd_num.specs.FileQuantity.{flow_factor, head_ticks_in_billionth_of_metre}
+use Rattle.hyd_num.specs.FileQuantity.{ten_thousandths_of_metre_in_foot, ten_thousandths_of_pound_in_foot}
 use Rattle.hyd_num.specs.Rational.{Rational}
 use Rattle.hyd_num.specs.QuotientsAndRoots.{IsFloor, IsCeiling}
 use Rattle.hyd_num.specs.declared.flow_units.FlowUnit.{FlowUnit}
@@ -14,12 +15,16 @@ use Rattle.hyd_num.specs.declared.flow_units.FlowUnit.{FlowUnit}
 
 -- a head or a level, in feet (0.3048 m) or metres; a tick is 10^-13 m
 abbrev pub head_quantity : Bool → ℤ → Rational
-head_quantity true ticks = record { num = ticks; den = 3048 * 10 ^ 9 }
-head_quantity false ticks = record { num = ticks; den = 10 ^ 13 }
+head_quantity true ticks = record { num = ticks; den = ten_thousandths_of_metre_in_foot * 10 ^ 9 }
+head_quantity false ticks = record { num = ticks; den = head_ticks_in_billionth_of_metre * 10 ^ 9 }
 
 -- a pressure as a height of water, in pounds a square inch (0.4333 a foot) or metres
 abbrev pub pressure_quantity : Bool → ℤ → Rational
-pressure_quantity true ticks = record { num = pos 4333 *ℤ ticks; den = 10 ^ 4 * (3048 * 10 ^ 9) }
+pressure_quantity true ticks =
+    record {
+      num = pos ten_thousandths_of_pound_in_foot *ℤ ticks;
+      den = 10 ^ 4 * (ten_thousandths_of_metre_in_foot * 10 ^ 9);
+    }
 pressure_quantity false ticks = head_quantity false ticks
 
 -- a flow in one of the ten units; a tick is 10^-7 m^3 a day

@@ -4,6 +4,21 @@
 ghost use Rattle.std.specs.Prelude.{◌≡◌};
 ghost use Rattle.hyd_num.specs.FileQuantity.{is_us_unit, flow_factor};
 
+/// A foot in ten-thousandths of a metre: 0.3048 m (EPANET 2.2 User Manual, appendix A). So many head ticks, of
+/// 10^-13 m, are a billionth of a foot.
+pub const TEN_THOUSANDTHS_OF_METRE_IN_FOOT: u64 = 3_048;
+
+/// A foot of water in ten-thousandths of a pound a square inch: 0.4333 of them, which is this program's value.
+pub const TEN_THOUSANDTHS_OF_POUND_IN_FOOT: u64 = 4_333;
+
+/// A billionth of a metre in head ticks, of 10^-13 m (this program's).
+pub const HEAD_TICKS_IN_BILLIONTH_OF_METRE: u64 = 10_000;
+
+/// A billionth of a pound a square inch as a height of water in head ticks, times
+/// [`TEN_THOUSANDTHS_OF_POUND_IN_FOOT`]: 10,000 for the ten-thousandths there, and the head ticks of a billionth of a
+/// foot.
+pub const NUMERATOR_OF_BILLIONTH_OF_POUND: u64 = 10_000 * TEN_THOUSANDTHS_OF_METRE_IN_FOOT;
+
 /// A unit of flow (EPANET 2.2 User Manual, Units of Measurement).
 #[derive(Debug, Clone, Copy, PartialEq, Eq, Drop)]
 pub enum FlowUnit {

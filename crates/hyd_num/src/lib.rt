@@ -19,7 +19,10 @@ mod square_comparison;
 
 pub use binary::Scaled;
 pub use decimals::{Decimal, NumFault, Span};
-pub use flow_units::FlowUnit;
+pub use flow_units::{
+    FlowUnit, HEAD_TICKS_IN_BILLIONTH_OF_METRE, NUMERATOR_OF_BILLIONTH_OF_POUND,
+    TEN_THOUSANDTHS_OF_METRE_IN_FOOT, TEN_THOUSANDTHS_OF_POUND_IN_FOOT,
+};
 pub use link_capacities::{Capacity, Origin};
 pub use numerals::read_decimal;
 pub use pair_arithmetic::{add, div, mul, pow, ratio};

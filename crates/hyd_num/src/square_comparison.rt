@@ -1,4 +1,5 @@
-//! Products of three numbers, which are wider than 128 bits.
+//! A square times a factor compared with another number times a factor: products of three numbers, which are wider
+//! than 128 bits.
 #![tactic(auto)]
 
 ghost use Rattle.std.specs.Prelude.{◌≡◌, ◌*◌, ◌^◌, ◌<◌};

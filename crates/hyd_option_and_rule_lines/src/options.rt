@@ -14,14 +14,13 @@ ghost use Rattle.hyd_option_and_rule_lines.specs.Meanings.{IsDemandSet, IsOption
 use crate::keywords::{flow_unit, option_word};
 use hyd_lex::{Line, Lines, is_keyword};
 use hyd_net::Cause;
+use hyd_net::ranges::GREATEST_MULTIPLIER;
 use hyd_num::{Decimal, FlowUnit};
 use hyd_row_words::{
     either_keyword, ends, id, keyword, needed, not_negative, number, number_within, or_empty,
     word_is,
 };
 use hyd_spec_input::OptionWord;
-
-const GREATEST_MULTIPLIER: i128 = 1_000_000 * 1_000_000_000;
 
 const ONE: i128 = 1_000_000_000;
 

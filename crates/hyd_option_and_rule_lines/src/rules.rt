@@ -368,7 +368,7 @@ fn action(text: &Lines<'_>, line: &Line) -> Result<ActionLine, Cause>
 /// isn't supported: DEMAND, FILLTIME and DRAINTIME, and quantities that are equal or not (Unsupported 10).
 pub fn read_rule_line(text: &Lines<'_>, line: &Line, acting: bool) -> Result<RuleLine, Cause>
     requires { LiesIn text.now.text line.now }
-    ensures { Judged (form.line_words acting (words_at text.now line.now)) result
+    ensures { Judged (form.words_of_rule_line acting (words_at text.now line.now)) result
         (IsRuleLine acting (words_at text.now line.now)) }
 {
     let Some(word) = rule_word(or_empty(text, line, 0)) else {

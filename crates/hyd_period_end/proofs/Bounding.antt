@@ -1,15 +1,14 @@
 -- What certificates tell of a period.
-use Rattle.std.proofs.Common.{◌≡◌, ℕ, zero, suc, ◌+◌, ℤ, pos, ◌-ℤ◌, ◌≤ℤ◌, List, [], ◌∷◌, ◌++◌, length, map, refl}
-use Rattle.std.proofs.Common.{sym, ap, ◌∙◌, arith}
-use Rattle.std.specs.Prelude.{Some, slice_get, All}
+use Rattle.std.proofs.Common.{◌≡◌, ℕ, ◌+◌, ℤ, pos, List, ◌++◌, length, map, sym, ap, ◌∙◌, arith}
+use Rattle.std.specs.Prelude.{All}
 use Rattle.std.proofs.lemmas.Int.{ints}
 use Rattle.std.proofs.lemmas.List.{length-map, length-append}
 use Rattle.hyd_num.specs.declared.decimals.Span.{Span}
 use Rattle.hyd_net.specs.ListView.{ListView}
 use Rattle.hyd_spec.specs.ProgramTypes.{Project, Tank}
 use Rattle.hyd_spec.specs.Lists.{map_from}
-use Rattle.hyd_spec.specs.Assignment.{head_at}
 use Rattle.hyd_spec.specs.NodeNumbers.{tank_count, nodes_before_tanks}
+use Rattle.hyd_spec_certificates.specs.Spans.{levels_of, flows_of}
 use Rattle.hyd_spec_certificates.specs.declared.Problem.TheVariants.{Main, Pinned}
 use Rattle.hyd_spec_certificates.specs.declared.Side.TheVariants.{Upper, Lower}
 use Rattle.hyd_spec_certificates.specs.Interval.{Interval}
@@ -19,18 +18,17 @@ use Rattle.hyd_spec_certificates.specs.RecordAndStanding.{Record, Standing}
 use Rattle.hyd_spec_certificates.specs.Decided.{heads_below, heads_above, inflow_of_tank}
 use Rattle.hyd_spec_certificates.specs.Valid.{AreCertificates}
 use Rattle.hyd_theorems_on_definitions.specs.TermsOfTheorems.{IsSteady}
+use Rattle.hyd_theorems_on_definitions.proofs.HeadLists.{fixed-in-order, ends-in-order}
 use Rattle.hyd_theorems_on_nesting.proofs.TwoSides.{heads_below_plus}
 use Rattle.hyd_cert.specs.RecordView.{row_of}
 use Rattle.hyd_cert.specs.declared.record.Record.{Record as Row}
-use Rattle.hyd_controls_and_rules.specs.RuleReadings.{flow_interval}
-use Rattle.hyd_period_network.specs.NetAsPeriodNetwork.{grid_of, interval_of}
+use Rattle.hyd_period_network.specs.NetAsPeriodNetwork.{grid_of}
 use Rattle.hyd_period_network.specs.NetView.{NetView}
 use Rattle.hyd_period_network.specs.Periods.{IsNetOf, ends_of}
 use Rattle.hyd_period_network.proofs.Counts.{junctions_count, links_count}
 use Rattle.hyd_period_network.proofs.Sounding.{long_zipped}
 use Rattle.hyd_bounds.specs.VectorsInOrder.{TanksInOrder, IsVector, AreInOrder}
 use Rattle.hyd_tank.specs.StockIntervals.{IsInflow}
-use Rattle.hyd_period_facts.specs.FactsOfPeriod.{flows_of}
 use Rattle.hyd_period_facts.specs.declared.facts.Facts.{Facts}
 use Rattle.hyd_tank_inflows.specs.Inflows.{ArePinned}
 use Rattle.hyd_tank_inflows.proofs.Numbered.{as_long}
@@ -40,21 +38,8 @@ use Rattle.hyd_period_end.specs.FactsBeforeVectors.{AreBegun, AreReady}
 
 -- ---- vectors
 
-ends-in-order : (k : ℕ) (tanks : List Interval) → ((n : ℕ) (x : Interval) → slice_get tanks n ≡ Some x → x.lo ≤ℤ x.hi)
-    → (m : ℕ) → (head_at (map_from (λ (i : ℕ) (x : Interval). x.lo) k tanks) m -ℤ head_at (map_from (λ (i : ℕ) (x :
-    Interval). x.hi) k tanks) m) ≤ℤ pos 0
-ends-in-order k [] order m = omega (arith, ints)
-ends-in-order k (x ∷ tanks) order zero = let le = order 0 x refl in omega (arith, ints, le)
-ends-in-order k (x ∷ tanks) order (suc m) = ends-in-order (suc k) tanks (λ n y at. order (suc n) y at) m
-
-fixed-in-order : (reservoirs xs ys : List ℤ) → ((m : ℕ) → (head_at xs m -ℤ head_at ys m) ≤ℤ pos 0)
-    → (m : ℕ) → (head_at (reservoirs ++ xs) m -ℤ head_at (reservoirs ++ ys) m) ≤ℤ pos 0
-fixed-in-order [] xs ys within m = within m
-fixed-in-order (r ∷ reservoirs) xs ys within zero = omega (arith, ints)
-fixed-in-order (r ∷ reservoirs) xs ys within (suc m) = fixed-in-order reservoirs xs ys within m
-
-module _ (network : Project) (net : NetView) (row : Record) (of : IsNetOf network net)
-    (certificates : AreCertificates network (grid_of net) row) where
+module _ (project : Project) (net : NetView) (row : Record) (of : IsNetOf project net)
+    (certificates : AreCertificates project (grid_of net) row) where
   abbrev under : IsCertificate (grid_of net) Main Lower row.main.lower
   under = certificates.each Main Lower tt
 
@@ -81,7 +66,7 @@ module _ (network : Project) (net : NetView) (row : Record) (of : IsNetOf networ
       (ends-in-order 0 (grid_of net).tanks order) k in omega (arith, ints, f))) m
 
   long-heads : (u : List ℤ) → IsVector net u
-      → length (u ++ (grid_of net).reservoirs) ≡ nodes_before_tanks network
+      → length (u ++ (grid_of net).reservoirs) ≡ nodes_before_tanks project
   long-heads u is =
       let joined = length-append u net.reservoirs in
       let own = is.one_each in
@@ -90,26 +75,26 @@ module _ (network : Project) (net : NetView) (row : Record) (of : IsNetOf networ
       omega (arith, joined, own, others, zipped)
 
   module _ (low high : List ℤ) (flows : List Span) (read : AreRead (grid_of net) row low high flows) where
-    pub each-low : length low ≡ nodes_before_tanks network
+    pub each-low : length low ≡ nodes_before_tanks project
     each-low = ap length read.low_is ∙ long-heads row.main.lower lower-is
 
-    pub each-high : length high ≡ nodes_before_tanks network
+    pub each-high : length high ≡ nodes_before_tanks project
     each-high = ap length read.high_is ∙ long-heads row.main.upper upper-is
 
-    pub each-flow : length flows ≡ length network.links.list
+    pub each-flow : length flows ≡ length project.links.list
     each-flow =
-        let ends : length net.ends ≡ length network.links.list =
-        ap length of.ends ∙ length-map network.links.list ends_of in
+        let ends : length net.ends ≡ length project.links.list =
+        ap length of.ends ∙ length-map project.links.list ends_of in
         let links = links_count net.ends net.settings net.own (of.each_setting ∙ sym ends) (of.each_own ∙ sym ends) in
-        sym (length-map flows flow_interval) ∙ ap length read.flows_are ∙ length-map (grid_of net).links _ ∙ links
+        sym (length-map flows flows_of) ∙ ap length read.flows_are ∙ length-map (grid_of net).links _ ∙ links
         ∙ ends
 
 -- both vectors that pin a tank are certificates
-pub pinned-of : (network : Project) (net : NetView) (row : Row) → IsNetOf network net
-    → AreCertificates network (grid_of net) (row_of row) → row.tanks ≡ tank_count network → ArePinned (grid_of net) row
-pinned-of network net row of certificates tanks =
-    let long : length (grid_of net).tanks ≡ tank_count network =
-    length-map net.tanks interval_of ∙ of.each_tank in
+pub pinned-of : (project : Project) (net : NetView) (row : Row) → IsNetOf project net
+    → AreCertificates project (grid_of net) (row_of row) → row.tanks ≡ tank_count project → ArePinned (grid_of net) row
+pinned-of project net row of certificates tanks =
+    let long : length (grid_of net).tanks ≡ tank_count project =
+    length-map net.tanks levels_of ∙ of.each_tank in
     record {
       tanks = tanks ∙ sym long;
       each = λ tank side less. certificates.each (Pinned tank) side (omega (arith, less, long));
@@ -117,25 +102,25 @@ pinned-of network net row of certificates tanks =
 
 -- ---- facts
 
-pub have-tanks : (network : Project) (grid : Grid) (row : Record) (facts : Facts) (inflows : ListView Span)
-    → AreReady network facts
-    → map flows_of inflows.list ≡ map_from (λ k tank. inflow_of_tank network grid row k) 0 network.tanks.list
-    → All IsInflow inflows.list → HaveTanks network (record facts { inflows = inflows })
-have-tanks network grid row facts inflows ready are small = record {
+pub have-tanks : (project : Project) (grid : Grid) (row : Record) (facts : Facts) (inflows : ListView Span)
+    → AreReady project facts
+    → map flows_of inflows.list ≡ map_from (λ k tank. inflow_of_tank project grid row k) 0 project.tanks.list
+    → All IsInflow inflows.list → HaveTanks project (record facts { inflows = inflows })
+have-tanks project grid row facts inflows ready are small = record {
   levels = ready.levels;
   volumes = ready.volumes;
   inflows = sym (length-map inflows.list flows_of) ∙ ap length are
-      ∙ as_long (λ k (tank : Tank). inflow_of_tank network grid row k) 0 network.tanks.list;
+      ∙ as_long (λ k (tank : Tank). inflow_of_tank project grid row k) 0 project.tanks.list;
   tanks = ready.tanks;
   held = ready.held;
   small = small;
 }
 
-pub are-started : (network : Project) (grid : Grid) (standing : Standing) (row : Record) (facts : Facts)
+pub are-started : (project : Project) (grid : Grid) (standing : Standing) (row : Record) (facts : Facts)
     (inflows : ListView Span)
-    → map flows_of inflows.list ≡ map_from (λ k tank. inflow_of_tank network grid row k) 0 network.tanks.list
-    → AreBegun network standing facts → AreStarted network grid standing row (record facts { inflows = inflows })
-are-started network grid standing row facts inflows are begun = record {
+    → map flows_of inflows.list ≡ map_from (λ k tank. inflow_of_tank project grid row k) 0 project.tanks.list
+    → AreBegun project standing facts → AreStarted project grid standing row (record facts { inflows = inflows })
+are-started project grid standing row facts inflows are begun = record {
   time = begun.time;
   levels = begun.levels;
   volumes = begun.volumes;

@@ -5,6 +5,7 @@ use Rattle.hyd_num.specs.declared.decimals.Span.{Span}
 use Rattle.hyd_spec.specs.ProgramTypes.{Project, Tank, LinkState}
 use Rattle.hyd_spec.specs.Lists.{map_from}
 use Rattle.hyd_spec.specs.declared.Change.{Change}
+use Rattle.hyd_spec_certificates.specs.Spans.{flows_of, levels_of}
 use Rattle.hyd_spec_certificates.specs.Interval.{Interval}
 use Rattle.hyd_spec_certificates.specs.PeriodNetwork.{Grid}
 use Rattle.hyd_spec_certificates.specs.RecordAndStanding.{Record, Standing, Vectors}
@@ -16,9 +17,8 @@ use Rattle.hyd_spec_reports.specs.declared.Event.{Event}
 use Rattle.hyd_spec_reports.specs.Report.{EndBrings, by_rules as brings_by_rules, by_clock as brings_by_clock}
 use Rattle.hyd_spec_reports.specs.Report.{events_of}
 use Rattle.hyd_spec_reports.specs.Stops.{open_states}
-use Rattle.hyd_period_facts.specs.FactsOfPeriod.{levels_of, volumes_of, flows_of}
+use Rattle.hyd_tank.specs.StockIntervals.{volumes_of}
 use Rattle.hyd_period_facts.specs.declared.facts.Facts.{Facts}
-use Rattle.hyd_controls_and_rules.specs.RuleReadings.{flow_interval}
 use Rattle.hyd_controls_and_rules.specs.PumpPatternsAndSimpleControls.{IsFirstOpen as IsFirstUnsure}
 use Rattle.hyd_controls_and_rules.specs.declared.pump_patterns_and_simple_controls.LevelOpen.{LevelOpen}
 use Rattle.hyd_period_stocks.specs.TankStart.{IsFirstOpen}
@@ -30,27 +30,27 @@ use Rattle.hyd_period_end.specs.EndOfPeriod.{Decides, EndsAfter, by_rules, by_cl
 use Rattle.hyd_period_end.specs.declared.period_end.PeriodEnd.{PeriodEnd}
 use Rattle.hyd_period_end.specs.OpenMatters.{EndsWith, IsFirstControl, SharesVectors}
 
-module _ (network : Project) (grid : Grid) (standing : Standing) (row : Record) (seconds : ℕ)
+module _ (project : Project) (grid : Grid) (standing : Standing) (row : Record) (seconds : ℕ)
     (links : List LinkState) (levels : List LevelSpan)
-    (next : map levels_of levels ≡ levels_next network grid standing row seconds)
-    (leaves : LeavesLinks network grid standing row seconds links) where
+    (next : map levels_of levels ≡ levels_next project grid standing row seconds)
+    (leaves : LeavesLinks project grid standing row seconds links) where
   -- a tank that is open at the levels
-  pub open-tank : (found : TankOpen) → IsFirstOpen network (map levels_of levels) found
-      → EndsWith network grid standing row (λ at. IsFirstOpen network at found)
+  pub open-tank : (found : TankOpen) → IsFirstOpen project (map levels_of levels) found
+      → EndsWith project grid standing row (λ at. IsFirstOpen project at found)
   open-tank found first = record {
     seconds = seconds;
     links = links;
     leaves = leaves;
-    at_levels = subst (λ (at : List Interval). IsFirstOpen network at found) next first;
+    at_levels = subst (λ (at : List Interval). IsFirstOpen project at found) next first;
   }
 
   -- a control that is open there
   pub open-control : (found : LevelOpen)
-      → position (λ is_open. is_open) (open_states network (map levels_of levels)) ≡ None
-      → IsFirstUnsure network levels found
-      → EndsWith network grid standing row (λ at. IsFirstControl network at found)
+      → position (λ is_open. is_open) (open_states project (map levels_of levels)) ≡ None
+      → IsFirstUnsure project levels found
+      → EndsWith project grid standing row (λ at. IsFirstControl project at found)
   open-control found decided first =
-      let there : IsFirstControl network (map levels_of levels) found = record {
+      let there : IsFirstControl project (map levels_of levels) found = record {
         tanks_decided = decided;
         first = first.first;
         control = first.control;
@@ -65,31 +65,31 @@ module _ (network : Project) (grid : Grid) (standing : Standing) (row : Record) 
         seconds = seconds;
         links = links;
         leaves = leaves;
-        at_levels = subst (λ (at : List Interval). IsFirstControl network at found) next there;
+        at_levels = subst (λ (at : List Interval). IsFirstControl project at found) next there;
       }
 
 -- what a decided end brings
-pub brings-so : (network : Project) (grid : Grid) (standing : Standing) (row : Record) (seconds : ℕ)
+pub brings-so : (project : Project) (grid : Grid) (standing : Standing) (row : Record) (seconds : ℕ)
     (changes : List Change) (events : List Event) → row.length ≡ seconds
-    → events ≡ events_of network grid standing row → EndsAfter network grid standing row seconds changes
-    → EndBrings network grid standing row events changes
-brings-so network grid standing row seconds changes events long are ends =
-    subst (λ (es : List Event). EndBrings network grid standing row es changes) (sym are)
+    → events ≡ events_of project grid standing row → EndsAfter project grid standing row seconds changes
+    → EndBrings project grid standing row events changes
+brings-so project grid standing row seconds changes events long are ends =
+    subst (λ (es : List Event). EndBrings project grid standing row es changes) (sym are)
     (by seconds changes long ends)
   where
-    by : (s : ℕ) (cs : List Change) → row.length ≡ s → EndsAfter network grid standing row s cs
-        → EndBrings network grid standing row (events_of network grid standing row) cs
-    by s _ e (by_rules is) = subst (λ (n : ℕ). EndBrings network grid standing row
-        (events_of network grid standing row) (decided_changes network grid standing row n)) e
-        (brings_by_rules (subst (λ (n : ℕ). EndsBy network grid standing row (ByRules n)) (sym e) is))
+    by : (s : ℕ) (cs : List Change) → row.length ≡ s → EndsAfter project grid standing row s cs
+        → EndBrings project grid standing row (events_of project grid standing row) cs
+    by s _ e (by_rules is) = subst (λ (n : ℕ). EndBrings project grid standing row
+        (events_of project grid standing row) (decided_changes project grid standing row n)) e
+        (brings_by_rules (subst (λ (n : ℕ). EndsBy project grid standing row (ByRules n)) (sym e) is))
     by s _ e (by_clock is) = brings_by_clock
-        (subst (λ (n : ℕ). EndsBy network grid standing row (WithoutRules n)) (sym e) is)
+        (subst (λ (n : ℕ). EndsBy project grid standing row (WithoutRules n)) (sym e) is)
 
 -- ---- facts as they are completed
 
-pub have-changed : (network : Project) (before now : Facts) → now ≡ record before { changes = now.changes }
-    → HaveTanks network before → HaveTanks network now
-have-changed network before now keeps have = subst (HaveTanks network) (sym keeps) (record {
+pub have-changed : (project : Project) (before now : Facts) → now ≡ record before { changes = now.changes }
+    → HaveTanks project before → HaveTanks project now
+have-changed project before now keeps have = subst (HaveTanks project) (sym keeps) (record {
   levels = have.levels;
   volumes = have.volumes;
   inflows = have.inflows;
@@ -98,9 +98,9 @@ have-changed network before now keeps have = subst (HaveTanks network) (sym keep
   small = have.small;
 })
 
-pub have-ended : (network : Project) (before now : Facts) (seconds : ℕ)
-    → now ≡ record before { length = seconds; events = now.events } → HaveTanks network before → HaveTanks network now
-have-ended network before now seconds keeps have = subst (HaveTanks network) (sym keeps) (record {
+pub have-ended : (project : Project) (before now : Facts) (seconds : ℕ)
+    → now ≡ record before { length = seconds; events = now.events } → HaveTanks project before → HaveTanks project now
+have-ended project before now seconds keeps have = subst (HaveTanks project) (sym keeps) (record {
   levels = have.levels;
   volumes = have.volumes;
   inflows = have.inflows;
@@ -109,10 +109,10 @@ have-ended network before now seconds keeps have = subst (HaveTanks network) (sy
   small = have.small;
 })
 
-module _ (network : Project) (grid : Grid) (standing : Standing) where
+module _ (project : Project) (grid : Grid) (standing : Standing) where
   pub started-changed : (row : Record) (before now : Facts) → now ≡ record before { changes = now.changes }
-      → AreStarted network grid standing row before → AreStarted network grid standing row now
-  started-changed row before now keeps started = subst (AreStarted network grid standing row) (sym keeps) (record {
+      → AreStarted project grid standing row before → AreStarted project grid standing row now
+  started-changed row before now keeps started = subst (AreStarted project grid standing row) (sym keeps) (record {
     time = started.time;
     levels = started.levels;
     volumes = started.volumes;
@@ -123,13 +123,13 @@ module _ (network : Project) (grid : Grid) (standing : Standing) where
 
   -- records that share their vectors
   pub started-shared : (row other : Record) (facts : Facts) → SharesVectors other row
-      → AreStarted network grid standing row facts → AreStarted network grid standing other facts
+      → AreStarted project grid standing row facts → AreStarted project grid standing other facts
   started-shared row other facts share started = record {
     time = started.time;
     levels = started.levels;
     volumes = started.volumes;
     inflows = started.inflows ∙ ap (λ (vs : List Vectors).
-        map_from (λ k (tank : Tank). inflow_of_tank network grid (record other { pinned = vs }) k) 0 network.tanks.list)
+        map_from (λ k (tank : Tank). inflow_of_tank project grid (record other { pinned = vs }) k) 0 project.tanks.list)
         (sym share.pinned);
     tanks = started.tanks;
     links = started.links;
@@ -145,24 +145,24 @@ module _ (network : Project) (grid : Grid) (standing : Standing) where
 
   -- a period that is over
   pub closed-of : (row : Record) (seconds : ℕ) (begun looked decided told : Facts) (close : PeriodEnd)
-      → row.length ≡ seconds → AreBegun network standing begun → looked ≡ record begun { inflows = looked.inflows }
-      → AreStarted network grid standing row looked → decided ≡ record looked { changes = decided.changes }
+      → row.length ≡ seconds → AreBegun project standing begun → looked ≡ record begun { inflows = looked.inflows }
+      → AreStarted project grid standing row looked → decided ≡ record looked { changes = decided.changes }
       → told ≡ record decided { length = seconds; events = told.events }
-      → Decides network grid standing row seconds close.commanded.items looked.changes.list decided.changes.list
-      → told.events.list ≡ events_of network grid standing row
-      → map levels_of close.next.levels.list ≡ levels_next network grid standing row seconds
-      → map volumes_of close.next.volumes.list ≡ volumes_next network grid standing row seconds
-      → AreStates network (map levels_of close.next.levels.list) close.next.tanks.list
-      → ControlsAreDecided network (map levels_of close.next.levels.list)
-      → IsClosed network grid standing row told close
+      → Decides project grid standing row seconds close.commanded.items looked.changes.list decided.changes.list
+      → told.events.list ≡ events_of project grid standing row
+      → map levels_of close.next.levels.list ≡ levels_next project grid standing row seconds
+      → map volumes_of close.next.volumes.list ≡ volumes_next project grid standing row seconds
+      → AreStates project (map levels_of close.next.levels.list) close.next.tanks.list
+      → ControlsAreDecided project (map levels_of close.next.levels.list)
+      → IsClosed project grid standing row told close
   closed-of row seconds begun looked decided told close long is keep_looked started keep_decided keep_told decides
       events levels volumes states controls = record {
-        leaves = subst (λ (n : ℕ). LeavesLinks network grid standing row n close.commanded.items) (sym long)
+        leaves = subst (λ (n : ℕ). LeavesLinks project grid standing row n close.commanded.items) (sym long)
             decides.leaves;
         levels = at_end;
-        volumes = volumes ∙ ap (λ (n : ℕ). volumes_next network grid standing row n) (sym long);
-        tanks = subst (λ (ls : List Interval). AreStates network ls close.next.tanks.list) at_end states;
-        controls = subst (ControlsAreDecided network) at_end controls;
+        volumes = volumes ∙ ap (λ (n : ℕ). volumes_next project grid standing row n) (sym long);
+        tanks = subst (λ (ls : List Interval). AreStates project ls close.next.tanks.list) at_end states;
+        controls = subst (ControlsAreDecided project) at_end controls;
         facts_are = record {
           time = ap (λ (f : Facts). f.time) keep_told ∙ ap (λ (f : Facts). f.time) keep_decided ∙ started.time;
           length = ap (λ (f : Facts). f.length) keep_told ∙ sym long;
@@ -180,13 +180,13 @@ module _ (network : Project) (grid : Grid) (standing : Standing) where
           changes = ap (λ (f : Facts). f.changes.list) keep_told ∙ decides.changes_are
               ∙ ap (λ (cs : List Change). cs ++ decides.by_rules)
               (ap (λ (f : Facts). f.changes.list) keep_looked ∙ is.changes);
-          brings = brings-so network grid standing row seconds decides.by_rules told.events.list long events
+          brings = brings-so project grid standing row seconds decides.by_rules told.events.list long events
               decides.ends;
         };
       }
     where
-      at_end : map levels_of close.next.levels.list ≡ levels_next network grid standing row row.length
-      at_end = levels ∙ ap (λ (n : ℕ). levels_next network grid standing row n) (sym long)
+      at_end : map levels_of close.next.levels.list ≡ levels_next project grid standing row row.length
+      at_end = levels ∙ ap (λ (n : ℕ). levels_next project grid standing row n) (sym long)
 
 -- readings that are handed on as slices
 pub read-at : (grid : Grid) (row : Record) (low high : List ℤ) (flows : List Span) (below above : List ℤ)
@@ -195,7 +195,7 @@ pub read-at : (grid : Grid) (row : Record) (low high : List ℤ) (flows : List S
 read-at grid row low high flows below above passing l h f read = record {
   low_is = l ∙ read.low_is;
   high_is = h ∙ read.high_is;
-  flows_are = ap (map flow_interval) f ∙ read.flows_are;
+  flows_are = ap (map flows_of) f ∙ read.flows_are;
 }
 
 -- what holds of an answer

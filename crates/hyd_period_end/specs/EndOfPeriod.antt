@@ -5,12 +5,13 @@ use Rattle.hyd_spec.specs.ProgramTypes.{Project, LinkState, Tank}
 use Rattle.hyd_spec.specs.NodeNumbers.{tank_count}
 use Rattle.hyd_spec.specs.Tank.{walls_of}
 use Rattle.hyd_spec.specs.declared.Change.{Change}
+use Rattle.hyd_spec_certificates.specs.Spans.{levels_of}
 use Rattle.hyd_spec_certificates.specs.PeriodNetwork.{Grid}
 use Rattle.hyd_spec_certificates.specs.RecordAndStanding.{Record, Standing}
 use Rattle.hyd_spec_certificates.specs.Decided.{EndsBy, ByRules, WithoutRules, decided_changes}
 use Rattle.hyd_spec_certificates.specs.Valid.{LeavesLinks, levels_next, volumes_next, AreStates, ControlsAreDecided}
-use Rattle.hyd_tank.specs.StockIntervals.{AreHeld}
-use Rattle.hyd_period_facts.specs.FactsOfPeriod.{AreFacts, levels_of, volumes_of}
+use Rattle.hyd_tank.specs.StockIntervals.{AreHeld, volumes_of}
+use Rattle.hyd_period_facts.specs.FactsOfPeriod.{AreFacts}
 use Rattle.hyd_period_facts.specs.ReservedMemory.{Takes}
 use Rattle.hyd_period_facts.specs.declared.facts.Facts.{Facts}
 use Rattle.hyd_rule_operands.specs.ReservedMemory.{HasRoom as HasReadingsRoom}
@@ -20,41 +21,41 @@ use Rattle.hyd_period_stocks.specs.declared.tanks_at_start.TankStart.{TankStart}
 use Rattle.hyd_period_end.specs.declared.period_end.PeriodEnd.{PeriodEnd}
 
 -- there is room for each period of a network
-pub record HasRoom (network : Project) (close : PeriodEnd) : Type 0 where
-  pub readings : HasReadingsRoom network close.readings
-  pub carried : Takes close.carried (tank_count network)
-  pub values : length close.values.items ≡ length network.rules.list
-  pub commanded : length close.commanded.items ≡ length network.links.list
-  pub next : HasNextRoom network close.next
+pub record HasRoom (project : Project) (close : PeriodEnd) : Type 0 where
+  pub readings : HasReadingsRoom project close.readings
+  pub carried : Takes close.carried (tank_count project)
+  pub values : length close.values.items ≡ length project.rules.list
+  pub commanded : length close.commanded.items ≡ length project.links.list
+  pub next : HasNextRoom project close.next
 
 -- the stocks lie within the bounds of their tanks
 abbrev pub AreKeptIn : Project → TankStart → Type 0
-AreKeptIn network next = (k : ℕ) (tank : Tank) → slice_get network.tanks.list k ≡ Some tank
-    → AreHeld (walls_of network tank) tank (stocks_among next.levels.list next.volumes.list k)
+AreKeptIn project next = (k : ℕ) (tank : Tank) → slice_get project.tanks.list k ≡ Some tank
+    → AreHeld (walls_of project tank) tank (stocks_among next.levels.list next.volumes.list k)
 
 -- a period ends, decidedly, after so many seconds, and its rules change this
-pub data EndsAfter (network : Project) (grid : Grid) (standing : Standing) (row : Record) (seconds : ℕ) : List Change
+pub data EndsAfter (project : Project) (grid : Grid) (standing : Standing) (row : Record) (seconds : ℕ) : List Change
     → Type 0 where
-  by_rules : EndsBy network grid standing row (ByRules seconds)
-      → EndsAfter network grid standing row seconds (decided_changes network grid standing row seconds)
-  by_clock : EndsBy network grid standing row (WithoutRules seconds) → EndsAfter network grid standing row seconds []
+  by_rules : EndsBy project grid standing row (ByRules seconds)
+      → EndsAfter project grid standing row seconds (decided_changes project grid standing row seconds)
+  by_clock : EndsBy project grid standing row (WithoutRules seconds) → EndsAfter project grid standing row seconds []
 
 -- the vectors of a record decide that the period ends after so many seconds and leaves the links commanded so; what its
 -- rules change stands behind the changes before
-pub record Decides (network : Project) (grid : Grid) (standing : Standing) (row : Record) (seconds : ℕ)
+pub record Decides (project : Project) (grid : Grid) (standing : Standing) (row : Record) (seconds : ℕ)
     (links : List LinkState) (before after : List Change) : Type 0 where
-  pub leaves : LeavesLinks network grid standing row seconds links
+  pub leaves : LeavesLinks project grid standing row seconds links
   pub by_rules : List Change
-  pub ends : EndsAfter network grid standing row seconds by_rules
+  pub ends : EndsAfter project grid standing row seconds by_rules
   pub changes_are : after ≡ before ++ by_rules
 
 -- a period that begins at a standing is over: its length is the decided one, what follows it is decided, and the facts
 -- are its own
-pub record IsClosed (network : Project) (grid : Grid) (standing : Standing) (row : Record) (facts : Facts)
+pub record IsClosed (project : Project) (grid : Grid) (standing : Standing) (row : Record) (facts : Facts)
     (close : PeriodEnd) : Type 0 where
-  pub leaves : LeavesLinks network grid standing row row.length close.commanded.items
-  pub levels : map levels_of close.next.levels.list ≡ levels_next network grid standing row row.length
-  pub volumes : map volumes_of close.next.volumes.list ≡ volumes_next network grid standing row row.length
-  pub tanks : AreStates network (levels_next network grid standing row row.length) close.next.tanks.list
-  pub controls : ControlsAreDecided network (levels_next network grid standing row row.length)
-  pub facts_are : AreFacts network grid standing row facts
+  pub leaves : LeavesLinks project grid standing row row.length close.commanded.items
+  pub levels : map levels_of close.next.levels.list ≡ levels_next project grid standing row row.length
+  pub volumes : map volumes_of close.next.volumes.list ≡ volumes_next project grid standing row row.length
+  pub tanks : AreStates project (levels_next project grid standing row row.length) close.next.tanks.list
+  pub controls : ControlsAreDecided project (levels_next project grid standing row row.length)
+  pub facts_are : AreFacts project grid standing row facts

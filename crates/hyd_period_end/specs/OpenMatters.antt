@@ -20,20 +20,20 @@ pub record SharesVectors (one other : Record) : Type 0 where
   pub pinned : one.pinned ≡ other.pinned
 
 -- the end of a period is decided, and something holds of the level intervals there
-pub record EndsWith (network : Project) (grid : Grid) (standing : Standing) (row : Record)
+pub record EndsWith (project : Project) (grid : Grid) (standing : Standing) (row : Record)
     (holds : List Interval → Type 0) : Type 0 where
   pub seconds : ℕ
   pub links : List LinkState
-  pub leaves : LeavesLinks network grid standing row seconds links
-  pub at_levels : holds (levels_next network grid standing row seconds)
+  pub leaves : LeavesLinks project grid standing row seconds links
+  pub at_levels : holds (levels_next project grid standing row seconds)
 
 -- the first level control that is open at level intervals, all states of tanks being decided there, and its tank's
 -- interval
-pub record IsFirstControl (network : Project) (levels : List Interval) (found : LevelOpen) : Type 0 where
-  pub tanks_decided : position (λ is_open. is_open) (open_states network levels) ≡ None
-  pub first : position (is_open_control levels) network.controls.list ≡ Some found.control
+pub record IsFirstControl (project : Project) (levels : List Interval) (found : LevelOpen) : Type 0 where
+  pub tanks_decided : position (λ is_open. is_open) (open_states project levels) ≡ None
+  pub first : position (is_open_control levels) project.controls.list ≡ Some found.control
   pub control : Command
-  pub is_control : slice_get network.controls.list found.control ≡ Some control
+  pub is_control : slice_get project.controls.list found.control ≡ Some control
   pub tank : ℕ
   pub above : Bool
   pub ticks : ℤ
@@ -43,10 +43,10 @@ pub record IsFirstControl (network : Project) (levels : List Interval) (found : 
 -- the vectors of a record leave this open: a rule or the end of the period, or where that is decided the state of a
 -- tank or a level control there
 abbrev pub IsOpenAt : Project → Grid → Standing → Record → Open → Type 0
-IsOpenAt network grid standing row (Rule found) = EndsBy network grid standing row (RuleIsOpen (open_rule found))
-IsOpenAt network grid standing row (Event earliest latest) =
-    EndsBy network grid standing row (EventIsOpen earliest latest)
-IsOpenAt network grid standing row (Tank found) =
-    EndsWith network grid standing row (λ levels. IsFirstOpen network levels found)
-IsOpenAt network grid standing row (Control found) =
-    EndsWith network grid standing row (λ levels. IsFirstControl network levels found)
+IsOpenAt project grid standing row (Rule found) = EndsBy project grid standing row (RuleIsOpen (open_rule found))
+IsOpenAt project grid standing row (Event earliest latest) =
+    EndsBy project grid standing row (EventIsOpen earliest latest)
+IsOpenAt project grid standing row (Tank found) =
+    EndsWith project grid standing row (λ levels. IsFirstOpen project levels found)
+IsOpenAt project grid standing row (Control found) =
+    EndsWith project grid standing row (λ levels. IsFirstControl project levels found)

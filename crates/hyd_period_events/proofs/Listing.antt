@@ -1,11 +1,12 @@
 -- Events, one after another.
-use Rattle.std.proofs.Common.{◌≡◌, ℕ, zero, suc, ◌+◌, ◌<◌, ◌≤◌, List, [], ◌∷◌, ◌++◌, length, take, refl, ap, sym, ◌∙◌}
-use Rattle.std.proofs.Common.{append_assoc, arith}
-use Rattle.std.specs.Prelude.{Option, Some, None, map, slice_get}
+use Rattle.std.proofs.Common.{◌≡◌, ℕ, zero, suc, ◌+◌, ◌<◌, ◌≤◌, List, [], ◌∷◌, ◌++◌, length, take, ap, sym, ◌∙◌}
+use Rattle.std.proofs.Common.{append_assoc, arith, append-nil}
+use Rattle.std.specs.Prelude.{Option, Some, map, slice_get}
 use Rattle.std.proofs.lemmas.List.{take_all, length-map}
 use Rattle.hyd_spec.specs.ProgramTypes.{Project, Tank, Control}
 use Rattle.hyd_spec.specs.declared.TankState.{TankState}
 use Rattle.hyd_spec.specs.Lists.{map_from, present}
+use Rattle.hyd_spec_certificates.specs.Spans.{levels_of}
 use Rattle.hyd_spec_certificates.specs.Interval.{Interval}
 use Rattle.hyd_spec_certificates.specs.PeriodNetwork.{Grid}
 use Rattle.hyd_spec_certificates.specs.RecordAndStanding.{Record, Standing}
@@ -13,17 +14,8 @@ use Rattle.hyd_spec_certificates.specs.Decided.{carried_at}
 use Rattle.hyd_spec_certificates.specs.declared.LevelSpan.{LevelSpan}
 use Rattle.hyd_spec_reports.specs.declared.Event.{Event}
 use Rattle.hyd_spec_reports.specs.Report.{tank_event, tank_events, events_of}
-use Rattle.hyd_period_facts.specs.FactsOfPeriod.{levels_of}
 use Rattle.hyd_period_events.specs.Events.{events_by}
-
-append_nil : {X : Type 0} (xs : List X) → xs ++ [] ≡ xs
-append_nil {X} [] = refl
-append_nil {X} (x ∷ xs) = ap (λ (ys : List X). x ∷ ys) (append_nil xs)
-
-found : {X : Type 0} (xs : List X) (i : ℕ) → i < length xs → (x : X) × (slice_get xs i ≡ Some x)
-found {X} [] i h = absurd (omega (arith, h))
-found {X} (x ∷ xs) zero h = (x, refl)
-found {X} (x ∷ xs) (suc i) h = found xs i (omega (arith, h))
+use Rattle.hyd_lemmas.proofs.ListsAndOptions.{item_there, present_push}
 
 -- ---- tanks
 
@@ -39,7 +31,7 @@ tank_more k zero (t ∷ tanks) (s ∷ states) (l ∷ levels) tank state level at
     let one : t ≡ tank = cc in
     let two : s ≡ state = cc in
     let three : l ≡ level = cc in
-    append_nil (tank_event k t s l)
+    append-nil (tank_event k t s l)
     ∙ ap (λ (x : Tank). tank_event k x s l) one
     ∙ ap (λ (x : TankState). tank_event k tank x l) two
     ∙ ap (λ (x : Interval). tank_event k tank state x) three
@@ -68,9 +60,9 @@ pub tank_further : (tanks : List Tank) (states : List TankState) (levels : List 
     → list ++ here
     ≡ start ++ tank_events 0 (take (i + 1) tanks) (take (i + 1) states) (take (i + 1) (map levels_of levels))
 tank_further tanks states levels start list here i a b c are is =
-    let tank = found tanks i a in
-    let state = found states i b in
-    let level = found levels i c in
+    let tank = item_there tanks i a in
+    let state = item_there states i b in
+    let level = item_there levels i c in
     let before = tank_events 0 (take i tanks) (take i states) (take i (map levels_of levels)) in
     let more = tank_more 0 i tanks states (map levels_of levels) tank.0 state.0 (levels_of level.0) tank.1 state.1
     (level_of levels i level.0 level.1) in
@@ -98,12 +90,6 @@ all_tanks tanks states levels start list i a b c are =
 
 -- ---- controls
 
-present_push : {X : Type 0} (xs : List (Option X)) (o : Option X)
-    → present (xs ++ o ∷ []) ≡ present xs ++ present (o ∷ [])
-present_push {X} [] o = refl
-present_push {X} (Some x ∷ xs) o = ap (λ (ys : List X). x ∷ ys) (present_push xs o)
-present_push {X} (None ∷ xs) o = present_push xs o
-
 numbered_more : (f : ℕ → Control → Option Event) (k i : ℕ) (controls : List Control) (control : Control)
     → slice_get controls i ≡ Some control
     → map_from f k (take (suc i) controls) ≡ map_from f k (take i controls) ++ f (k + i) control ∷ []
@@ -124,7 +110,7 @@ pub control_further : (f : ℕ → Control → Option Event) (controls : List Co
     → ((control : Control) → slice_get controls i ≡ Some control → event ≡ f i control)
     → list ++ present (event ∷ []) ≡ start ++ present (map_from f 0 (take (i + 1) controls))
 control_further f controls start list event i h are is =
-    let there = found controls i h in
+    let there = item_there controls i h in
     let before = map_from f 0 (take i controls) in
     let next = numbered_more f 0 i controls there.0 there.1 in
     ap (λ (es : List Event). es ++ present (event ∷ [])) are
@@ -145,11 +131,11 @@ all_controls f controls start list i past are =
 
 -- ---- all of them
 
-pub events_are : (network : Project) (grid : Grid) (standing : Standing) (row : Record) (states : List TankState)
+pub events_are : (project : Project) (grid : Grid) (standing : Standing) (row : Record) (states : List TankState)
     (levels carried : List Interval) → states ≡ standing.tanks → levels ≡ standing.levels
-    → carried ≡ carried_at network grid standing row row.length
-    → events_by network states levels carried ≡ events_of network grid standing row
-events_are network grid standing row states levels carried a b c =
-    ap (λ (ss : List TankState). events_by network ss levels carried) a
-    ∙ ap (λ (ls : List Interval). events_by network standing.tanks ls carried) b
-    ∙ ap (λ (ls : List Interval). events_by network standing.tanks standing.levels ls) c
+    → carried ≡ carried_at project grid standing row row.length
+    → events_by project states levels carried ≡ events_of project grid standing row
+events_are project grid standing row states levels carried a b c =
+    ap (λ (ss : List TankState). events_by project ss levels carried) a
+    ∙ ap (λ (ls : List Interval). events_by project standing.tanks ls carried) b
+    ∙ ap (λ (ls : List Interval). events_by project standing.tanks standing.levels ls) c

@@ -10,6 +10,6 @@ use Rattle.hyd_spec_reports.specs.Report.{tank_events, control_event}
 -- The events of tanks by their states at the start, then those of level controls by the levels there, both at carried
 -- levels.
 abbrev pub events_by : Project → List TankState → List Interval → List Interval → List Event
-events_by network states levels carried =
-    tank_events 0 network.tanks.list states carried
-    ++ present (map_from (control_event levels carried) 0 network.controls.list)
+events_by project states levels carried =
+    tank_events 0 project.tanks.list states carried
+    ++ present (map_from (control_event levels carried) 0 project.controls.list)

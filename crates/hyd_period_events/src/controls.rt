@@ -7,10 +7,10 @@ ghost use Rattle.hyd_net.specs.ControlsAndRules.{IsControl};
 ghost use Rattle.hyd_spec.specs.ProgramTypes.{Control as Each};
 ghost use Rattle.hyd_spec.specs.Lists.{map_from, present};
 ghost use Rattle.hyd_spec.specs.NodeNumbers.{tank_count};
+ghost use Rattle.hyd_spec_certificates.specs.Spans.{levels_of};
 ghost use Rattle.hyd_spec_certificates.specs.ThreeValuedLogic.{is_yes};
 ghost use Rattle.hyd_spec_certificates.specs.Decided.{acts_on, control_truth, nowhere};
 ghost use Rattle.hyd_spec_reports.specs.Report.{control_event};
-ghost use Rattle.hyd_period_facts.specs.FactsOfPeriod.{levels_of};
 
 use crate::event_list::add_event;
 use hyd_net::{Control, List, Project, When};

@@ -4,11 +4,11 @@
 ghost use Rattle.std.specs.Prelude.{◌≡◌, ◌≤◌, ◌+◌, length, map};
 ghost use Rattle.hyd_net.specs.Sound.{Sound};
 ghost use Rattle.hyd_spec.specs.NodeNumbers.{tank_count};
+ghost use Rattle.hyd_spec_certificates.specs.Spans.{levels_of};
 ghost use Rattle.hyd_spec_certificates.specs.PeriodNetwork.{Grid};
 ghost use Rattle.hyd_spec_certificates.specs.RecordAndStanding.{Record, Standing};
 ghost use Rattle.hyd_spec_certificates.specs.Decided.{carried_at};
 ghost use Rattle.hyd_spec_reports.specs.Report.{events_of};
-ghost use Rattle.hyd_period_facts.specs.FactsOfPeriod.{levels_of};
 ghost use Rattle.hyd_period_events.specs.Events.{events_by};
 
 use crate::controls::add_controls;

@@ -24,11 +24,11 @@ Takes view items = items ≤ length view.list + view.spare
 -- There is room for the facts of each period of a project: for each tank and each link, for a change by each control
 -- and to each
 -- link, and for an event of each tank and each control.
-pub record HasRoom (network : Project) (facts : Facts) : Type 0 where
-  pub levels : Takes facts.levels (tank_count network)
-  pub volumes : Takes facts.volumes (tank_count network)
-  pub inflows : Takes facts.inflows (tank_count network)
-  pub tanks : Takes facts.tanks (tank_count network)
-  pub links : Takes facts.links (length network.links.list)
-  pub changes : Takes facts.changes (length network.controls.list + length network.links.list)
-  pub events : Takes facts.events (tank_count network + length network.controls.list)
+pub record HasRoom (project : Project) (facts : Facts) : Type 0 where
+  pub levels : Takes facts.levels (tank_count project)
+  pub volumes : Takes facts.volumes (tank_count project)
+  pub inflows : Takes facts.inflows (tank_count project)
+  pub tanks : Takes facts.tanks (tank_count project)
+  pub links : Takes facts.links (length project.links.list)
+  pub changes : Takes facts.changes (length project.controls.list + length project.links.list)
+  pub events : Takes facts.events (tank_count project + length project.controls.list)

@@ -1,33 +1,8 @@
 -- What rules with some values change.
-use Rattle.std.proofs.Common.{◌≡◌, ◌≢◌, ℕ, suc, ◌+◌, ◌<◌, ◌≤◌, List, [], ◌∷◌, ◌++◌, length, Bool, Option, Some, None}
-use Rattle.std.proofs.Common.{refl, ap, ◌∙◌, arith, length-append}
-use Rattle.std.specs.Option.{option_map_or}
+use Rattle.std.proofs.Common.{◌≡◌, ◌≢◌, ◌+◌, ◌<◌, ◌≤◌, List, [], ◌∷◌, ◌++◌, length, refl, ap, ◌∙◌, arith, length-append}
 use Rattle.std.proofs.lemmas.List.{append-nil}
 use Rattle.hyd_net.specs.ListView.{ListView}
-use Rattle.hyd_spec.specs.ProgramTypes.{Project, LinkState}
 use Rattle.hyd_spec.specs.declared.Change.{Change}
-use Rattle.hyd_spec.specs.Lists.{map_from, present}
-use Rattle.hyd_spec.specs.Rules.{change_of, rule_changes, acted}
-
--- ---- where nothing changes, each link keeps its state
-
-kept-by : (o : Option Change) (rest : List (Option Change)) (state : LinkState) → present (o ∷ rest) ≡ []
-    → (option_map_or (λ (change : Change). change.to) o state ≡ state) × (present rest ≡ [])
-kept-by None rest state e = (refl, e)
-kept-by (Some change) rest state e = absurd (cc)
-
-all-kept : (f : ℕ → LinkState → Option Change) (from : ℕ) (links : List LinkState)
-    → present (map_from f from links) ≡ []
-    → map_from (λ link state. option_map_or (λ (change : Change). change.to) (f link state) state) from links ≡ links
-all-kept f from [] e = refl
-all-kept f from (state ∷ links) e =
-    let first = kept-by (f from state) (map_from f (suc from) links) state e in
-    let rest = all-kept f (suc from) links first.1 in
-    λ i. first.0 i ∷ rest i
-
-pub unchanged : (network : Project) (values : List Bool) (links : List LinkState)
-    → rule_changes network values links ≡ [] → acted network values links ≡ links
-unchanged network values links e = all-kept (change_of network values) 0 links e
 
 -- ---- rows that were appended
 

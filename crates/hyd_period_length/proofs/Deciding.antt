@@ -22,11 +22,11 @@ before_last time now end e before last = omega (arith, e, before, last)
 
 -- ---- an end that the rules bring about
 
-module _ (network : Project) (grid : Grid) (standing : Standing) (row : Record) (last : ℕ)
-    (earliest : IsEarliestEnd network grid standing row last) (not_last : standing.time ≢ network.times.duration)
+module _ (project : Project) (grid : Grid) (standing : Standing) (row : Record) (last : ℕ)
+    (earliest : IsEarliestEnd project grid standing row last) (not_last : standing.time ≢ project.times.duration)
     (before after : List Change) (links : List LinkState) where
-  module _ (ending : Ending) (brought : IsFirstBrought network grid standing row last before after links ending) where
-    first_matter : IsFirstMatter network grid standing row brought.seconds
+  module _ (ending : Ending) (brought : IsFirstBrought project grid standing row last before after links ending) where
+    first_matter : IsFirstMatter project grid standing row brought.seconds
     first_matter = record {
       not_last = not_last;
       earliest = last;
@@ -35,41 +35,41 @@ module _ (network : Project) (grid : Grid) (standing : Standing) (row : Record) 
       first = brought.first;
     }
 
-  ends_at : (seconds s : ℕ) → s ≡ seconds → IsFirstMatter network grid standing row seconds
-      → HaveActed network grid standing row seconds before after links
-      → EndsBy network grid standing row (decided.ByRules s)
+  ends_at : (seconds s : ℕ) → s ≡ seconds → IsFirstMatter project grid standing row seconds
+      → HaveActed project grid standing row seconds before after links
+      → EndsBy project grid standing row (decided.ByRules s)
   ends_at seconds s e first acted =
-      subst (λ (n : ℕ). EndsBy network grid standing row (decided.ByRules n)) (sym e) (by_rules first acted.none_open)
+      subst (λ (n : ℕ). EndsBy project grid standing row (decided.ByRules n)) (sym e) (by_rules first acted.none_open)
 
-  leaves_at : (seconds s : ℕ) → s ≡ seconds → IsFirstMatter network grid standing row seconds
-      → HaveActed network grid standing row seconds before after links
-      → LeavesLinks network grid standing row s links
+  leaves_at : (seconds s : ℕ) → s ≡ seconds → IsFirstMatter project grid standing row seconds
+      → HaveActed project grid standing row seconds before after links
+      → LeavesLinks project grid standing row s links
   leaves_at seconds s e first acted =
-      subst (λ (n : ℕ). LeavesLinks network grid standing row n links) (sym e)
-      (subst (LeavesLinks network grid standing row seconds) (sym acted.links_are)
+      subst (λ (n : ℕ). LeavesLinks project grid standing row n links) (sym e)
+      (subst (LeavesLinks project grid standing row seconds) (sym acted.links_are)
       (valid.by_rules (by_rules first acted.none_open)))
 
-  pub ends_brought : (ending : Ending) → IsFirstBrought network grid standing row last before after links ending
-      → EndsBy network grid standing row (end_of ending)
+  pub ends_brought : (ending : Ending) → IsFirstBrought project grid standing row last before after links ending
+      → EndsBy project grid standing row (end_of ending)
   ends_brought (ByRules s) brought =
       ends_at brought.seconds s brought.brought.0 (first_matter (ByRules s) brought) brought.brought.1
   ends_brought (RuleOpen found) brought = rule_is_open (first_matter (RuleOpen found) brought) brought.brought
   ends_brought (WithoutRules s) brought = absurd brought.brought
   ends_brought (EventOpen e l) brought = absurd brought.brought
 
-  pub leaves_brought : (ending : Ending) → IsFirstBrought network grid standing row last before after links ending
-      → IfDecided ending (λ seconds. LeavesLinks network grid standing row seconds links)
+  pub leaves_brought : (ending : Ending) → IsFirstBrought project grid standing row last before after links ending
+      → IfDecided ending (λ seconds. LeavesLinks project grid standing row seconds links)
   leaves_brought (ByRules s) brought =
       leaves_at brought.seconds s brought.brought.0 (first_matter (ByRules s) brought) brought.brought.1
   leaves_brought (RuleOpen found) brought = tt
   leaves_brought (WithoutRules s) brought = absurd brought.brought
   leaves_brought (EventOpen e l) brought = absurd brought.brought
 
-  pub changes_brought : (ending : Ending) → IsFirstBrought network grid standing row last before after links ending
-      → UnlessByRules ending (after ≡ before) → after ≡ before ++ changes_by network grid standing row ending
+  pub changes_brought : (ending : Ending) → IsFirstBrought project grid standing row last before after links ending
+      → UnlessByRules ending (after ≡ before) → after ≡ before ++ changes_by project grid standing row ending
   changes_brought (ByRules s) brought stays =
       brought.brought.1.changes_are
-      ∙ ap (λ (n : ℕ). before ++ decided_changes network grid standing row n) (sym brought.brought.0)
+      ∙ ap (λ (n : ℕ). before ++ decided_changes project grid standing row n) (sym brought.brought.0)
   changes_brought (RuleOpen found) brought stays = stays ∙ sym (append-nil before)
   changes_brought (WithoutRules s) brought stays = absurd brought.brought
   changes_brought (EventOpen e l) brought stays = absurd brought.brought
@@ -84,30 +84,30 @@ one_of P e l ending is_one is_other at_one at_other = elim (cases_eq e l) [
   | inr differ ↦ subst P (sym (is_other differ)) (at_other differ)
 ]
 
-module _ (network : Project) (grid : Grid) (standing : Standing) (row : Record) (e l : ℕ) (ending : Ending)
+module _ (project : Project) (grid : Grid) (standing : Standing) (row : Record) (e l : ℕ) (ending : Ending)
     (is_one : e ≡ l → ending ≡ WithoutRules e) (is_other : e ≢ l → ending ≡ EventOpen e l)
-    (none : NoRuleMatters network grid standing row e) (latest : IsLatestEnd network grid standing row l) where
-  ends_now : e ≡ l → EndsBy network grid standing row (decided.WithoutRules e)
-  ends_now same = by_clock none (subst (IsLatestEnd network grid standing row) (sym same) latest)
+    (none : NoRuleMatters project grid standing row e) (latest : IsLatestEnd project grid standing row l) where
+  ends_now : e ≡ l → EndsBy project grid standing row (decided.WithoutRules e)
+  ends_now same = by_clock none (subst (IsLatestEnd project grid standing row) (sym same) latest)
 
-  pub ends_without : EndsBy network grid standing row (end_of ending)
-  ends_without = one_of (λ ending. EndsBy network grid standing row (end_of ending)) e l ending is_one is_other
+  pub ends_without : EndsBy project grid standing row (end_of ending)
+  ends_without = one_of (λ ending. EndsBy project grid standing row (end_of ending)) e l ending is_one is_other
       ends_now (λ differ. event_is_open none latest differ)
 
-  pub leaves_without : (links : List LinkState) → links ≡ links_at network standing
-      → IfDecided ending (λ seconds. LeavesLinks network grid standing row seconds links)
+  pub leaves_without : (links : List LinkState) → links ≡ links_at project standing
+      → IfDecided ending (λ seconds. LeavesLinks project grid standing row seconds links)
   leaves_without links are =
-      one_of (λ ending. IfDecided ending (λ seconds. LeavesLinks network grid standing row seconds links)) e l ending
+      one_of (λ ending. IfDecided ending (λ seconds. LeavesLinks project grid standing row seconds links)) e l ending
       is_one is_other
-      (λ same. subst (LeavesLinks network grid standing row e) (sym are) (valid.by_clock (ends_now same)))
+      (λ same. subst (LeavesLinks project grid standing row e) (sym are) (valid.by_clock (ends_now same)))
       (λ differ. tt)
 
 module _ (e l : ℕ) (ending : Ending) (is_one : e ≡ l → ending ≡ WithoutRules e)
     (is_other : e ≢ l → ending ≡ EventOpen e l) where
-  pub changes_without : (network : Project) (grid : Grid) (standing : Standing) (row : Record)
-      (before after : List Change) → after ≡ before → after ≡ before ++ changes_by network grid standing row ending
-  changes_without network grid standing row before after stays =
-      one_of (λ ending. after ≡ before ++ changes_by network grid standing row ending) e l ending is_one is_other
+  pub changes_without : (project : Project) (grid : Grid) (standing : Standing) (row : Record)
+      (before after : List Change) → after ≡ before → after ≡ before ++ changes_by project grid standing row ending
+  changes_without project grid standing row before after stays =
+      one_of (λ ending. after ≡ before ++ changes_by project grid standing row ending) e l ending is_one is_other
       (λ same. stays ∙ sym (append-nil before)) (λ differ. stays ∙ sym (append-nil before))
 
   pub decided_without : (P : ℕ → Type 0) → P e → IfDecided ending P

@@ -45,36 +45,36 @@ unless_so P Q (EventOpen earliest latest) f p = f p
 
 -- ---- one instant
 
-module _ (network : Project) (grid : Grid) (standing : Standing) (row : Record) (facts : Facts) (seconds : ℕ)
-    (started : AreStarted network grid standing row facts) (values : List Bool)
-    (decided : AreDecided network grid standing row seconds values) (links : List LinkState)
+module _ (project : Project) (grid : Grid) (standing : Standing) (row : Record) (facts : Facts) (seconds : ℕ)
+    (started : AreStarted project grid standing row facts) (values : List Bool)
+    (decided : AreDecided project grid standing row seconds values) (links : List LinkState)
     (links_are : links ≡ facts.links.list) where
-  changes_are : rule_changes network values links ≡ decided_changes network grid standing row seconds
+  changes_are : rule_changes project values links ≡ decided_changes project grid standing row seconds
   changes_are =
-      ap (λ (vs : List Bool). rule_changes network vs links) decided.values_are
-      ∙ ap (λ (ls : List LinkState). rule_changes network
-      (map is_yes (rule_truths network grid standing row seconds)) ls)
+      ap (λ (vs : List Bool). rule_changes project vs links) decided.values_are
+      ∙ ap (λ (ls : List LinkState). rule_changes project
+      (map is_yes (rule_truths project grid standing row seconds)) ls)
       (links_are ∙ started.links)
 
-  states_are : acted network values links
-      ≡ acted network (map is_yes (rule_truths network grid standing row seconds)) (links_at network standing)
+  states_are : acted project values links
+      ≡ acted project (map is_yes (rule_truths project grid standing row seconds)) (links_at project standing)
   states_are =
-      ap (λ (vs : List Bool). acted network vs links) decided.values_are
-      ∙ ap (λ (ls : List LinkState). acted network (map is_yes (rule_truths network grid standing row seconds)) ls)
+      ap (λ (vs : List Bool). acted project vs links) decided.values_are
+      ∙ ap (λ (ls : List LinkState). acted project (map is_yes (rule_truths project grid standing row seconds)) ls)
       (links_are ∙ started.links)
 
-  no_matter : rule_changes network values links ≡ []
-      → ((list_any is_unknown (rule_truths network grid standing row seconds) ≡ true)
-      ⊎ (decided_changes network grid standing row seconds ≢ [])) → ⊥
+  no_matter : rule_changes project values links ≡ []
+      → ((list_any is_unknown (rule_truths project grid standing row seconds) ≡ true)
+      ⊎ (decided_changes project grid standing row seconds ≢ [])) → ⊥
   no_matter none (inl unknown) = let known = decided.none_open in absurd (cc)
   no_matter none (inr some) = some (sym changes_are ∙ none)
 
-  pub idle : rule_changes network values links ≡ [] → RulesMatter network grid standing row seconds → ⊥
+  pub idle : rule_changes project values links ≡ [] → RulesMatter project grid standing row seconds → ⊥
   idle none matters = no_matter none matters.matters
 
-  pub have_acted : (before after : List Change) (new : List LinkState) → rule_changes network values links ≢ []
-      → new ≡ acted network values links → after ≡ before ++ rule_changes network values links
-      → HaveActed network grid standing row seconds before after new
+  pub have_acted : (before after : List Change) (new : List LinkState) → rule_changes project values links ≢ []
+      → new ≡ acted project values links → after ≡ before ++ rule_changes project values links
+      → HaveActed project grid standing row seconds before after new
   have_acted before after new some states rows = record {
     none_open = decided.none_open;
     some = λ none. some (changes_are ∙ none);
@@ -84,17 +84,17 @@ module _ (network : Project) (grid : Grid) (standing : Standing) (row : Record) 
 
 -- ---- the first instant
 
-module _ (network : Project) (grid : Grid) (standing : Standing) (row : Record) where
-  is_open : (seconds : ℕ) (open_rule : OpenRule) → IsOpenRule network grid standing row seconds open_rule
-      → list_any is_unknown (rule_truths network grid standing row seconds) ≡ true
+module _ (project : Project) (grid : Grid) (standing : Standing) (row : Record) where
+  is_open : (seconds : ℕ) (open_rule : OpenRule) → IsOpenRule project grid standing row seconds open_rule
+      → list_any is_unknown (rule_truths project grid standing row seconds) ≡ true
   is_open seconds open_rule is =
-      let truths = rule_truths network grid standing row seconds in
+      let truths = rule_truths project grid standing row seconds in
       let p = position-Some is_unknown truths open_rule.rule No is.first_rule in
       list_any_at is_unknown truths open_rule.rule No p.0 p.1
 
   matter : (seconds : ℕ) (before after : List Change) (links : List LinkState) (ending : Ending)
-      → IsTried network standing seconds → IsBrought network grid standing row seconds before after links ending
-      → RulesMatter network grid standing row seconds
+      → IsTried project standing seconds → IsBrought project grid standing row seconds before after links ending
+      → RulesMatter project grid standing row seconds
   matter seconds before after links (ByRules at) tried brought =
       record { tried = tried; matters = inr brought.1.some }
   matter seconds before after links (RuleOpen found) tried brought =
@@ -103,9 +103,9 @@ module _ (network : Project) (grid : Grid) (standing : Standing) (row : Record) 
   matter seconds before after links (EventOpen earliest latest) tried brought = absurd brought
 
   pub brought_first : (seconds last : ℕ) (before after : List Change) (links : List LinkState) (ending : Ending)
-      → IsTried network standing seconds → IsWalked network grid standing row seconds → seconds ≤ last
-      → IsBrought network grid standing row seconds before after links ending
-      → IsFirstBrought network grid standing row last before after links ending
+      → IsTried project standing seconds → IsWalked project grid standing row seconds → seconds ≤ last
+      → IsBrought project grid standing row seconds before after links ending
+      → IsFirstBrought project grid standing row last before after links ending
   brought_first seconds last before after links ending tried walked in_time brought = record {
     seconds = seconds;
     in_time = in_time;

@@ -21,8 +21,8 @@ use Rattle.hyd_period_length.specs.declared.end_kinds.Ending.TheVariants.{ByRule
 
 -- Whatever grid, standing and record the facts and the readings are of, this holds of them.
 abbrev pub ForPeriod : Project → Facts → List ℤ → List ℤ → List Span → (Grid → Standing → Record → Type 0) → Type 0
-ForPeriod network facts low high flows P = (grid : Grid) (standing : Standing) (row : Record)
-    → AreStarted network grid standing row facts → AreRead grid row low high flows → P grid standing row
+ForPeriod project facts low high flows P = (grid : Grid) (standing : Standing) (row : Record)
+    → AreStarted project grid standing row facts → AreRead grid row low high flows → P grid standing row
 
 -- ---- ends
 
@@ -49,37 +49,37 @@ UnlessByRules (EventOpen earliest latest) P = P
 
 -- What the rules change at the end.
 abbrev pub changes_by : Project → Grid → Standing → Record → Ending → List Change
-changes_by network grid standing row (ByRules seconds) = decided_changes network grid standing row seconds
-changes_by network grid standing row (WithoutRules seconds) = []
-changes_by network grid standing row (RuleOpen found) = []
-changes_by network grid standing row (EventOpen earliest latest) = []
+changes_by project grid standing row (ByRules seconds) = decided_changes project grid standing row seconds
+changes_by project grid standing row (WithoutRules seconds) = []
+changes_by project grid standing row (RuleOpen found) = []
+changes_by project grid standing row (EventOpen earliest latest) = []
 
 -- ---- what rules bring about
 
 -- Some seconds after the start all rules are decided and change a link, the links are commanded so, and the changes
 -- stand behind those before.
-pub record HaveActed (network : Project) (grid : Grid) (standing : Standing) (row : Record) (seconds : ℕ)
+pub record HaveActed (project : Project) (grid : Grid) (standing : Standing) (row : Record) (seconds : ℕ)
     (before after : List Change) (links : List LinkState) : Type 0 where
-  pub none_open : IsFalse (list_any is_unknown (rule_truths network grid standing row seconds))
-  pub some : decided_changes network grid standing row seconds ≢ []
+  pub none_open : IsFalse (list_any is_unknown (rule_truths project grid standing row seconds))
+  pub some : decided_changes project grid standing row seconds ≢ []
   pub links_are : links
-      ≡ acted network (map is_yes (rule_truths network grid standing row seconds)) (links_at network standing)
-  pub changes_are : after ≡ before ++ decided_changes network grid standing row seconds
+      ≡ acted project (map is_yes (rule_truths project grid standing row seconds)) (links_at project standing)
+  pub changes_are : after ≡ before ++ decided_changes project grid standing row seconds
 
 -- The rules bring this end about some seconds after the start: they have acted, or one of them is open there.
 abbrev pub IsBrought : Project → Grid → Standing → Record → ℕ → List Change → List Change → List LinkState → Ending
     → Type 0
-IsBrought network grid standing row seconds before after links (ByRules at) =
-    (at ≡ seconds) × HaveActed network grid standing row seconds before after links
-IsBrought network grid standing row seconds before after links (RuleOpen found) =
-    IsOpenRule network grid standing row seconds (open_rule found)
-IsBrought network grid standing row seconds before after links (WithoutRules at) = ⊥
-IsBrought network grid standing row seconds before after links (EventOpen earliest latest) = ⊥
+IsBrought project grid standing row seconds before after links (ByRules at) =
+    (at ≡ seconds) × HaveActed project grid standing row seconds before after links
+IsBrought project grid standing row seconds before after links (RuleOpen found) =
+    IsOpenRule project grid standing row seconds (open_rule found)
+IsBrought project grid standing row seconds before after links (WithoutRules at) = ⊥
+IsBrought project grid standing row seconds before after links (EventOpen earliest latest) = ⊥
 
 -- They bring it about at the first instant at which they matter, which isn't after a last one.
-pub record IsFirstBrought (network : Project) (grid : Grid) (standing : Standing) (row : Record) (last : ℕ)
+pub record IsFirstBrought (project : Project) (grid : Grid) (standing : Standing) (row : Record) (last : ℕ)
     (before after : List Change) (links : List LinkState) (ending : Ending) : Type 0 where
   pub seconds : ℕ
   pub in_time : seconds ≤ last
-  pub first : IsLeast (RulesMatter network grid standing row) seconds
-  pub brought : IsBrought network grid standing row seconds before after links ending
+  pub first : IsLeast (RulesMatter project grid standing row) seconds
+  pub brought : IsBrought project grid standing row seconds before after links ending

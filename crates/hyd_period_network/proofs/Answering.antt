@@ -6,6 +6,7 @@ use Rattle.std.proofs.lemmas.Option.{slice_get-map, slice_get-get_or, slice_get_
 use Rattle.hyd_spec.specs.ProgramTypes.{Project, LinkState}
 use Rattle.hyd_spec.specs.declared.TankState.{TankState}
 use Rattle.hyd_spec.specs.Law.{Law, Shut}
+use Rattle.hyd_spec_certificates.specs.Spans.{levels_of}
 use Rattle.hyd_spec_certificates.specs.EnclosingFunctions.{DemandLaw, Fixed, demand_low, demand_high}
 use Rattle.hyd_spec_certificates.specs.PeriodNetwork.{Grid, GridLink, GridJunction}
 use Rattle.hyd_spec_certificates.specs.NetOutflow.{margin}
@@ -18,7 +19,7 @@ use Rattle.hyd_period_network.specs.NetView.{NetView}
 use Rattle.hyd_period_network.specs.Demands.{demand_of_law}
 use Rattle.hyd_period_network.specs.ExactLaw.{exact_law}
 use Rattle.hyd_period_network.specs.LawsInSettings.{Stands}
-use Rattle.hyd_period_network.specs.NetAsPeriodNetwork.{grid_of, interval_of, states_of, own_laws}
+use Rattle.hyd_period_network.specs.NetAsPeriodNetwork.{grid_of, states_of, own_laws}
 use Rattle.hyd_period_network.specs.NetInvariant.{IsSoundNet, IsSoundDemand}
 use Rattle.hyd_period_network.specs.LinkEnds.{ties_from}
 use Rattle.hyd_period_network.specs.Periods.{IsNetOf, IsSetTo, PassAlike, GiveAlike, AnswerAlike, own_laws_of}
@@ -104,7 +105,7 @@ pub answer_alike : (project : Project) (time : ℕ) (levels : List LevelSpan) (t
     (links : List LinkState) (a b : NetView) → IsSoundNet a → IsSoundNet b
     → IsSetTo project time levels tanks links a → IsSetTo project time levels tanks links b → AnswerAlike a b
 answer_alike project time levels tanks links a b sa sb x y =
-    let grid = same_grid project time (map interval_of levels) tanks links (grid_of a) (grid_of b) x.grid y.grid in
+    let grid = same_grid project time (map levels_of levels) tanks links (grid_of a) (grid_of b) x.grid y.grid in
     let own = own_set project a links x.of x.states ∙ sym (own_set project b links y.of y.states) in
     let ends = x.of.ends ∙ sym y.of.ends in
     record {

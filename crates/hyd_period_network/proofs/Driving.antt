@@ -1,7 +1,6 @@
 -- The demands of a period: the first that is out of range, and the laws of those that are in range.
-use Rattle.std.proofs.Common.{◌≡◌, ◌⊎◌, ℕ, ◌+◌, ◌^◌, ◌<◌, ◌≤◌, ℤ, pos, ◌≤ℤ◌, Bool, true, false, List, [], None}
-use Rattle.std.proofs.Common.{length, slice_index_or, slice_set, unsigned_abs, refl, sym, ap, subst, ◌∙◌, inl, inr}
-use Rattle.std.proofs.Common.{arith}
+use Rattle.std.proofs.Common.{◌≡◌, ◌⊎◌, ℕ, ◌+◌, ◌^◌, ◌<◌, ◌≤◌, ℤ, pos, ◌≤ℤ◌, Bool, true, false, List, [], None, length}
+use Rattle.std.proofs.Common.{slice_index_or, slice_set, unsigned_abs, refl, sym, ap, subst, ◌∙◌, inl, inr, arith}
 use Rattle.std.specs.Prelude.{int_le, Option}
 use Rattle.std.specs.Option.{option_map_or}
 use Rattle.std.proofs.lemmas.Int.{ints}
@@ -18,6 +17,7 @@ use Rattle.hyd_spec.specs.Outflow.{is_pressure_driven}
 use Rattle.hyd_spec_certificates.specs.EnclosingFunctions.{Driven}
 use Rattle.hyd_spec_certificates.specs.Valid.{DemandsAreInRange}
 use Rattle.hyd_spec_reports.specs.Stops.{IsFirstDemand}
+use Rattle.hyd_lemmas.proofs.ListsAndOptions.{any_default}
 use Rattle.hyd_theorems_on_definitions.proofs.EachLaw.{IsSoundCapacity-made}
 use Rattle.hyd_demand.specs.DemandsAndHeadsByNumber.{junction_demand}
 use Rattle.hyd_law.specs.ComposedLaws.{IsLift}
@@ -25,22 +25,19 @@ use Rattle.hyd_law.specs.declared.demand_kinds.OutLaw.{OutLaw}
 use Rattle.hyd_law.specs.declared.demand_kinds.OutLaw.TheVariants.{Fixed as FixedOut, Pda as PdaOut}
 use Rattle.hyd_units.proofs.Wholes.{IsFloor-floor, IsCeiling-ceiling}
 use Rattle.hyd_period_network.specs.Demands.{demand_held, IsOutLawOf, IsHeld, AreHeld, AreDemandsAt}
-use Rattle.hyd_period_network.proofs.SettingOne.{same_or, any_default}
+use Rattle.hyd_theorems_on_definitions.proofs.Outflows.{pressure-above}
+use Rattle.hyd_period_network.proofs.SettingOne.{same_or}
 use Rattle.std.proofs.lemmas.List.{get_or-set_same, get_or-set_other, length-set}
 
 -- ---- a law that is driven by pressure
-
-denominator_above : (us : Bool) → 0 < pressure_denominator us
-denominator_above true = omega arith
-denominator_above false = omega arith
 
 lift_is : (us : Bool) (pressure : Decimal) (span : Span) → IsFloor (pressure_numerator us pressure.nano)
     (pos (pressure_denominator us)) span.lo
     → IsCeiling (pressure_numerator us pressure.nano) (pos (pressure_denominator us)) span.hi
     → IsLift (pressure_value us pressure) span
 lift_is us pressure span lo hi = record {
-  floor_is = IsFloor-floor (pressure_value us pressure) span.lo (denominator_above us) lo;
-  ceiling_is = IsCeiling-ceiling (pressure_value us pressure) span.hi (denominator_above us) hi;
+  floor_is = IsFloor-floor (pressure_value us pressure) span.lo (pressure-above us) lo;
+  ceiling_is = IsCeiling-ceiling (pressure_value us pressure) span.hi (pressure-above us) hi;
 }
 
 by_pressure : (project : Project) (demand : ℤ) → project.options.pda ≡ true → pos 1 ≤ℤ demand

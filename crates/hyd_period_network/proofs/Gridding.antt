@@ -6,6 +6,7 @@ use Rattle.hyd_spec.specs.declared.TankState.{TankState}
 use Rattle.hyd_spec.specs.Law.{Law}
 use Rattle.hyd_spec.specs.LinkLaw.{own_law, law_of}
 use Rattle.hyd_spec.specs.DemandsReservoirHeadsAndCurves.{is_us, demand_of, reservoir_head}
+use Rattle.hyd_spec_certificates.specs.Spans.{levels_of}
 use Rattle.hyd_spec_certificates.specs.PeriodNetwork.{IsGrid, IsJunctionOf, grid_links, tank_intervals}
 use Rattle.hyd_law.specs.declared.link_law.LinkLaw.{LinkLaw}
 use Rattle.hyd_law.specs.declared.demand_kinds.OutLaw.{OutLaw}
@@ -16,7 +17,7 @@ use Rattle.hyd_period_network.specs.NetView.{NetView}
 use Rattle.hyd_period_network.specs.ExactLaw.{exact_law}
 use Rattle.hyd_period_network.specs.LawsInSettings.{restricted, AreLaws, AreLawsOf, AreSet, setting_of, closed_setting}
 use Rattle.hyd_period_network.specs.Demands.{IsNetJunction, IsOutLawOf, AreDemandsAt}
-use Rattle.hyd_period_network.specs.NetAsPeriodNetwork.{grid_of, junctions_of, link_of, links_of, interval_of, state_of}
+use Rattle.hyd_period_network.specs.NetAsPeriodNetwork.{grid_of, junctions_of, link_of, links_of, state_of}
 use Rattle.hyd_period_network.specs.NetAsPeriodNetwork.{states_of}
 use Rattle.hyd_period_network.specs.NetAsPeriodNetwork.{own_laws}
 use Rattle.hyd_period_network.specs.Periods.{ends_of, IsNetOf, AreShut, own_laws_of}
@@ -109,12 +110,12 @@ pub record IsPut (project : Project) (time : ℕ) (levels : List LevelSpan) (tan
   pub each_state : length states ≡ length project.links.list
   pub demands : AreDemandsAt project time net.demands (length project.junctions.list)
   pub reservoirs : net.reservoirs ≡ map (reservoir_head project time) project.reservoirs.list
-  pub tank_heads : map interval_of net.tanks ≡ tank_intervals project.tanks.list (map interval_of levels)
+  pub tank_heads : map levels_of net.tanks ≡ tank_intervals project.tanks.list (map levels_of levels)
   pub settings : AreSet project tanks project.links.list states net.settings (length project.links.list)
 
 pub grid_is : (project : Project) (time : ℕ) (levels : List LevelSpan) (tanks : List TankState)
     (states : List LinkState) (net : NetView) → IsPut project time levels tanks states net
-    → IsGrid project time (map interval_of levels) tanks states (grid_of net)
+    → IsGrid project time (map levels_of levels) tanks states (grid_of net)
 grid_is project time levels tanks states net put =
     let of = put.of in
     record {

@@ -2,7 +2,7 @@
 use Rattle.std.proofs.Common.{◌≡◌, ℕ, zero, suc, ◌+◌, ◌*◌, ◌^◌, ◌<◌, ◌≤◌, ℤ, pos, negsuc, ◌+ℤ◌, ◌-ℤ◌, ◌*ℤ◌, ◌≤ℤ◌, ◌<ℤ◌}
 use Rattle.std.proofs.Common.{neg_ℤ, true, List, [], ◌∷◌, ◌++◌, ◌-◌, length, map, reverse, drop, drop-cons, add-one}
 use Rattle.std.proofs.Common.{append_assoc, slice_index_or, unsigned_abs, refl, sym, ap, subst, ◌∙◌, w64, arith}
-use Rattle.std.specs.Prelude.{int_lt, int_le, All}
+use Rattle.std.specs.Prelude.{int_lt, All}
 use Rattle.std.specs.Int.{w128}
 use Rattle.std.proofs.Common.{FitsSigned}
 use Rattle.std.proofs.Math.IntN.{*ℤ_comm, zero-*ℤ, negsuc-*ℤ-pos, negsuc-*ℤ-negsuc}
@@ -11,7 +11,7 @@ use Rattle.std.proofs.lemmas.List.{length-map, get_or-map, length-reverse, get_o
 use Rattle.std.proofs.lemmas.List.{append-nil, drop_all}
 use Rattle.std.proofs.lemmas.List.Elements.{All-append}
 use Rattle.hyd_num.specs.Rational.{whole, is_at_most}
-use Rattle.hyd_num.proofs.Integers.{times_one_more, times_reflects}
+use Rattle.hyd_num.proofs.Integers.{times_reflects, one_times}
 use Rattle.hyd_net.specs.Curves.{Knot as Place, value_at, head_knots, IsPumpCurve, IsLossCurve}
 use Rattle.hyd_net.specs.NumberRanges.{Lies}
 use Rattle.hyd_net.specs.States.{IsSpeed}
@@ -19,20 +19,12 @@ use Rattle.hyd_net.specs.declared.curves.HeadPoint.{HeadPoint}
 use Rattle.hyd_spec.specs.Scale.{cut}
 use Rattle.hyd_spec.specs.DemandsReservoirHeadsAndCurves.{pump_knots, valve_knots}
 use Rattle.hyd_theorems_on_definitions.specs.TermsOfTheorems.{AreInOrder}
+use Rattle.hyd_lemmas.proofs.Trials.{lt-from, le-yes}
 use Rattle.hyd_theorems_on_definitions.proofs.CurveKnots.{pump_knots-in_order, valve_knots-in_order}
 use Rattle.hyd_law.specs.declared.law_kinds.Knot.{Knot}
 use Rattle.hyd_law.specs.Curves.{IsKnot, IsCurve, places, place_of}
 
 -- ---- the heads of a pump's points
-
-before : (a b : ℤ) → a <ℤ b → int_lt a b ≡ true
-before a b less = grind (arith, ints)
-
-at_most : (a b : ℤ) → int_le a b ≡ true → a ≤ℤ b
-at_most a b test = grind (arith, ints)
-
-one_times : (z : ℤ) → pos 1 *ℤ z ≡ z
-one_times z = omega (arith, ints, times_one_more 0 z, zero-*ℤ z)
 
 not_below : (x y : ℤ) → x ≤ℤ pos 0 → y ≤ℤ pos 0 → pos 0 ≤ℤ (x *ℤ y)
 not_below (pos zero) y f g = omega (arith, ints, zero-*ℤ y)
@@ -53,13 +45,13 @@ first_low : (x y z : HeadPoint) (rest : List HeadPoint) → pos 0 ≤ℤ x.flow 
     → is_at_most (value_at 1 (head_knots (x ∷ (y ∷ (z ∷ rest)))) (pos 0)) (whole (pos (10 ^ 16))) ≡ true
     → x.head ≤ℤ pos (10 ^ 16)
 first_low x y z rest forward rise fall most =
-    let later : int_lt (pos 0) (pos 1 *ℤ y.flow) ≡ true = before (pos 0) (pos 1 *ℤ y.flow)
+    let later : int_lt (pos 0) (pos 1 *ℤ y.flow) ≡ true = lt-from (pos 0) (pos 1 *ℤ y.flow)
     (omega (arith, ints, one_times y.flow, forward, rise)) in
-    let apart : int_lt x.flow y.flow ≡ true = before x.flow y.flow rise in
+    let apart : int_lt x.flow y.flow ≡ true = lt-from x.flow y.flow rise in
     let w = unsigned_abs (y.flow -ℤ x.flow) in
     let le : (((pos (1 * w) *ℤ x.head) +ℤ ((y.head -ℤ x.head) *ℤ (pos 0 -ℤ (pos 1 *ℤ x.flow)))) *ℤ pos 1)
     ≤ℤ (pos (10 ^ 16) *ℤ pos w) =
-    at_most _ _ (rw (later, apart) at most) in
+    le-yes _ _ (rw (later, apart) at most) in
     line_from w x.head (pos (10 ^ 16)) ((y.head -ℤ x.head) *ℤ (pos 0 -ℤ (pos 1 *ℤ x.flow))) (omega (arith, ints, rise))
     (not_below (y.head -ℤ x.head) (pos 0 -ℤ (pos 1 *ℤ x.flow)) (omega (arith, ints, fall))
     (omega (arith, ints, one_times x.flow, forward)))

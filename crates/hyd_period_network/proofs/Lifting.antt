@@ -28,10 +28,6 @@ high_end n d hi x is h =
     h ∙ ap (λ (z : ℤ). neg_ℤ (int_div_euclid (neg_ℤ z) d)) is.num_is
     ∙ ap (λ (z : ℤ). neg_ℤ (int_div_euclid (neg_ℤ x.num) z)) is.den_is
 
--- a fraction between minus m and m has its floor and its ceiling there
-times_whole : (d m : ℕ) → pos d *ℤ pos m ≡ pos (d * m)
-times_whole d m = refl
-
 pub floor_within : (n d lo : ℤ) (m : ℕ) → pos 0 <ℤ d → lo ≡ int_div_euclid n d → unsigned_abs n ≤ m * unsigned_abs d
     → unsigned_abs lo ≤ m
 floor_within n (pos d) lo m above l small =

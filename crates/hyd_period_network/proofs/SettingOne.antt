@@ -1,6 +1,6 @@
 -- One link put into its setting, among all links.
-use Rattle.std.proofs.Common.{◌≡◌, ◌≢◌, ◌⊎◌, inl, inr, ℕ, zero, suc, ◌+◌, ◌<◌, List, [], ◌∷◌, length, slice_index_or}
-use Rattle.std.proofs.Common.{slice_set, refl, ap, sym, ◌∙◌, subst, arith}
+use Rattle.std.proofs.Common.{◌≡◌, ◌≢◌, ◌⊎◌, inl, inr, ℕ, zero, suc, ◌+◌, ◌<◌, List, length, slice_index_or, slice_set}
+use Rattle.std.proofs.Common.{refl, ap, sym, ◌∙◌, subst, arith}
 use Rattle.std.proofs.lemmas.List.{get_or-set_same, get_or-set_other}
 use Rattle.hyd_spec.specs.ProgramTypes.{Project, Link, LinkState}
 use Rattle.hyd_spec.specs.declared.TankState.{TankState}
@@ -8,18 +8,13 @@ use Rattle.hyd_spec.specs.DemandsReservoirHeadsAndCurves.{is_us}
 use Rattle.hyd_law.specs.declared.link_law.LinkLaw.{LinkLaw}
 use Rattle.hyd_period_network.specs.declared.net_types.Setting.{Setting}
 use Rattle.hyd_period_network.specs.LawsInSettings.{AreLawsOf, AreLaws, AreSet, setting_of}
+use Rattle.hyd_lemmas.proofs.ListsAndOptions.{any_default}
 
 pub same_or : (k i : ℕ) → (k ≡ i) ⊎ (k ≢ i)
 same_or zero zero = inl refl
 same_or zero (suc i) = inr (λ e. absurd (omega arith))
 same_or (suc k) zero = inr (λ e. absurd (omega arith))
 same_or (suc k) (suc i) = elim (same_or k i) [ inl e ↦ inl (ap suc e) | inr n ↦ inr (λ e. n (omega arith)) ]
-
-pub any_default : {X : Type 0} (xs : List X) (i : ℕ) (d e : X) → i < length xs
-    → slice_index_or xs i d ≡ slice_index_or xs i e
-any_default [] i d e h = absurd (omega arith)
-any_default (x ∷ xs) zero d e h = refl
-any_default (x ∷ xs) (suc i) d e h = any_default xs i d e (omega arith)
 
 -- what holds of one link and its three values, by equations
 moved : (project : Project) (l l' : Link) (s s' : Setting) (o o' w w' : LinkLaw) → l ≡ l' → s ≡ s' → o ≡ o' → w ≡ w'

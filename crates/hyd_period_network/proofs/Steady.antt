@@ -5,13 +5,13 @@ use Rattle.std.specs.List.{AllByRecursion}
 use Rattle.std.specs.Option.{option_map}
 use Rattle.std.proofs.lemmas.Int.{ints}
 use Rattle.std.proofs.lemmas.Bool.{cond_both}
-use Rattle.hyd_spec.specs.ProgramTypes.{ShutoffHead, FourThirds, Given, Decimal}
-use Rattle.hyd_spec.specs.DemandsReservoirHeadsAndCurves.{lift_of, pressure_value}
+use Rattle.hyd_spec.specs.ProgramTypes.{Decimal}
+use Rattle.hyd_spec.specs.DemandsReservoirHeadsAndCurves.{pressure_value}
 use Rattle.hyd_spec.specs.Law.{Law, Shut as ShutLaw, Held as HeldLaw, Bent as BentLaw}
 use Rattle.hyd_spec_certificates.specs.PeriodNetwork.{GridLink, GridJunction}
 use Rattle.hyd_theorems_on_definitions.specs.TermsOfTheorems.{IsSoundLaw, IsSoundCapacity}
-use Rattle.hyd_theorems_on_definitions.specs.TermsOfTheorems.{IsSoundDemand as IsSoundDemandLaw}
-use Rattle.hyd_theorems_on_definitions.specs.TermsOfTheorems.{IsSteady}
+use Rattle.hyd_theorems_on_definitions.specs.TermsOfTheorems.{IsSoundDemand as IsSoundDemandLaw, IsSteady}
+use Rattle.hyd_law.specs.ComposedLawsAreLaws.{lift-above}
 use Rattle.hyd_law.specs.Curves.{places}
 use Rattle.hyd_law.specs.LinkLaws.{IsSoundLink}
 use Rattle.hyd_law.specs.declared.law_kinds.Quad.{Quad as QuadValue}
@@ -31,10 +31,6 @@ use Rattle.hyd_period_network.specs.LawsInSettings.{restricted}
 use Rattle.hyd_period_network.specs.NetAsPeriodNetwork.{grid_of, junctions_of, links_of, capacity_of}
 use Rattle.hyd_period_network.specs.NetInvariant.{IsSoundJunction, IsSoundDemand, HaveLaws, IsSoundNet}
 
-lift_above : (us : Bool) (head : ShutoffHead) (speed : ℤ) → 0 < (lift_of us head speed).den
-lift_above us (FourThirds head) speed = lit< tt
-lift_above us (Given head) speed = lit< tt
-
 one_way_sound : (forward : Bool) (law : Law) → IsSoundLaw law → IsSoundLaw (one_way_law forward law)
 one_way_sound true law sound = sound
 one_way_sound false law sound = sound
@@ -45,7 +41,7 @@ exact_sound (Quad l) sound = sound
 exact_sound (Linear l) sound = tt
 exact_sound (QuadOneWay l) sound = one_way_sound l.forward _ sound
 exact_sound (LinearOneWay l) sound = one_way_sound l.forward _ tt
-exact_sound (Pump l) sound = one_way_sound l.forward _ (lift_above l.inner.us l.inner.head l.inner.speed, sound.1)
+exact_sound (Pump l) sound = one_way_sound l.forward _ (lift-above l.inner.us l.inner.head l.inner.speed, sound.1)
 exact_sound (Limit l) sound = sound
 exact_sound (LinearLimit l) sound = tt
 exact_sound (LimitOneWay l) sound = one_way_sound l.forward _ sound

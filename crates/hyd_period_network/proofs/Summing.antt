@@ -80,13 +80,13 @@ sum_from out into all heads node k (e ∷ ends) (s ∷ settings) (o ∷ own) at 
     omega (arith, ints, p, q, a, b, f, g, r)
 
 -- the sum over the link ends at a node is the net outflow of its links, by any two functions of a law
-pub sum_over_ties : (out into : Law → ℤ → ℤ) (heads : List ℤ) (node : ℕ) (network : NetView)
-    → length network.settings ≡ length network.ends → length network.own ≡ length network.ends
-    → ties_share out into (grid_of network).links heads (head_at heads node) (ties_from node 0 network.ends)
-    ≡ net out into heads node (grid_of network).links
-sum_over_ties out into heads node network es eo =
-    sum_from out into (grid_of network).links heads node 0 network.ends network.settings network.own
-    (λ j. ap (slice_get (grid_of network).links) (omega arith)) es eo
+pub sum_over_ties : (out into : Law → ℤ → ℤ) (heads : List ℤ) (node : ℕ) (project : NetView)
+    → length project.settings ≡ length project.ends → length project.own ≡ length project.ends
+    → ties_share out into (grid_of project).links heads (head_at heads node) (ties_from node 0 project.ends)
+    ≡ net out into heads node (grid_of project).links
+sum_over_ties out into heads node project es eo =
+    sum_from out into (grid_of project).links heads node 0 project.ends project.settings project.own
+    (λ j. ap (slice_get (grid_of project).links) (omega arith)) es eo
 
 -- ---- how many they are
 

@@ -6,9 +6,9 @@ use Rattle.std.specs.Option.{option_map_or}
 use Rattle.std.proofs.lemmas.Bool.{cases_eq}
 use Rattle.std.proofs.lemmas.List.{get_or-set_same, get_or-set_other, get_or_append_left, get_or_default, get_or_push}
 use Rattle.hyd_spec.specs.ProgramTypes.{Tank}
+use Rattle.hyd_spec_certificates.specs.Spans.{levels_of}
 use Rattle.hyd_spec_certificates.specs.PeriodNetwork.{tank_intervals}
 use Rattle.hyd_spec_certificates.specs.declared.LevelSpan.{LevelSpan}
-use Rattle.hyd_period_network.specs.NetAsPeriodNetwork.{interval_of}
 use Rattle.hyd_period_network.specs.Periods.{HasHeads}
 
 -- what holds of the first items holds of one more, where it holds of the one that is written
@@ -63,7 +63,7 @@ mapped f (x ∷ xs) (y ∷ ys) e all =
     let rest : ys ≡ map f xs = mapped f xs ys (omega arith) (λ k d h. all (suc k) d (omega arith)) in
     rw (head, rest) refl
 
-interval_is : (tank : Tank) (levels heads : LevelSpan) → HasHeads tank levels heads → interval_of heads ≡ record {
+interval_is : (tank : Tank) (levels heads : LevelSpan) → HasHeads tank levels heads → levels_of heads ≡ record {
   lo = levels.lo +ℤ tank.bottom;
   hi = levels.hi +ℤ tank.bottom;
 }
@@ -73,7 +73,7 @@ pub intervals : (tanks : List Tank) (levels heads : List LevelSpan) → length l
     → length heads ≡ length tanks
     → ((k : ℕ) (s : LevelSpan) → k < length tanks → (tank : Tank) (l : LevelSpan)
     → HasHeads (slice_index_or tanks k tank) (slice_index_or levels k l) (slice_index_or heads k s))
-    → map interval_of heads ≡ tank_intervals tanks (map interval_of levels)
+    → map levels_of heads ≡ tank_intervals tanks (map levels_of levels)
 intervals [] levels [] el eh all = refl
 intervals [] levels (h ∷ heads) el eh all = absurd (omega arith)
 intervals (t ∷ tanks) [] heads el eh all = absurd (omega arith)

@@ -3,14 +3,13 @@ use Rattle.std.specs.Prelude.{ℕ, ◌+◌, List, [], ◌∷◌, map, length}
 use Rattle.std.specs.Option.{option_map}
 use Rattle.hyd_spec.specs.ProgramTypes.{LinkState, Capacity}
 use Rattle.hyd_spec.specs.Law.{Law}
-use Rattle.hyd_spec_certificates.specs.Interval.{Interval}
+use Rattle.hyd_spec_certificates.specs.Spans.{levels_of}
 use Rattle.hyd_spec_certificates.specs.PeriodNetwork.{Grid, GridLink, GridJunction}
 use Rattle.hyd_law.specs.declared.law_kinds.Quad.{Quad}
 use Rattle.hyd_law.specs.declared.link_law.LinkLaw.{LinkLaw}
 use Rattle.hyd_law.specs.declared.demand_kinds.OutLaw.{OutLaw}
 use Rattle.hyd_period_network.specs.declared.net_types.NetJunction.{NetJunction}
 use Rattle.hyd_period_network.specs.declared.net_types.Ends.{Ends}
-use Rattle.hyd_spec_certificates.specs.declared.LevelSpan.{LevelSpan}
 use Rattle.hyd_period_network.specs.declared.net_types.Setting.{Setting}
 use Rattle.hyd_period_network.specs.NetView.{NetView}
 use Rattle.hyd_period_network.specs.Demands.{demand_of_law}
@@ -54,16 +53,12 @@ links_of (ends ∷ rest) (setting ∷ settings) (law ∷ own) = link_of ends set
 
 -- ---- all of it
 
--- all heads or levels from one to another
-abbrev pub interval_of : LevelSpan → Interval
-interval_of span = record { lo = span.lo; hi = span.hi }
-
 -- the grid that a net is
 abbrev pub grid_of : NetView → Grid
 grid_of net = record {
   junctions = junctions_of net.junctions net.demands;
   reservoirs = net.reservoirs;
-  tanks = map interval_of net.tanks;
+  tanks = map levels_of net.tanks;
   links = links_of net.ends net.settings net.own;
 }
 

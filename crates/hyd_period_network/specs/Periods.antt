@@ -7,6 +7,7 @@ use Rattle.hyd_spec.specs.DemandsReservoirHeadsAndCurves.{is_us}
 use Rattle.hyd_spec.specs.Law.{Law, Shut}
 use Rattle.hyd_spec.specs.LinkLaw.{own_law, forbids_forward, forbids_reverse}
 use Rattle.hyd_spec.specs.declared.TankState.{TankState}
+use Rattle.hyd_spec_certificates.specs.Spans.{levels_of}
 use Rattle.hyd_spec_certificates.specs.PeriodNetwork.{IsGrid}
 use Rattle.hyd_spec_certificates.specs.NetOutflow.{margin}
 use Rattle.hyd_law.specs.LinkLaws.{link_low, link_high}
@@ -21,7 +22,7 @@ use Rattle.hyd_period_network.specs.ExactLaw.{exact_law}
 use Rattle.hyd_period_network.specs.LawsInSettings.{AreLaws, closed_setting}
 use Rattle.hyd_period_network.specs.Demands.{IsNetJunction, AreHeld}
 use Rattle.hyd_period_network.specs.NetInvariant.{AreHeads}
-use Rattle.hyd_period_network.specs.NetAsPeriodNetwork.{grid_of, interval_of, states_of, own_laws}
+use Rattle.hyd_period_network.specs.NetAsPeriodNetwork.{grid_of, states_of, own_laws}
 use Rattle.hyd_period_network.specs.LinkEnds.{ties_from}
 
 -- the two nodes of a link
@@ -89,7 +90,7 @@ pub record IsSetTo (project : Project) (time : ℕ) (levels : List LevelSpan) (t
     (links : List LinkState)
     (net : NetView) : Type 0 where
   pub of : IsNetOf project net
-  pub grid : IsGrid project time (map interval_of levels) tanks links (grid_of net)
+  pub grid : IsGrid project time (map levels_of levels) tanks links (grid_of net)
   pub states : states_of net ≡ links
 
 -- two laws of links have the same flows at each head difference

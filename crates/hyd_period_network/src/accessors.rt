@@ -23,6 +23,7 @@ use crate::net::Net;
 use crate::net_types::{Ends, Tie};
 use hyd_law::{LinkLaw, OutLaw, Quad};
 use hyd_net::LinkState;
+use hyd_spec::MISSED_FLOW_TICKS;
 use hyd_spec_certificates::{Problem, Side};
 
 impl Net {
@@ -161,7 +162,7 @@ impl Net {
         requires { junction < length self.now.junctions }
         ensures { result ≡ margin (grid_of self.now) junction }
     {
-        (self.rows[junction as usize].len() as i64 + 3) * 10
+        (self.rows[junction as usize].len() as i64 + 3) * MISSED_FLOW_TICKS
     }
 
     /// The link ends at a node, in order of links.

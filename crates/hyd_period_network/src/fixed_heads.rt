@@ -5,8 +5,8 @@ ghost use Rattle.std.specs.Prelude.{◌≡◌, pos, ◌+ℤ◌, ◌≤ℤ◌, le
 ghost use Rattle.hyd_net.specs.NumberRanges.{IsHead};
 ghost use Rattle.hyd_net.specs.Sound.{Sound};
 ghost use Rattle.hyd_spec.specs.DemandsReservoirHeadsAndCurves.{reservoir_head};
+ghost use Rattle.hyd_spec_certificates.specs.Spans.{levels_of};
 ghost use Rattle.hyd_spec_certificates.specs.PeriodNetwork.{tank_intervals};
-ghost use Rattle.hyd_period_network.specs.NetAsPeriodNetwork.{interval_of};
 ghost use Rattle.hyd_period_network.specs.NetInvariant.{AreHeads};
 ghost use Rattle.hyd_period_network.specs.Periods.{AreLevels, IsSpanOf, HasHeads};
 
@@ -64,7 +64,7 @@ pub(crate) fn set_tanks(project: &Project, levels: &[LevelSpan], heads: &mut [Le
     requires levels { AreLevels project.now levels.now }
     requires each { length heads.old ≡ length project.now.tanks.list }
     ensures count { length heads.new ≡ length heads.old }
-    ensures set { map interval_of heads.new ≡ tank_intervals project.now.tanks.list (map interval_of levels.now) }
+    ensures set { map levels_of heads.new ≡ tank_intervals project.now.tanks.list (map levels_of levels.now) }
     ensures range { All AreHeads heads.new }
 {
     let tanks = project.tanks.as_slice();

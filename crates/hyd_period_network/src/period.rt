@@ -3,11 +3,12 @@
 
 ghost use Rattle.std.specs.Prelude.{◌≡◌, ◌≤◌, ◌^◌, length, map, IfOk, IfErr, OnOk, OnErr};
 ghost use Rattle.hyd_net.specs.Sound.{Sound};
+ghost use Rattle.hyd_spec_certificates.specs.Spans.{levels_of};
 ghost use Rattle.hyd_spec_certificates.specs.PeriodNetwork.{IsGrid};
 ghost use Rattle.hyd_spec_certificates.specs.Valid.{DemandsAreInRange};
 ghost use Rattle.hyd_spec_reports.specs.Stops.{IsFirstDemand};
 ghost use Rattle.hyd_period_network.specs.LawsInSettings.{AreStates};
-ghost use Rattle.hyd_period_network.specs.NetAsPeriodNetwork.{grid_of, interval_of, states_of, own_laws};
+ghost use Rattle.hyd_period_network.specs.NetAsPeriodNetwork.{grid_of, states_of, own_laws};
 ghost use Rattle.hyd_period_network.specs.Periods.{IsNetOf, IsFresh, AreLevels, AreShut, own_laws_of};
 
 use crate::closed_link_laws::closed_laws;
@@ -81,7 +82,7 @@ impl Net {
         requires levels { AreLevels project.now levels.now }
         requires tanks { length tanks.now ≡ length project.now.tanks.list }
         ensures stays { IsNetOf project.now self.new }
-        ensures grid { OnOk result (IsGrid project.now time (map interval_of levels.now) tanks.now links.now
+        ensures grid { OnOk result (IsGrid project.now time (map levels_of levels.now) tanks.now links.now
             (grid_of self.new)) }
         ensures states { OnOk result (states_of self.new ≡ links.now) }
         ensures own { OnOk result (own_laws self.new ≡ own_laws_of project.now project.now.links.list links.now) }

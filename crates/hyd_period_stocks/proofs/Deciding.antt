@@ -15,15 +15,16 @@ use Rattle.hyd_spec_certificates.specs.Decided.{nowhere}
 use Rattle.hyd_spec_certificates.specs.Valid.{AreStates}
 use Rattle.hyd_spec_reports.specs.Stops.{open_states}
 use Rattle.hyd_tank.specs.StockIntervals.{IsTankOfRange}
+use Rattle.hyd_lemmas.proofs.ListsAndOptions.{item_is, item_there}
 use Rattle.hyd_controls_and_rules.proofs.Positions as places
-use Rattle.hyd_tank_inflows.proofs.Numbered.{placed_first, item_there, item_is, as_long}
+use Rattle.hyd_tank_inflows.proofs.Numbered.{placed_first, as_long}
 
 -- the levels of a tank of a sound network
-pub range_of : (network : Project) → Sound network → (k : ℕ) (tank : Tank) → k < length network.tanks.list
-    → slice_get network.tanks.list k ≡ Some tank → IsTankOfRange tank
-range_of network sound k tank h at =
-    let is : IsTank network.shapes.list tank =
-    subst (IsTank network.shapes.list) (item_is network.tanks.list k tank tank at) (sound.quantities.tanks k tank h) in
+pub range_of : (project : Project) → Sound project → (k : ℕ) (tank : Tank) → k < length project.tanks.list
+    → slice_get project.tanks.list k ≡ Some tank → IsTankOfRange tank
+range_of project sound k tank h at =
+    let is : IsTank project.shapes.list tank =
+    subst (IsTank project.shapes.list) (item_is project.tanks.list k tank tank at) (sound.quantities.tanks k tank h) in
     let lowest = is.lowest in
     let apart = is.apart in
     let bottom = is.bottom.at_least in
@@ -32,45 +33,45 @@ range_of network sound k tank h at =
 
 -- the state of each tank, where it is decided
 abbrev pub states_at : Project → List Interval → List (Option TankState)
-states_at network levels = map_from (λ k tank. state_of tank (slice_index_or levels k nowhere)) 0 network.tanks.list
+states_at project levels = map_from (λ k tank. state_of tank (slice_index_or levels k nowhere)) 0 project.tanks.list
 
-open_is : (network : Project) (levels : List Interval) (k : ℕ) (tank : Tank) (d : Bool) → k < length network.tanks.list
-    → slice_get network.tanks.list k ≡ Some tank
-    → slice_index_or (open_states network levels) k d ≡ is_none (state_of tank (slice_index_or levels k nowhere))
-open_is network levels k tank d h at =
+open_is : (project : Project) (levels : List Interval) (k : ℕ) (tank : Tank) (d : Bool) → k < length project.tanks.list
+    → slice_get project.tanks.list k ≡ Some tank
+    → slice_index_or (open_states project levels) k d ≡ is_none (state_of tank (slice_index_or levels k nowhere))
+open_is project levels k tank d h at =
     placed_first (λ k (tank : Tank). is_none (state_of tank
-    (slice_index_or levels k nowhere))) k network.tanks.list d tank h
+    (slice_index_or levels k nowhere))) k project.tanks.list d tank h
     ∙ ap (λ (t : Tank). is_none (state_of t (slice_index_or levels k nowhere)))
-    (item_is network.tanks.list k tank tank at)
+    (item_is project.tanks.list k tank tank at)
 
 -- one decided state more
-pub known_more : (network : Project) (levels : List Interval) (i : ℕ) (state : TankState)
-    → i < length network.tanks.list
-    → ((k : ℕ) (d : Bool) → k < i → slice_index_or (open_states network levels) k d ≡ false)
-    → ((tank : Tank) → slice_get network.tanks.list i ≡ Some tank
+pub known_more : (project : Project) (levels : List Interval) (i : ℕ) (state : TankState)
+    → i < length project.tanks.list
+    → ((k : ℕ) (d : Bool) → k < i → slice_index_or (open_states project levels) k d ≡ false)
+    → ((tank : Tank) → slice_get project.tanks.list i ≡ Some tank
     → Some state ≡ state_of tank (slice_index_or levels i nowhere))
-    → (k : ℕ) (d : Bool) → k < i + 1 → slice_index_or (open_states network levels) k d ≡ false
-known_more network levels i state h before is =
-    let there = item_there network.tanks.list i h in
+    → (k : ℕ) (d : Bool) → k < i + 1 → slice_index_or (open_states project levels) k d ≡ false
+known_more project levels i state h before is =
+    let there = item_there project.tanks.list i h in
     let size = as_long (λ k (tank : Tank). is_none (state_of tank
-    (slice_index_or levels k nowhere))) 0 network.tanks.list in
-    let here : false ≡ slice_index_or (open_states network levels) i false =
-    sym (open_is network levels i there.0 false h there.1 ∙ ap is_none (sym (is there.0 there.1))) in
-    places.one_more (λ (b : Bool). b) (open_states network levels) i false (omega (arith, h, size)) before here refl
+    (slice_index_or levels k nowhere))) 0 project.tanks.list in
+    let here : false ≡ slice_index_or (open_states project levels) i false =
+    sym (open_is project levels i there.0 false h there.1 ∙ ap is_none (sym (is there.0 there.1))) in
+    places.one_more (λ (b : Bool). b) (open_states project levels) i false (omega (arith, h, size)) before here refl
 
 -- the first open one
-pub first_open : (network : Project) (levels : List Interval) (i : ℕ) → i < length network.tanks.list
-    → ((k : ℕ) (d : Bool) → k < i → slice_index_or (open_states network levels) k d ≡ false)
-    → ((tank : Tank) → slice_get network.tanks.list i ≡ Some tank
+pub first_open : (project : Project) (levels : List Interval) (i : ℕ) → i < length project.tanks.list
+    → ((k : ℕ) (d : Bool) → k < i → slice_index_or (open_states project levels) k d ≡ false)
+    → ((tank : Tank) → slice_get project.tanks.list i ≡ Some tank
     → None ≡ state_of tank (slice_index_or levels i nowhere))
-    → position (λ (b : Bool). b) (open_states network levels) ≡ Some i
-first_open network levels i h before is =
-    let there = item_there network.tanks.list i h in
+    → position (λ (b : Bool). b) (open_states project levels) ≡ Some i
+first_open project levels i h before is =
+    let there = item_there project.tanks.list i h in
     let size = as_long (λ k (tank : Tank). is_none (state_of tank
-    (slice_index_or levels k nowhere))) 0 network.tanks.list in
-    places.first_is (λ (b : Bool). b) (open_states network levels) i false (omega (arith, h, size))
+    (slice_index_or levels k nowhere))) 0 project.tanks.list in
+    places.first_is (λ (b : Bool). b) (open_states project levels) i false (omega (arith, h, size))
     (λ k less. before k false less)
-    (open_is network levels i there.0 false h there.1 ∙ ap is_none (sym (is there.0 there.1)))
+    (open_is project levels i there.0 false h there.1 ∙ ap is_none (sym (is there.0 there.1)))
 
 -- the state of the one tank of a number
 pub state_is : (tanks : List Tank) (k : ℕ) (here each : Tank) (level at_place : Interval) (state : Option TankState)
@@ -88,11 +89,11 @@ somes {X} [] k d h = absurd (omega (arith, h))
 somes {X} (x ∷ xs) zero d h = refl
 somes {X} (x ∷ xs) (suc k) d h = somes xs k d (omega (arith, h))
 
-pub none_open : (network : Project) (levels : List Interval) (states : List TankState)
-    → AreStates network levels states → position (λ (b : Bool). b) (open_states network levels) ≡ None
-none_open network levels states are =
-    places.none_is (λ (b : Bool). b) (open_states network levels) (λ k d h.
-    let tanks : List Tank = network.tanks.list in
+pub none_open : (project : Project) (levels : List Interval) (states : List TankState)
+    → AreStates project levels states → position (λ (b : Bool). b) (open_states project levels) ≡ None
+none_open project levels states are =
+    places.none_is (λ (b : Bool). b) (open_states project levels) (λ k d h.
+    let tanks : List Tank = project.tanks.list in
     let at : ℕ → Tank → Option TankState = λ k tank. state_of tank (slice_index_or levels k nowhere) in
     let size = as_long (λ k (tank : Tank). is_none (at k tank)) 0 tanks in
     let within : k < length tanks = omega (arith, h, size) in
@@ -102,5 +103,5 @@ none_open network levels states are =
     let state : at k there.0 ≡ slice_index_or (map {B = Option TankState} Some states) k None =
     sym (placed_first at k tanks None there.0 within ∙ ap (at k) (item_is tanks k there.0 there.0 there.1))
     ∙ ap (λ (os : List (Option TankState)). slice_index_or os k None) are in
-    open_is network levels k there.0 d within there.1 ∙ ap is_none state
+    open_is project levels k there.0 d within there.1 ∙ ap is_none state
     ∙ somes states k None (omega (arith, within, same)))

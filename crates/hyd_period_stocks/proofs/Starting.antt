@@ -8,20 +8,20 @@ use Rattle.hyd_spec.specs.ProgramTypes.{Project, Tank}
 use Rattle.hyd_spec.specs.Lists.{map_from}
 use Rattle.hyd_spec.specs.Tank.{walls_of, kept_volume, tank_state}
 use Rattle.hyd_spec.specs.declared.TankState.{TankState}
-use Rattle.hyd_spec.specs.declared.TankState.TheVariants.{Full, Between, Empty}
+use Rattle.hyd_spec_certificates.specs.Spans.{levels_of}
 use Rattle.hyd_spec_certificates.specs.Interval.{Interval, exactly}
 use Rattle.hyd_spec_certificates.specs.RecordAndStanding.{initial_standing}
-use Rattle.hyd_spec_certificates.specs.Stocks.{Stocks, shared_state, state_of}
+use Rattle.hyd_spec_certificates.specs.Stocks.{Stocks, state_of}
 use Rattle.hyd_spec_certificates.specs.Decided.{nowhere}
 use Rattle.hyd_spec_certificates.specs.Valid.{AreStates}
 use Rattle.hyd_spec_certificates.specs.declared.LevelSpan.{LevelSpan}
-use Rattle.hyd_tank.specs.StockIntervals.{initial_stocks, AreHeld}
+use Rattle.hyd_tank.specs.StockIntervals.{initial_stocks, AreHeld, volumes_of}
 use Rattle.hyd_tank.specs.declared.stock_intervals.VolumeSpan.{VolumeSpan}
-use Rattle.hyd_period_facts.specs.FactsOfPeriod.{levels_of, volumes_of}
-use Rattle.hyd_tank_inflows.proofs.Numbered.{item_there, item_is}
+use Rattle.hyd_lemmas.proofs.ListsAndOptions.{item_is, item_there, same_from}
 use Rattle.hyd_period_stocks.specs.TankStart.{stocks_among, IsFirstOpen}
 use Rattle.hyd_period_stocks.specs.declared.states.TankOpen.{TankOpen}
-use Rattle.hyd_period_stocks.proofs.Stocking.{same_from, at_first}
+use Rattle.hyd_theorems_on_histories.proofs.Beginning.{shared-same}
+use Rattle.hyd_period_stocks.proofs.Stocking.{at_first}
 use Rattle.hyd_period_stocks.proofs.Deciding.{none_open}
 
 -- ---- lists of one item for each item of another
@@ -51,70 +51,64 @@ item_of {X} {Y} f (y ∷ xs) (suc k) x d at = item_of f xs k x d at
 -- ---- stocks
 
 -- one tank more
-pub held_further : (network : Project) (i : ℕ)
-    → ((k : ℕ) (tank : Tank) → k < i → slice_get network.tanks.list k ≡ Some tank
-    → AreHeld (walls_of network tank) tank (initial_stocks (walls_of network tank) tank))
-    → ((tank : Tank) → slice_get network.tanks.list i ≡ Some tank
-    → AreHeld (walls_of network tank) tank (initial_stocks (walls_of network tank) tank))
-    → (k : ℕ) (tank : Tank) → k < i + 1 → slice_get network.tanks.list k ≡ Some tank
-    → AreHeld (walls_of network tank) tank (initial_stocks (walls_of network tank) tank)
-held_further network i before here k tank h at = elim (cases_lt k i) [
+pub held_further : (project : Project) (i : ℕ)
+    → ((k : ℕ) (tank : Tank) → k < i → slice_get project.tanks.list k ≡ Some tank
+    → AreHeld (walls_of project tank) tank (initial_stocks (walls_of project tank) tank))
+    → ((tank : Tank) → slice_get project.tanks.list i ≡ Some tank
+    → AreHeld (walls_of project tank) tank (initial_stocks (walls_of project tank) tank))
+    → (k : ℕ) (tank : Tank) → k < i + 1 → slice_get project.tanks.list k ≡ Some tank
+    → AreHeld (walls_of project tank) tank (initial_stocks (walls_of project tank) tank)
+held_further project i before here k tank h at = elim (cases_lt k i) [
   | inl less ↦ before k tank less at
   | inr more ↦
       let same : k ≡ i = omega (arith, h, more) in
-      here tank (ap (λ (n : ℕ). slice_get network.tanks.list n) (sym same) ∙ at)
+      here tank (ap (λ (n : ℕ). slice_get project.tanks.list n) (sym same) ∙ at)
 ]
 
 stocks : Interval → Interval → Stocks
 stocks level volume = record { level = level; volume = volume }
 
 -- the stocks among lists that are those at the start
-pub held_at_start : (network : Project) (levels : List LevelSpan) (volumes : List VolumeSpan)
-    → map levels_of levels ≡ (initial_standing network).levels
-    → map volumes_of volumes ≡ (initial_standing network).volumes
-    → (k : ℕ) (tank : Tank) → slice_get network.tanks.list k ≡ Some tank
-    → AreHeld (walls_of network tank) tank (initial_stocks (walls_of network tank) tank)
-    → AreHeld (walls_of network tank) tank (stocks_among levels volumes k)
+pub held_at_start : (project : Project) (levels : List LevelSpan) (volumes : List VolumeSpan)
+    → map levels_of levels ≡ (initial_standing project).levels
+    → map volumes_of volumes ≡ (initial_standing project).volumes
+    → (k : ℕ) (tank : Tank) → slice_get project.tanks.list k ≡ Some tank
+    → AreHeld (walls_of project tank) tank (initial_stocks (walls_of project tank) tank)
+    → AreHeld (walls_of project tank) tank (stocks_among levels volumes k)
 unfolding stocks
-held_at_start network levels volumes a b k tank at held =
+held_at_start project levels volumes a b k tank at held =
     let level : slice_index_or (map levels_of levels) k nowhere ≡ exactly tank.initial =
     ap (λ (xs : List Interval). slice_index_or xs k nowhere) a
-    ∙ item_of (λ (t : Tank). exactly t.initial) network.tanks.list k tank nowhere at in
+    ∙ item_of (λ (t : Tank). exactly t.initial) project.tanks.list k tank nowhere at in
     let volume : slice_index_or (map volumes_of volumes) k nowhere
-    ≡ exactly (kept_volume (walls_of network tank) tank.initial) =
+    ≡ exactly (kept_volume (walls_of project tank) tank.initial) =
     ap (λ (xs : List Interval). slice_index_or xs k nowhere) b
-    ∙ item_of (λ (t : Tank). exactly (kept_volume (walls_of network t) t.initial)) network.tanks.list k tank nowhere
+    ∙ item_of (λ (t : Tank). exactly (kept_volume (walls_of project t) t.initial)) project.tanks.list k tank nowhere
     at in
-    let same : stocks_among levels volumes k ≡ initial_stocks (walls_of network tank) tank =
+    let same : stocks_among levels volumes k ≡ initial_stocks (walls_of project tank) tank =
     ap (λ (l : Interval). stocks l (slice_index_or (map volumes_of volumes) k nowhere)) level
     ∙ ap (λ (v : Interval). stocks (exactly tank.initial) v) volume in
-    subst (AreHeld (walls_of network tank) tank) (sym same) held
+    subst (AreHeld (walls_of project tank) tank) (sym same) held
 
 -- ---- states
-
--- both ends have the same state
-shared : (s : TankState) → shared_state s s ≡ Some s
-shared Full = refl
-shared Between = refl
-shared Empty = refl
 
 plain : {X Y : Type 0} (f : X → Y) (from : ℕ) (xs : List X)
     → map_from (λ k x. Some (f x)) from xs ≡ map {B = Option Y} Some (map f xs)
 plain {X} {Y} f from [] = refl
 plain {X} {Y} f from (x ∷ xs) = ap (λ (ys : List (Option Y)). Some (f x) ∷ ys) (plain f (suc from) xs)
 
-states_at_start : (network : Project)
-    → AreStates network (initial_standing network).levels (initial_standing network).tanks
-states_at_start network =
-    let levels : List Interval = (initial_standing network).levels in
+states_at_start : (project : Project)
+    → AreStates project (initial_standing project).levels (initial_standing project).tanks
+states_at_start project =
+    let levels : List Interval = (initial_standing project).levels in
     let state : Tank → TankState = λ tank. tank_state 1 tank tank.initial in
     same_from (λ k tank. state_of tank (slice_index_or levels k nowhere)) (λ k tank. Some (state tank)) 0
-    network.tanks.list
+    project.tanks.list
     (λ k tank at. subst (λ (n : ℕ). state_of tank (slice_index_or levels n nowhere) ≡ Some (state tank))
     (sym (at_first k))
-    (ap (state_of tank) (item_of (λ (t : Tank). exactly t.initial) network.tanks.list k tank nowhere at)
-    ∙ shared (state tank)))
-    ∙ plain state 0 network.tanks.list
+    (ap (state_of tank) (item_of (λ (t : Tank). exactly t.initial) project.tanks.list k tank nowhere at)
+    ∙ shared-same (state tank)))
+    ∙ plain state 0 project.tanks.list
 
 somes_same : {X : Type 0} (xs ys : List X) → map {B = Option X} Some xs ≡ map {B = Option X} Some ys → xs ≡ ys
 somes_same {X} [] [] e = refl
@@ -126,22 +120,22 @@ somes_same {X} (x ∷ xs) (y ∷ ys) e =
     ap (λ (z : X). z ∷ xs) here ∙ ap (λ (zs : List X). y ∷ zs) (somes_same xs ys rest)
 
 -- none is open there
-pub none_at_start : (network : Project) (levels : List Interval) (result : Result (Unit {0}) TankOpen)
-    → levels ≡ (initial_standing network).levels → IfErr result (IsFirstOpen network levels)
+pub none_at_start : (project : Project) (levels : List Interval) (result : Result (Unit {0}) TankOpen)
+    → levels ≡ (initial_standing project).levels → IfErr result (IsFirstOpen project levels)
     → is_err result ≡ true → ⊥
-none_at_start network levels (Ok x) is first err = absurd (cc)
-none_at_start network levels (Err found) is first err =
-    let none = none_open network levels (initial_standing network).tanks
-    (subst (λ (ls : List Interval). AreStates network ls (initial_standing network).tanks) (sym is)
-    (states_at_start network)) in
+none_at_start project levels (Ok x) is first err = absurd (cc)
+none_at_start project levels (Err found) is first err =
+    let none = none_open project levels (initial_standing project).tanks
+    (subst (λ (ls : List Interval). AreStates project ls (initial_standing project).tanks) (sym is)
+    (states_at_start project)) in
     let some = first.first in
     absurd (cc)
 
-pub states_are : (network : Project) (levels : List Interval) (states : List TankState)
-    (result : Result (Unit {0}) TankOpen) → levels ≡ (initial_standing network).levels
-    → OnOk result (AreStates network levels states) → (is_err result ≡ true → ⊥)
-    → states ≡ (initial_standing network).tanks
-states_are network levels states (Err found) is are ok = absurd (ok refl)
-states_are network levels states (Ok x) is are ok =
-    somes_same states (initial_standing network).tanks
-    (sym (subst (λ (ls : List Interval). AreStates network ls states) is are) ∙ states_at_start network)
+pub states_are : (project : Project) (levels : List Interval) (states : List TankState)
+    (result : Result (Unit {0}) TankOpen) → levels ≡ (initial_standing project).levels
+    → OnOk result (AreStates project levels states) → (is_err result ≡ true → ⊥)
+    → states ≡ (initial_standing project).tanks
+states_are project levels states (Err found) is are ok = absurd (ok refl)
+states_are project levels states (Ok x) is are ok =
+    somes_same states (initial_standing project).tanks
+    (sym (subst (λ (ls : List Interval). AreStates project ls states) is are) ∙ states_at_start project)

@@ -12,7 +12,7 @@ pub record AreNone (next : TankStart) : Type 0 where
   pub tanks : next.tanks.list ≡ []
 
 -- There is room for the levels, the volumes and the state of each tank.
-pub record HasRoom (network : Project) (next : TankStart) : Type 0 where
-  pub levels : Takes next.levels (tank_count network)
-  pub volumes : Takes next.volumes (tank_count network)
-  pub tanks : Takes next.tanks (tank_count network)
+pub record HasRoom (project : Project) (next : TankStart) : Type 0 where
+  pub levels : Takes next.levels (tank_count project)
+  pub volumes : Takes next.volumes (tank_count project)
+  pub tanks : Takes next.tanks (tank_count project)

@@ -6,9 +6,9 @@ ghost use Rattle.hyd_net.specs.Sound.{Sound};
 ghost use Rattle.hyd_spec.specs.ProgramTypes.{Tank};
 ghost use Rattle.hyd_spec.specs.NodeNumbers.{tank_count};
 ghost use Rattle.hyd_spec.specs.Tank.{walls_of};
+ghost use Rattle.hyd_spec_certificates.specs.Spans.{levels_of};
 ghost use Rattle.hyd_spec_certificates.specs.RecordAndStanding.{initial_standing};
-ghost use Rattle.hyd_tank.specs.StockIntervals.{AreHeld};
-ghost use Rattle.hyd_period_facts.specs.FactsOfPeriod.{levels_of, volumes_of};
+ghost use Rattle.hyd_tank.specs.StockIntervals.{AreHeld, volumes_of};
 ghost use Rattle.hyd_period_stocks.specs.TankStart.{stocks_among};
 
 use crate::states::put_states;

@@ -6,11 +6,11 @@ ghost use Rattle.hyd_net.specs.Sound.{Sound};
 ghost use Rattle.hyd_spec.specs.ProgramTypes.{Tank};
 ghost use Rattle.hyd_spec.specs.NodeNumbers.{tank_count};
 ghost use Rattle.hyd_spec.specs.Tank.{walls_of};
+ghost use Rattle.hyd_spec_certificates.specs.Spans.{levels_of};
 ghost use Rattle.hyd_spec_certificates.specs.PeriodNetwork.{Grid};
 ghost use Rattle.hyd_spec_certificates.specs.RecordAndStanding.{Record, Standing};
 ghost use Rattle.hyd_spec_certificates.specs.Valid.{levels_next, volumes_next};
-ghost use Rattle.hyd_tank.specs.StockIntervals.{stocks_of, AreHeld};
-ghost use Rattle.hyd_period_facts.specs.FactsOfPeriod.{levels_of, volumes_of};
+ghost use Rattle.hyd_tank.specs.StockIntervals.{stocks_of, AreHeld, volumes_of};
 ghost use Rattle.hyd_watched_levels.specs.FactsBeforeEnd.{HaveTanks, AreStarted};
 ghost use Rattle.hyd_period_stocks.specs.TankStart.{next_in, stocks_among};
 

@@ -39,11 +39,11 @@ impl TankStart {
     ghost use Rattle.std.specs.Prelude.{◌^◌, ℕ, Some, map, slice_get, IfErr, OnOk};
     ghost use Rattle.hyd_spec.specs.ProgramTypes.{Tank};
     ghost use Rattle.hyd_spec.specs.Tank.{walls_of};
+    ghost use Rattle.hyd_spec_certificates.specs.Spans.{levels_of};
     ghost use Rattle.hyd_spec_certificates.specs.PeriodNetwork.{Grid};
     ghost use Rattle.hyd_spec_certificates.specs.RecordAndStanding.{Record, Standing, initial_standing};
     ghost use Rattle.hyd_spec_certificates.specs.Valid.{AreStates, ControlsAreDecided, levels_next, volumes_next};
-    ghost use Rattle.hyd_tank.specs.StockIntervals.{AreHeld};
-    ghost use Rattle.hyd_period_facts.specs.FactsOfPeriod.{levels_of, volumes_of};
+    ghost use Rattle.hyd_tank.specs.StockIntervals.{AreHeld, volumes_of};
     ghost use Rattle.hyd_watched_levels.specs.FactsBeforeEnd.{HaveTanks, AreStarted};
     ghost use Rattle.hyd_period_stocks.specs.TankStart.{stocks_among, IsUnsettled};
     ghost use Rattle.hyd_period_stocks.specs.ReservedMemory.{HasRoom, AreNone};

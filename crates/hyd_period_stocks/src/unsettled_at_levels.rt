@@ -4,8 +4,8 @@
 ghost use Rattle.std.specs.Prelude.{◌≡◌, ◌≤◌, ◌+◌, length, map, IfErr, OnOk};
 ghost use Rattle.hyd_net.specs.Sound.{Sound};
 ghost use Rattle.hyd_spec.specs.NodeNumbers.{tank_count};
+ghost use Rattle.hyd_spec_certificates.specs.Spans.{levels_of};
 ghost use Rattle.hyd_spec_certificates.specs.Valid.{AreStates, ControlsAreDecided};
-ghost use Rattle.hyd_period_facts.specs.FactsOfPeriod.{levels_of};
 ghost use Rattle.hyd_period_stocks.specs.TankStart.{IsUnsettled};
 
 use crate::states::{TankOpen, put_states};

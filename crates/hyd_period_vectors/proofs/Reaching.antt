@@ -1,5 +1,5 @@
 -- Turns that lead from one tick nearer to proposed heads show that every certificate lies beyond these.
-use Rattle.std.proofs.Common.{◌≡◌, ℕ, zero, suc, ◌<◌, ℤ, pos, ◌-ℤ◌, ◌≤ℤ◌, ◌<ℤ◌, refl, sym, ap, subst, ◌∙◌, arith, List}
+use Rattle.std.proofs.Common.{◌≡◌, ℕ, zero, suc, ◌<◌, ℤ, pos, ◌-ℤ◌, ◌≤ℤ◌, ◌<ℤ◌, sym, ap, subst, ◌∙◌, arith, List}
 use Rattle.std.proofs.Common.{length, inl, inr}
 use Rattle.std.specs.Prelude.{None, Some, All, slice_get, slice_set}
 use Rattle.std.proofs.lemmas.Int.{ints, by_lt_z}
@@ -8,7 +8,6 @@ use Rattle.std.proofs.lemmas.List.{length-set}
 use Rattle.hyd_spec.specs.Assignment.{head_at}
 use Rattle.hyd_spec_certificates.specs.declared.Problem.{Problem}
 use Rattle.hyd_spec_certificates.specs.declared.Side.{Side}
-use Rattle.hyd_spec_certificates.specs.declared.Side.TheVariants.{Upper, Lower}
 use Rattle.hyd_spec_certificates.specs.PeriodNetwork.{Grid, GridJunction}
 use Rattle.hyd_spec_certificates.specs.Certificate.{IsInBox, IsBeyond, IsCertificate}
 use Rattle.hyd_spec_certificates.specs.SearchSteps.{IsStart, Fails}
@@ -19,10 +18,7 @@ use Rattle.hyd_theorems_on_raises.proofs.Raising.{beyond-self, set-here, set-the
 use Rattle.hyd_theorems_on_raises.proofs.Sweeping.{one-vector}
 use Rattle.hyd_sweep.specs.Leaps.{nearer}
 use Rattle.hyd_period_vectors.specs.TurnsTowardProposedHeads.{no_turn, one_turn, ComesInTurn, Leads, AreInTurn}
-
-along-nearer : (side : Side) (h : ℤ) → along side (nearer side h) ≡ along side h -ℤ pos 1
-along-nearer Upper h = refl
-along-nearer Lower h = omega (arith, ints)
+use Rattle.hyd_sweep.proofs.Turns.{along-nearer}
 
 -- a place where a function is greatest
 greatest : (f : ℕ → ℤ) (n : ℕ) → 0 < n → (i : ℕ) × ((i < n) × ((m : ℕ) → m < n → f m ≤ℤ f i))

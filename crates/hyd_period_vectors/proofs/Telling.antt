@@ -1,6 +1,6 @@
 -- Vectors that are sought and found.
 use Rattle.std.proofs.Common.{◌≡◌, ℕ, ◌≤◌, ℤ, Bool, true, false, List, length, inl, inr, refl, sym, subst}
-use Rattle.std.specs.Prelude.{Option, Some, None, Result, Ok, Err, OnOk}
+use Rattle.std.specs.Prelude.{Option, Some, None}
 use Rattle.hyd_spec_certificates.specs.declared.Problem.{Problem}
 use Rattle.hyd_spec_certificates.specs.declared.Side.{Side}
 use Rattle.hyd_spec_certificates.specs.PeriodNetwork.{Grid}
@@ -9,11 +9,6 @@ use Rattle.hyd_period_network.specs.NetView.{NetView}
 use Rattle.hyd_finders.specs.ProposedVectors.{Leaves, IsOfSize, told_vector}
 use Rattle.hyd_sweep.specs.LeapingRounds.{AreLeapingRounds}
 use Rattle.hyd_period_vectors.specs.Vectors.{IsTold, IsFound, IsSought, IsAtHand, IsBegun, IsReached, Tells, Comes}
-
--- what holds of an answer that is there
-pub on-ok : {A E : Type 0} (P Q : Type 0) (result : Result A E) → (P → Q) → OnOk result P → OnOk result Q
-on-ok P Q (Ok value) f p = f p
-on-ok P Q (Err fault) f p = p
 
 -- where a finder tells no certificate the tight vector is one that is found
 pub tight-sought : (tight : Bool) (told : Option (List ℤ)) (grid : Grid) (tanks : ℕ) (problem : Problem) (side : Side)

@@ -60,17 +60,17 @@ by_one true true change rest other control all others = all
 by_one true false change rest other control all others = (control, all)
 by_one false same change rest other control all others = others
 
-by_controls : (network : Project) (time : ℕ) (acts : ℕ → Bool → ℤ → Bool) (k : ℕ) (controls : List Control)
+by_controls : (project : Project) (time : ℕ) (acts : ℕ → Bool → ℤ → Bool) (k : ℕ) (controls : List Control)
     (links : List LinkState)
-    → AreControls (control_changes network time acts k controls links)
-by_controls network time acts k [] links = tt
-by_controls network time acts k (control ∷ rest) links =
-    by_one (control_acts network time acts control.when) (is_same_state (state_of_link links control.link) control.to)
+    → AreControls (control_changes project time acts k controls links)
+by_controls project time acts k [] links = tt
+by_controls project time acts k (control ∷ rest) links =
+    by_one (control_acts project time acts control.when) (is_same_state (state_of_link links control.link) control.to)
     (record { source = ByControl k; link = control.link; to = control.to })
-    (control_changes network time acts (suc k) rest (slice_set links control.link control.to))
-    (control_changes network time acts (suc k) rest links) refl
-    (by_controls network time acts (suc k) rest (slice_set links control.link control.to))
-    (by_controls network time acts (suc k) rest links)
+    (control_changes project time acts (suc k) rest (slice_set links control.link control.to))
+    (control_changes project time acts (suc k) rest links) refl
+    (by_controls project time acts (suc k) rest (slice_set links control.link control.to))
+    (by_controls project time acts (suc k) rest links)
 
 by_offer : (same : Bool) (change : Change) (rest : List (Option Change)) → is_by_rule change ≡ true → before_rules
     (present rest) ≡ 0
@@ -85,31 +85,31 @@ by_best (Some offer) state rest first =
     by_offer (is_same_state state offer.to) (record { source = ByRule offer.rule; link = offer.link; to = offer.to })
     rest refl first
 
-by_rules_from : (network : Project) (values : List Bool) (k : ℕ) (links : List LinkState)
-    → before_rules (present (map_from (change_of network values) k links)) ≡ 0
-by_rules_from network values k [] = refl
-by_rules_from network values k (state ∷ links) =
-    by_best (best_offer k (offers_from 0 network.rules.list values)) state (map_from (change_of network values)
+by_rules_from : (project : Project) (values : List Bool) (k : ℕ) (links : List LinkState)
+    → before_rules (present (map_from (change_of project values) k links)) ≡ 0
+by_rules_from project values k [] = refl
+by_rules_from project values k (state ∷ links) =
+    by_best (best_offer k (offers_from 0 project.rules.list values)) state (map_from (change_of project values)
     (suc k) links)
-    (by_rules_from network values (suc k) links)
+    (by_rules_from project values (suc k) links)
 
-end_first : (network : Project) (grid : Grid) (standing : Standing) (row : Record) (events : List Event)
+end_first : (project : Project) (grid : Grid) (standing : Standing) (row : Record) (events : List Event)
     (changes : List Change)
-    → EndBrings network grid standing row events changes → before_rules changes ≡ 0
-end_first network grid standing row events changes (at_end e) = refl
-end_first network grid standing row events changes (by_rules e) =
-    by_rules_from network (map is_yes (rule_truths network grid standing row row.length)) 0 (links_at network standing)
-end_first network grid standing row events changes (by_clock e) = refl
+    → EndBrings project grid standing row events changes → before_rules changes ≡ 0
+end_first project grid standing row events changes (at_end e) = refl
+end_first project grid standing row events changes (by_rules e) =
+    by_rules_from project (map is_yes (rule_truths project grid standing row row.length)) 0 (links_at project standing)
+end_first project grid standing row events changes (by_clock e) = refl
 
 -- the changes of a period: those by controls, and then those by rules
-pub changes_apart : (network : Project) (grid : Grid) (standing : Standing) (row : Record) (events : List Event)
+pub changes_apart : (project : Project) (grid : Grid) (standing : Standing) (row : Record) (events : List Event)
     (all rules : List Change)
-    → all ≡ changes_at network standing ++ rules → EndBrings network grid standing row events rules
-    → (take (before_rules all) all ≡ changes_at network standing) × (drop (before_rules all) all ≡ rules)
-changes_apart network grid standing row events all rules are brings =
-    subst (λ (xs : List Change). (take (before_rules xs) xs ≡ changes_at network standing) × (drop
+    → all ≡ changes_at project standing ++ rules → EndBrings project grid standing row events rules
+    → (take (before_rules all) all ≡ changes_at project standing) × (drop (before_rules all) all ≡ rules)
+changes_apart project grid standing row events all rules are brings =
+    subst (λ (xs : List Change). (take (before_rules xs) xs ≡ changes_at project standing) × (drop
     (before_rules xs) xs ≡ rules)) (sym are)
-    (controls-first (changes_at network standing) rules
-    (by_controls network standing.time (acts_on standing.levels) 0 network.controls.list
-    (patterned network standing.time standing.commanded))
-    (end_first network grid standing row events rules brings))
+    (controls-first (changes_at project standing) rules
+    (by_controls project standing.time (acts_on standing.levels) 0 project.controls.list
+    (patterned project standing.time standing.commanded))
+    (end_first project grid standing row events rules brings))

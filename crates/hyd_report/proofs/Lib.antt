@@ -4,6 +4,5 @@ pub mod LineLemmas
 pub mod LinkLemmas
 pub mod LoopLemmas
 pub mod PrintLemmas
-pub mod PutLemmas
 pub mod ReportLemmas
 pub mod StopLemmas

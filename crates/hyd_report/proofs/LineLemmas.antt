@@ -8,6 +8,7 @@ use Rattle.hyd_num.specs.declared.decimals.Span.{Span}
 use Rattle.hyd_spec.specs.ProgramTypes.{Project, Tank, Link, LinkState}
 use Rattle.hyd_spec.specs.declared.TankState.{TankState}
 use Rattle.hyd_spec.specs.declared.TankState.TheVariants.{Between}
+use Rattle.hyd_spec_certificates.specs.Spans.{levels_of, flows_of}
 use Rattle.hyd_spec_certificates.specs.declared.LevelSpan.{LevelSpan}
 use Rattle.hyd_spec_certificates.specs.Decided.{nowhere}
 use Rattle.hyd_spec.specs.Assignment.{head_at}
@@ -22,14 +23,12 @@ use Rattle.hyd_spec_certificates.specs.FlowIntervals.{difference, flow_box, out_
 use Rattle.hyd_spec_reports.specs.ReportLine.{ReportLine, JunctionLine, ReservoirLine, TankLine, LinkLine, line_text}
 use Rattle.hyd_spec_reports.specs.Report.{status_of}
 use Rattle.hyd_spec_reports.specs.declared.StatusWord.{StatusWord}
-use Rattle.hyd_period_facts.specs.FactsOfPeriod.{levels_of, flows_of}
 use Rattle.hyd_bounds.specs.VectorsInOrder.{IsSpan, AreInOrder}
 use Rattle.hyd_report.specs.Printing.{printed, quantity_in, ArePrinted}
 use Rattle.hyd_report.specs.NodeAndLinkLines.{texts, junction_between, junction_line, reservoir_line, tank_at}
-use Rattle.hyd_report.specs.NodeAndLinkLines.{tank_line}
-use Rattle.hyd_report.specs.NodeAndLinkLines.{no_link}
-use Rattle.hyd_report.specs.NodeAndLinkLines.{link_line}
-use Rattle.hyd_report.proofs.Joining.{map-append, joined-append}
+use Rattle.hyd_report.specs.NodeAndLinkLines.{tank_line, no_link, link_line}
+use Rattle.std.proofs.lemmas.List.{map-append}
+use Rattle.hyd_lemmas.proofs.ListsAndOptions.{any_default, join-append}
 use Rattle.hyd_report.specs.declared.printed_intervals.Ends.{Ends}
 use Rattle.hyd_report.specs.declared.printed_intervals.Quantity.TheVariants.{Head, Pressure, Flow}
 
@@ -42,11 +41,6 @@ there [] i Q within q = absurd (omega arith)
 there (x ∷ xs) zero Q within q = (x, (refl, q))
 there (x ∷ xs) (suc i) Q within q = there xs i Q (omega arith) q
 
-pub found : {X : Type 0} (xs : List X) (i : ℕ) → i < length xs → (x : X) × (slice_get xs i ≡ Some x)
-found [] i within = absurd (omega arith)
-found (x ∷ xs) zero within = (x, refl)
-found (x ∷ xs) (suc i) within = found xs i (omega arith)
-
 -- what was read of a list, as a function shows it
 pub map-read : {X Y : Type 0} (f : X → Y) (xs : List X) (i : ℕ) (x : X) (d : Y) → i < length xs → x ≡ get_or xs i x
     → slice_index_or (map f xs) i d ≡ f x
@@ -56,51 +50,51 @@ map-read f (y ∷ ys) (suc i) x d within is = map-read f ys i x d (omega arith) 
 
 -- ---- lines one after another
 
-module _ {X : Type 0} (network : Project) (f : ℕ → X → ReportLine) where
+module _ {X : Type 0} (project : Project) (f : ℕ → X → ReportLine) where
   more_from : (k : ℕ) (xs : List X) (i : ℕ) (x : X) → slice_get xs i ≡ Some x
-      → texts network (map_from f k (take i xs)) ++ line_text network (f (k + i) x) ≡ texts network (map_from f k
+      → texts project (map_from f k (take i xs)) ++ line_text project (f (k + i) x) ≡ texts project (map_from f k
       (take (suc i) xs))
   more_from k [] i x at = absurd (cc)
   more_from k (y ∷ ys) zero x at =
       let same : y ≡ x = cc in
       let n : k + 0 ≡ k = omega arith in
-      ap (λ m. line_text network (f m x)) n ∙ (ap (λ z. line_text network (f k z)) (sym same) ∙ sym (append-nil
-      (line_text network (f k y))))
+      ap (λ m. line_text project (f m x)) n ∙ (ap (λ z. line_text project (f k z)) (sym same) ∙ sym (append-nil
+      (line_text project (f k y))))
   more_from k (y ∷ ys) (suc i) x at =
       let n : k + suc i ≡ suc k + i = omega arith in
-      append_assoc (line_text network (f k y)) (texts network (map_from f (suc k) (take i ys))) (line_text network (f
+      append_assoc (line_text project (f k y)) (texts project (map_from f (suc k) (take i ys))) (line_text project (f
       (k + suc i) x))
-      ∙ ap (λ t. line_text network (f k y) ++ t)
-      (ap (λ m. texts network (map_from f (suc k) (take i ys)) ++ line_text network (f m x)) n ∙ more_from
+      ∙ ap (λ t. line_text project (f k y) ++ t)
+      (ap (λ m. texts project (map_from f (suc k) (take i ys)) ++ line_text project (f m x)) n ∙ more_from
       (suc k) ys i x at)
 
   rest_from : (k : ℕ) (xs : List X) (i : ℕ)
-      → (rest : List ℕ) × (texts network (map_from f k (take i xs)) ++ rest ≡ texts network (map_from f k xs))
-  rest_from k xs zero = (texts network (map_from f k xs), refl)
+      → (rest : List ℕ) × (texts project (map_from f k (take i xs)) ++ rest ≡ texts project (map_from f k xs))
+  rest_from k xs zero = (texts project (map_from f k xs), refl)
   rest_from k [] (suc i) = ([], refl)
   rest_from k (y ∷ ys) (suc i) =
       let r = rest_from (suc k) ys i in (
         r.0,
-        append_assoc (line_text network (f k y)) (texts network (map_from f (suc k) (take i ys))) r.0
-            ∙ ap (λ t. line_text network (f k y) ++ t) r.1,
+        append_assoc (line_text project (f k y)) (texts project (map_from f (suc k) (take i ys))) r.0
+            ∙ ap (λ t. line_text project (f k y) ++ t) r.1,
       )
 
   -- one line more
   pub lines_more : (xs : List X) (i : ℕ) (x : X) → slice_get xs i ≡ Some x
-      → texts network (map_from f 0 (take i xs)) ++ line_text network (f i x) ≡ texts network (map_from f 0 (take
+      → texts project (map_from f 0 (take i xs)) ++ line_text project (f i x) ≡ texts project (map_from f 0 (take
       (i + 1) xs))
   lines_more xs i x at =
       let n : 0 + i ≡ i = omega arith in
       let m : suc i ≡ i + 1 = omega arith in
-      ap (λ j. texts network (map_from f 0 (take i xs)) ++ line_text network (f j x)) (sym n)
-      ∙ (more_from 0 xs i x at ∙ ap (λ j. texts network (map_from f 0 (take j xs))) m)
+      ap (λ j. texts project (map_from f 0 (take i xs)) ++ line_text project (f j x)) (sym n)
+      ∙ (more_from 0 xs i x at ∙ ap (λ j. texts project (map_from f 0 (take j xs))) m)
 
   -- all lines are those up to one and the others
   pub lines_rest : (xs : List X) (i : ℕ) → List ℕ
   lines_rest xs i = (rest_from 0 xs (i + 1)).0
 
   pub lines_split : (xs : List X) (i : ℕ) (x : X) → slice_get xs i ≡ Some x
-      → (texts network (map_from f 0 (take i xs)) ++ line_text network (f i x)) ++ lines_rest xs i ≡ texts network
+      → (texts project (map_from f 0 (take i xs)) ++ line_text project (f i x)) ++ lines_rest xs i ≡ texts project
       (map_from f 0 xs)
   unfolding lines_rest
   lines_split xs i x at = ap (λ t. t ++ (rest_from 0 xs (i + 1)).0) (lines_more xs i x at) ∙ (rest_from 0 xs (i + 1)).1
@@ -114,86 +108,57 @@ span_is span box is = ap (λ (z : ℤ). record { lo = z; hi = span.hi }) is.lo_i
 
 -- ---- junctions
 
-pub junction_put : (o : Option GridJunction) (network : Project) (P : List ℕ → Type 0) (j : ℕ)
+pub junction_put : (o : Option GridJunction) (project : Project) (P : List ℕ → Type 0) (j : ℕ)
     (lower upper elevation : ℤ) (flow : Span)
     (head pressure outflow : Ends)
     → IfSome o (λ here. IsSpan flow (out_box here lower upper)) → IfSome o (λ here. elevation ≡ here.elevation)
-    → ArePrinted (printed (quantity_in network Head) (record { lo = lower; hi = upper })) head
-    → ArePrinted (printed (quantity_in network Pressure) (record {
+    → ArePrinted (printed (quantity_in project Head) (record { lo = lower; hi = upper })) head
+    → ArePrinted (printed (quantity_in project Pressure) (record {
       lo = lower -ℤ elevation;
       hi = upper -ℤ elevation;
     })) pressure
-    → ArePrinted (printed (quantity_in network Flow) (record { lo = flow.lo; hi = flow.hi })) outflow
-    → ((h p o : Interval) → ArePrinted h head → ArePrinted p pressure → ArePrinted o outflow → P (line_text network
+    → ArePrinted (printed (quantity_in project Flow) (record { lo = flow.lo; hi = flow.hi })) outflow
+    → ((h p o : Interval) → ArePrinted h head → ArePrinted p pressure → ArePrinted o outflow → P (line_text project
     (JunctionLine j h p o)))
-    → IfSome o (λ here. P (line_text network (junction_between network j here lower upper)))
-junction_put None network P j lower upper elevation flow head pressure outflow box at h p o puts = tt
-junction_put (Some here) network P j lower upper elevation flow head pressure outflow box at h p o puts =
+    → IfSome o (λ here. P (line_text project (junction_between project j here lower upper)))
+junction_put None project P j lower upper elevation flow head pressure outflow box at h p o puts = tt
+junction_put (Some here) project P j lower upper elevation flow head pressure outflow box at h p o puts =
     puts _ _ _ h
-    (subst (λ (e : ℤ). ArePrinted (printed (quantity_in network Pressure)
+    (subst (λ (e : ℤ). ArePrinted (printed (quantity_in project Pressure)
     (record { lo = lower -ℤ e; hi = upper -ℤ e })) pressure) at p)
-    (subst (λ (z : Interval). ArePrinted (printed (quantity_in network Flow) z) outflow) same o)
+    (subst (λ (z : Interval). ArePrinted (printed (quantity_in project Flow) z) outflow) same o)
   where
     same : record { lo = flow.lo; hi = flow.hi } ≡ out_box here lower upper
     same = span_is flow (out_box here lower upper) box
 
 -- ---- reservoirs
 
--- a head behind those of a vector
-pub head_behind : (u rest : List ℤ) (n r : ℕ) → length u ≡ n → head_at (u ++ rest) (n + r) ≡ head_at rest r
-head_behind [] rest n r is = let m : n + r ≡ r = omega (arith, is) in ap (head_at rest) m
-head_behind (h ∷ u) rest n r is =
-    let m : n + r ≡ suc (length u + r) = omega (arith, is) in
-    ap (head_at (h ∷ (u ++ rest))) m ∙ head_behind u rest (length u) r refl
-
--- a head in front of others
-pub head_before : (u rest : List ℤ) (r : ℕ) → r < length u → head_at (u ++ rest) r ≡ head_at u r
-head_before [] rest r within = absurd (omega arith)
-head_before (h ∷ u) rest zero within = refl
-head_before (h ∷ u) rest (suc r) within = head_before u rest r (omega arith)
-
--- so many heads
-pub heads_of : {X : Type 0} → List X → List ℤ
-heads_of xs = map (λ _. pos 0) xs
-
-pub heads_of-length : {X : Type 0} (xs : List X) → length (heads_of xs) ≡ length xs
-unfolding heads_of
-heads_of-length [] = refl
-heads_of-length (x ∷ xs) = ap suc (heads_of-length xs)
-
-pub reservoir_put : (reservoirs : List ℤ) (network : Project) (P : List ℕ → Type 0) (r : ℕ) (height : ℤ) (head : Ends)
+pub reservoir_put : (reservoirs : List ℤ) (project : Project) (P : List ℕ → Type 0) (r : ℕ) (height : ℤ) (head : Ends)
     → r < length reservoirs → height ≡ head_at reservoirs r
-    → ArePrinted (printed (quantity_in network Head) (record { lo = height; hi = height })) head
-    → ((h : Interval) → ArePrinted h head → P (line_text network (ReservoirLine r h)))
-    → IfSome (slice_get reservoirs r) (λ here. P (line_text network (reservoir_line network r here)))
-reservoir_put [] network P r height head within is h puts = absurd (omega arith)
-reservoir_put reservoirs network P r height head within is h puts =
+    → ArePrinted (printed (quantity_in project Head) (record { lo = height; hi = height })) head
+    → ((h : Interval) → ArePrinted h head → P (line_text project (ReservoirLine r h)))
+    → IfSome (slice_get reservoirs r) (λ here. P (line_text project (reservoir_line project r here)))
+reservoir_put [] project P r height head within is h puts = absurd (omega arith)
+reservoir_put reservoirs project P r height head within is h puts =
     let at : slice_get reservoirs r ≡ Some (head_at reservoirs r) = slice_get-get_or reservoirs r (pos 0) within in
-    subst (λ (o : Option ℤ). IfSome o (λ here. P (line_text network (reservoir_line network r here)))) (sym at)
-    (puts _ (subst (λ (z : ℤ). ArePrinted (printed (quantity_in network Head) (record { lo = z; hi = z })) head) is h))
+    subst (λ (o : Option ℤ). IfSome o (λ here. P (line_text project (reservoir_line project r here)))) (sym at)
+    (puts _ (subst (λ (z : ℤ). ArePrinted (printed (quantity_in project Head) (record { lo = z; hi = z })) head) is h))
 
 -- ---- tanks
 
-pub tank_put : (o : Option Tank) (network : Project) (P : List ℕ → Type 0) (k : ℕ) (levels inflow : Interval)
+pub tank_put : (o : Option Tank) (project : Project) (P : List ℕ → Type 0) (k : ℕ) (levels inflow : Interval)
     (state : TankState)
     (bottom : ℤ) (head level flow : Ends)
     → IfSome o (λ t. bottom ≡ t.bottom)
-    → ArePrinted (printed (quantity_in network Head) (shifted bottom levels)) head
-    → ArePrinted (printed (quantity_in network Head) levels) level
-    → ArePrinted (printed (quantity_in network Flow) inflow) flow
-    → ((h l i : Interval) → ArePrinted h head → ArePrinted l level → ArePrinted i flow → P (line_text network
+    → ArePrinted (printed (quantity_in project Head) (shifted bottom levels)) head
+    → ArePrinted (printed (quantity_in project Head) levels) level
+    → ArePrinted (printed (quantity_in project Flow) inflow) flow
+    → ((h l i : Interval) → ArePrinted h head → ArePrinted l level → ArePrinted i flow → P (line_text project
     (TankLine k h l i state)))
-    → IfSome o (λ here. P (line_text network (tank_at network k here levels inflow state)))
-tank_put None network P k levels inflow state bottom head level flow at h l i puts = tt
-tank_put (Some here) network P k levels inflow state bottom head level flow at h l i puts =
-    puts _ _ _ (subst (λ (z : ℤ). ArePrinted (printed (quantity_in network Head) (shifted z levels)) head) at h) l i
-
--- an item, whatever stands for those that aren't there
-index-same : {X : Type 0} (xs : List X) (i : ℕ) (d e : X) → i < length xs → slice_index_or xs i d
-    ≡ slice_index_or xs i e
-index-same [] i d e within = absurd (omega arith)
-index-same (x ∷ xs) zero d e within = refl
-index-same (x ∷ xs) (suc i) d e within = index-same xs i d e (omega arith)
+    → IfSome o (λ here. P (line_text project (tank_at project k here levels inflow state)))
+tank_put None project P k levels inflow state bottom head level flow at h l i puts = tt
+tank_put (Some here) project P k levels inflow state bottom head level flow at h l i puts =
+    puts _ _ _ (subst (λ (z : ℤ). ArePrinted (printed (quantity_in project Head) (shifted z levels)) head) at h) l i
 
 index-map : {X Y : Type 0} (f : X → Y) (xs : List X) (i : ℕ) (e : X) (d : Y) → i < length xs
     → f (slice_index_or xs i e) ≡ slice_index_or (map f xs) i d
@@ -202,19 +167,19 @@ index-map f (x ∷ xs) zero e d within = refl
 index-map f (x ∷ xs) (suc i) e d within = index-map f xs i e d (omega arith)
 
 -- the line of a tank by what was read of the lists
-pub tank_read : (o : Option Tank) (network : Project) (P : List ℕ → Type 0) (k : ℕ) (levels : List LevelSpan)
+pub tank_read : (o : Option Tank) (project : Project) (P : List ℕ → Type 0) (k : ℕ) (levels : List LevelSpan)
     (inflows : List Span)
     (states : List TankState) (level : LevelSpan) (inflow : Span) (state : TankState)
     → k < length levels → k < length inflows → k < length states → inflow ≡ get_or inflows k inflow
-    → IfSome o (λ here. P (line_text network (tank_at network k here (levels_of (slice_index_or levels k level))
+    → IfSome o (λ here. P (line_text project (tank_at project k here (levels_of (slice_index_or levels k level))
     (flows_of inflow) (slice_index_or states k state))))
-    → IfSome o (λ here. P (line_text network (tank_line network levels inflows states k here)))
-tank_read o network P k levels inflows states level inflow state in_levels in_inflows in_states read puts =
-    let Q : Interval → Interval → TankState → Type 0 = λ l i s. IfSome o (λ here. P (line_text network
-    (tank_at network k here l i s))) in
+    → IfSome o (λ here. P (line_text project (tank_line project levels inflows states k here)))
+tank_read o project P k levels inflows states level inflow state in_levels in_inflows in_states read puts =
+    let Q : Interval → Interval → TankState → Type 0 = λ l i s. IfSome o (λ here. P (line_text project
+    (tank_at project k here l i s))) in
     subst (λ (s : TankState). Q (slice_index_or (map levels_of levels) k nowhere) (slice_index_or
     (map flows_of inflows) k nowhere) s)
-    (index-same states k state Between in_states)
+    (any_default states k state Between in_states)
     (subst (λ (i : Interval). Q (slice_index_or (map levels_of levels) k nowhere) i (slice_index_or states k state))
     (sym (map-read flows_of inflows k inflow nowhere in_inflows read))
     (subst (λ (l : Interval). Q l (flows_of inflow) (slice_index_or states k state))
@@ -222,29 +187,29 @@ tank_read o network P k levels inflows states level inflow state in_levels in_in
 
 -- ---- links
 
-pub link_put : (o : Option Link) (network : Project) (grid : Grid) (below above : List ℤ) (states : List LinkState)
+pub link_put : (o : Option Link) (project : Project) (grid : Grid) (below above : List ℤ) (states : List LinkState)
     (P : List ℕ → Type 0) (l : ℕ) (flow : Span) (ends : Ends) (status : StatusWord) (place : GridLink)
     → slice_get grid.links l ≡ Some place
     → IfSome (slice_get grid.links l) (λ g. IsSpan flow (flow_box g below above))
-    → IfSome o (λ here. status ≡ status_of (is_us network) network.bends.list here.kind (state_of_link states l)
+    → IfSome o (λ here. status ≡ status_of (is_us project) project.bends.list here.kind (state_of_link states l)
     (difference place below above))
-    → ArePrinted (printed (quantity_in network Flow) (flows_of flow)) ends
-    → ((f : Interval) → ArePrinted f ends → P (line_text network (LinkLine l f status)))
-    → IfSome o (λ here. P (line_text network (link_line network grid below above states l here)))
-link_put None network grid below above states P l flow ends status place at box word printed_is puts = tt
-link_put (Some here) network grid below above states P l flow ends status place at box word printed_is puts =
+    → ArePrinted (printed (quantity_in project Flow) (flows_of flow)) ends
+    → ((f : Interval) → ArePrinted f ends → P (line_text project (LinkLine l f status)))
+    → IfSome o (λ here. P (line_text project (link_line project grid below above states l here)))
+link_put None project grid below above states P l flow ends status place at box word printed_is puts = tt
+link_put (Some here) project grid below above states P l flow ends status place at box word printed_is puts =
     let is : slice_index_or grid.links l no_link ≡ place = get_or_from_slice_get grid.links l place no_link at in
     let boxed : IsSpan flow (flow_box place below above) = subst (λ (o : Option GridLink). IfSome o (λ g. IsSpan flow
     (flow_box g below above))) at box in
-    let text : (s : StatusWord) → s ≡ status → P (line_text network (LinkLine l (printed (quantity_in network Flow)
+    let text : (s : StatusWord) → s ≡ status → P (line_text project (LinkLine l (printed (quantity_in project Flow)
     (flow_box place below above)) s)) =
-    λ s same. subst (λ (t : StatusWord). P (line_text network (LinkLine l (printed (quantity_in network Flow)
+    λ s same. subst (λ (t : StatusWord). P (line_text project (LinkLine l (printed (quantity_in project Flow)
     (flow_box place below above)) t))) (sym same)
-    (puts _ (subst (λ (z : Interval). ArePrinted (printed (quantity_in network Flow) z) ends) (span_is flow
+    (puts _ (subst (λ (z : Interval). ArePrinted (printed (quantity_in project Flow) z) ends) (span_is flow
     (flow_box place below above) boxed) printed_is)) in
-    subst (λ (g : GridLink). P (line_text network (LinkLine l (printed (quantity_in network Flow)
+    subst (λ (g : GridLink). P (line_text project (LinkLine l (printed (quantity_in project Flow)
     (flow_box g below above))
-    (status_of (is_us network) network.bends.list here.kind (state_of_link states l) (difference g below above)))))
+    (status_of (is_us project) project.bends.list here.kind (state_of_link states l) (difference g below above)))))
     (sym is)
     (text _ (sym word))
 
@@ -262,83 +227,83 @@ in_order (l ∷ ls) (u ∷ us) below above same order (suc node) = in_order ls u
 
 -- ---- texts of lists of lines
 
-pub texts-append : (network : Project) (xs ys : List ReportLine) → texts network (xs ++ ys)
-    ≡ texts network xs ++ texts network ys
-texts-append network xs ys =
-    ap joined (map-append (line_text network) xs ys) ∙ joined-append (map (line_text network) xs) (map
-    (line_text network) ys)
+pub texts-append : (project : Project) (xs ys : List ReportLine) → texts project (xs ++ ys)
+    ≡ texts project xs ++ texts project ys
+texts-append project xs ys =
+    ap joined (map-append (line_text project) xs ys) ∙ join-append (map (line_text project) xs) (map
+    (line_text project) ys)
 
 map-map : {X Y Z : Type 0} (f : Y → Z) (h : X → Y) (xs : List X) → map f (map h xs) ≡ map (λ x. f (h x)) xs
 map-map f h [] = refl
 map-map f h (x ∷ xs) = ap (λ rest. f (h x) ∷ rest) (map-map f h xs)
 
 -- the texts of lines that are made of items
-pub texts-map : {X : Type 0} (network : Project) (h : X → ReportLine) (xs : List X)
-    → joined (map (λ x. line_text network (h x)) xs) ≡ texts network (map h xs)
-texts-map network h xs = ap joined (sym (map-map (line_text network) h xs))
+pub texts-map : {X : Type 0} (project : Project) (h : X → ReportLine) (xs : List X)
+    → joined (map (λ x. line_text project (h x)) xs) ≡ texts project (map h xs)
+texts-map project h xs = ap joined (sym (map-map (line_text project) h xs))
 
 -- the texts of a report time
-pub state_text : (network : Project) (t : ReportLine) (lo lower up upper : List ℤ) (js : List GridJunction)
+pub state_text : (project : Project) (t : ReportLine) (lo lower up upper : List ℤ) (js : List GridJunction)
     (rs rest : List ReportLine)
     → lo ≡ lower → up ≡ upper
-    → line_text network t ++ (texts network (map_from (junction_line network lo up) 0 js) ++
-    (texts network rs ++ texts network rest))
-    ≡ texts network (t ∷ (map_from (junction_line network lower upper) 0 js ++ (rs ++ rest)))
-state_text network t lo lower up upper js rs rest is_lower is_upper =
-    ap (λ (v : List ℤ). line_text network t ++ (texts network (map_from (junction_line network v up) 0 js) ++
-    (texts network rs ++ texts network rest))) is_lower
-    ∙ (ap (λ (v : List ℤ). line_text network t ++ (texts network (map_from (junction_line network lower v) 0 js) ++
-    (texts network rs ++ texts network rest))) is_upper
-    ∙ ap (λ (s : List ℕ). line_text network t ++ s)
-    (ap (λ (s : List ℕ). texts network (map_from (junction_line network lower upper) 0 js) ++ s) (sym
-    (texts-append network rs rest))
-    ∙ sym (texts-append network (map_from (junction_line network lower upper) 0 js) (rs ++ rest))))
+    → line_text project t ++ (texts project (map_from (junction_line project lo up) 0 js) ++
+    (texts project rs ++ texts project rest))
+    ≡ texts project (t ∷ (map_from (junction_line project lower upper) 0 js ++ (rs ++ rest)))
+state_text project t lo lower up upper js rs rest is_lower is_upper =
+    ap (λ (v : List ℤ). line_text project t ++ (texts project (map_from (junction_line project v up) 0 js) ++
+    (texts project rs ++ texts project rest))) is_lower
+    ∙ (ap (λ (v : List ℤ). line_text project t ++ (texts project (map_from (junction_line project lower v) 0 js) ++
+    (texts project rs ++ texts project rest))) is_upper
+    ∙ ap (λ (s : List ℕ). line_text project t ++ s)
+    (ap (λ (s : List ℕ). texts project (map_from (junction_line project lower upper) 0 js) ++ s) (sym
+    (texts-append project rs rest))
+    ∙ sym (texts-append project (map_from (junction_line project lower upper) 0 js) (rs ++ rest))))
 
 -- the texts of tanks and links
-pub tanks_text : (network : Project) (grid : Grid) (states : List LinkState) (ls levels : List LevelSpan)
+pub tanks_text : (project : Project) (grid : Grid) (states : List LinkState) (ls levels : List LevelSpan)
     (is inflows : List Span)
     (ts tanks : List TankState) (lo lower up upper : List ℤ) → ls ≡ levels → is ≡ inflows → ts ≡ tanks → lo ≡ lower
     → up ≡ upper
-    → texts network (map_from (tank_line network ls is ts) 0 network.tanks.list)
-    ++ texts network (map_from (link_line network grid (all_heads grid Main Lower lo)
-    (all_heads grid Main Upper up) states) 0 network.links.list)
-    ≡ texts network (map_from (tank_line network levels inflows tanks) 0 network.tanks.list
-    ++ map_from (link_line network grid (all_heads grid Main Lower lower)
-    (all_heads grid Main Upper upper) states) 0 network.links.list)
-tanks_text network grid states ls levels is inflows ts tanks lo lower up upper a b c d e =
-    let link : List ℤ → List ℤ → List ℕ = λ l u. texts network (map_from (link_line network grid
-    (all_heads grid Main Lower l) (all_heads grid Main Upper u) states) 0 network.links.list) in
-    let tank : List LevelSpan → List Span → List TankState → List ℕ = λ l i t. texts network (map_from
-    (tank_line network l i t) 0 network.tanks.list) in
+    → texts project (map_from (tank_line project ls is ts) 0 project.tanks.list)
+    ++ texts project (map_from (link_line project grid (all_heads grid Main Lower lo)
+    (all_heads grid Main Upper up) states) 0 project.links.list)
+    ≡ texts project (map_from (tank_line project levels inflows tanks) 0 project.tanks.list
+    ++ map_from (link_line project grid (all_heads grid Main Lower lower)
+    (all_heads grid Main Upper upper) states) 0 project.links.list)
+tanks_text project grid states ls levels is inflows ts tanks lo lower up upper a b c d e =
+    let link : List ℤ → List ℤ → List ℕ = λ l u. texts project (map_from (link_line project grid
+    (all_heads grid Main Lower l) (all_heads grid Main Upper u) states) 0 project.links.list) in
+    let tank : List LevelSpan → List Span → List TankState → List ℕ = λ l i t. texts project (map_from
+    (tank_line project l i t) 0 project.tanks.list) in
     ap (λ (l : List LevelSpan). tank l is ts ++ link lo up) a
     ∙ (ap (λ (i : List Span). tank levels i ts ++ link lo up) b
     ∙ (ap (λ (t : List TankState). tank levels inflows t ++ link lo up) c
     ∙ (ap (λ (l : List ℤ). tank levels inflows tanks ++ link l up) d
     ∙ (ap (λ (u : List ℤ). tank levels inflows tanks ++ link lower u) e
-    ∙ sym (texts-append network (map_from (tank_line network levels inflows tanks) 0 network.tanks.list)
-    (map_from (link_line network grid (all_heads grid Main Lower lower)
-    (all_heads grid Main Upper upper) states) 0 network.links.list))))))
+    ∙ sym (texts-append project (map_from (tank_line project levels inflows tanks) 0 project.tanks.list)
+    (map_from (link_line project grid (all_heads grid Main Lower lower)
+    (all_heads grid Main Upper upper) states) 0 project.links.list))))))
 
-pub items_text : {X : Type 0} (network : Project) (h : ℕ → X → ReportLine) (t time : ℕ) (xs ys : List X) → t ≡ time
+pub items_text : {X : Type 0} (project : Project) (h : ℕ → X → ReportLine) (t time : ℕ) (xs ys : List X) → t ≡ time
     → xs ≡ ys
-    → joined (map (λ x. line_text network (h t x)) xs) ≡ texts network (map (h time) ys)
-items_text network h t time xs ys at same =
-    texts-map network (h t) xs ∙ (ap (λ n. texts network (map (h n) xs)) at ∙ ap (λ zs. texts network (map
+    → joined (map (λ x. line_text project (h t x)) xs) ≡ texts project (map (h time) ys)
+items_text project h t time xs ys at same =
+    texts-map project (h t) xs ∙ (ap (λ n. texts project (map (h n) xs)) at ∙ ap (λ zs. texts project (map
     (h time) zs)) same)
 
 -- the texts of the end of a period
-pub end_text : {X Y : Type 0} (network : Project) (h : ℕ → X → ReportLine) (k : ℕ → Y → ReportLine) (t time : ℕ)
+pub end_text : {X Y : Type 0} (project : Project) (h : ℕ → X → ReportLine) (k : ℕ → Y → ReportLine) (t time : ℕ)
     (xs xs' : List X) (ys ys' : List Y)
     → t ≡ time → xs ≡ xs' → ys ≡ ys'
-    → joined (map (λ x. line_text network (h t x)) xs) ++ joined (map (λ y. line_text network (k t y)) ys)
-    ≡ texts network (map (h time) xs' ++ map (k time) ys')
-end_text network h k t time xs xs' ys ys' at same alike =
-    ap (λ s. s ++ joined (map (λ y. line_text network (k t y)) ys)) (items_text network h t time xs xs' at same)
-    ∙ (ap (λ s. texts network (map (h time) xs') ++ s) (items_text network k t time ys ys' at alike)
-    ∙ sym (texts-append network (map (h time) xs') (map (k time) ys')))
+    → joined (map (λ x. line_text project (h t x)) xs) ++ joined (map (λ y. line_text project (k t y)) ys)
+    ≡ texts project (map (h time) xs' ++ map (k time) ys')
+end_text project h k t time xs xs' ys ys' at same alike =
+    ap (λ s. s ++ joined (map (λ y. line_text project (k t y)) ys)) (items_text project h t time xs xs' at same)
+    ∙ (ap (λ s. texts project (map (h time) xs') ++ s) (items_text project k t time ys ys' at alike)
+    ∙ sym (texts-append project (map (h time) xs') (map (k time) ys')))
 
 -- the texts of three parts
-pub three_text : (network : Project) (xs ys zs : List ReportLine)
-    → texts network xs ++ (texts network ys ++ texts network zs) ≡ texts network (xs ++ (ys ++ zs))
-three_text network xs ys zs =
-    ap (λ t. texts network xs ++ t) (sym (texts-append network ys zs)) ∙ sym (texts-append network xs (ys ++ zs))
+pub three_text : (project : Project) (xs ys zs : List ReportLine)
+    → texts project xs ++ (texts project ys ++ texts project zs) ≡ texts project (xs ++ (ys ++ zs))
+three_text project xs ys zs =
+    ap (λ t. texts project xs ++ t) (sym (texts-append project ys zs)) ∙ sym (texts-append project xs (ys ++ zs))

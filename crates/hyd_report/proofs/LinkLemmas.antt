@@ -22,7 +22,7 @@ use Rattle.hyd_period_network.specs.NetView.{NetView}
 use Rattle.hyd_period_network.specs.NetAsPeriodNetwork.{grid_of, state_of, states_of, own_laws}
 use Rattle.hyd_period_network.specs.Periods.{IsNetOf}
 use Rattle.hyd_period_network.specs.LawsInSettings.{AreStates}
-use Rattle.hyd_report.proofs.LineLemmas.{found}
+use Rattle.hyd_lemmas.proofs.ListsAndOptions.{item_there}
 
 -- what a status word says of each kind, state and place of a link
 abbrev pub IsWord : NetView → ℕ → List ℤ → List ℤ → StatusWord → Type 0
@@ -33,33 +33,33 @@ IsWord net l below above status =
     → slice_get (grid_of net).links l ≡ Some place → status ≡ status_of us bends kind state
     (difference place below above)
 
-word_here : (network : Project) (net : NetView) (l : ℕ) (below above : List ℤ) (status : StatusWord)
+word_here : (project : Project) (net : NetView) (l : ℕ) (below above : List ℤ) (status : StatusWord)
     (place : GridLink) (here : Link)
-    → IsNetOf network net → AreStates network (states_of net) → slice_get network.links.list l ≡ Some here
+    → IsNetOf project net → AreStates project (states_of net) → slice_get project.links.list l ≡ Some here
     → slice_get (grid_of net).links l ≡ Some place → IsWord net l below above status
-    → status ≡ status_of (is_us network) network.bends.list here.kind (state_of_link (states_of net) l)
+    → status ≡ status_of (is_us project) project.bends.list here.kind (state_of_link (states_of net) l)
     (difference place below above)
-word_here network net l below above status place here of states at grid_at word =
-    let within = slice_get_within network.links.list l here at in
-    let set : (s : Setting) × (slice_get net.settings l ≡ Some s) = found net.settings l
+word_here project net l below above status place here of states at grid_at word =
+    let within = slice_get_within project.links.list l here at in
+    let set : (s : Setting) × (slice_get net.settings l ≡ Some s) = item_there net.settings l
     (let e = of.each_setting in omega (arith, within)) in
-    let own : (o : LinkLaw) × (slice_get net.own l ≡ Some o) = found net.own l (let e = of.each_own in omega
+    let own : (o : LinkLaw) × (slice_get net.own l ≡ Some o) = item_there net.own l (let e = of.each_own in omega
     (arith, within)) in
-    let law : (o : LinkLaw) × (slice_get net.laws l ≡ Some o) = found net.laws l (let e = of.each_law in omega
+    let law : (o : LinkLaw) × (slice_get net.laws l ≡ Some o) = item_there net.laws l (let e = of.each_law in omega
     (arith, within)) in
     let state_at : slice_get (states_of net) l ≡ Some set.0.state = slice_get-map state_of net.settings l ∙ ap
     (option_map state_of) set.1 in
-    let kind_is : slice_index_or network.links.list l here ≡ here = get_or_from_slice_get network.links.list l here
+    let kind_is : slice_index_or project.links.list l here ≡ here = get_or_from_slice_get project.links.list l here
     here at in
     let setting_is : slice_index_or net.settings l set.0 ≡ set.0 = get_or_from_slice_get net.settings l set.0 set.0
     set.1 in
     let own_is : slice_index_or net.own l own.0 ≡ own.0 = get_or_from_slice_get net.own l own.0 own.0 own.1 in
     let exact = (of.laws l here set.0 own.0 law.0 within).own_is.is_exact in
-    let exact_here : exact_law own.0 ≡ own_law (is_us network) network.bends.list here.kind set.0.state =
-    ap exact_law (sym own_is) ∙ (exact ∙ (ap (λ (x : Link). own_law (is_us network) network.bends.list x.kind
+    let exact_here : exact_law own.0 ≡ own_law (is_us project) project.bends.list here.kind set.0.state =
+    ap exact_law (sym own_is) ∙ (exact ∙ (ap (λ (x : Link). own_law (is_us project) project.bends.list x.kind
     (slice_index_or net.settings l set.0).state) kind_is
-    ∙ ap (λ (s : Setting). own_law (is_us network) network.bends.list here.kind s.state) setting_is)) in
-    let own_at : slice_get (own_laws net) l ≡ Some (own_law (is_us network) network.bends.list here.kind set.0.state) =
+    ∙ ap (λ (s : Setting). own_law (is_us project) project.bends.list here.kind s.state) setting_is)) in
+    let own_at : slice_get (own_laws net) l ≡ Some (own_law (is_us project) project.bends.list here.kind set.0.state) =
     slice_get-map exact_law net.own l ∙ (ap (option_map exact_law) own.1 ∙ ap (λ (x : Law). Some x) exact_here) in
     let many : l < length (states_of net) = slice_get_within (states_of net) l set.0.state state_at in
     let state_is : slice_index_or (states_of net) l set.0.state ≡ set.0.state = get_or_from_slice_get
@@ -70,20 +70,20 @@ word_here network net l below above status place here of states at grid_at word 
     (states.can l here set.0.state many)) in
     let shown : state_of_link (states_of net) l ≡ set.0.state = get_or_from_slice_get
     (states_of net) l set.0.state Closed state_at in
-    word (is_us network) network.bends.list here.kind set.0.state place can state_at own_at grid_at
-    ∙ ap (λ (s : LinkState). status_of (is_us network) network.bends.list here.kind s (difference place below above))
+    word (is_us project) project.bends.list here.kind set.0.state place can state_at own_at grid_at
+    ∙ ap (λ (s : LinkState). status_of (is_us project) project.bends.list here.kind s (difference place below above))
     (sym shown)
 
-pub link_word : (network : Project) (net : NetView) (l : ℕ) (below above : List ℤ) (status : StatusWord)
+pub link_word : (project : Project) (net : NetView) (l : ℕ) (below above : List ℤ) (status : StatusWord)
     (place : GridLink)
-    → IsNetOf network net → AreStates network (states_of net) → l < length network.links.list
+    → IsNetOf project net → AreStates project (states_of net) → l < length project.links.list
     → slice_get (grid_of net).links l ≡ Some place → IsWord net l below above status
-    → IfSome (slice_get network.links.list l) (λ here.
-    status ≡ status_of (is_us network) network.bends.list here.kind (state_of_link (states_of net) l)
+    → IfSome (slice_get project.links.list l) (λ here.
+    status ≡ status_of (is_us project) project.bends.list here.kind (state_of_link (states_of net) l)
     (difference place below above))
-link_word network net l below above status place of states within grid_at word =
-    let here : (x : Link) × (slice_get network.links.list l ≡ Some x) = found network.links.list l within in
+link_word project net l below above status place of states within grid_at word =
+    let here : (x : Link) × (slice_get project.links.list l ≡ Some x) = item_there project.links.list l within in
     subst (λ (o : Option Link). IfSome o (λ x.
-    status ≡ status_of (is_us network) network.bends.list x.kind (state_of_link (states_of net) l)
+    status ≡ status_of (is_us project) project.bends.list x.kind (state_of_link (states_of net) l)
     (difference place below above)))
-    (sym here.1) (word_here network net l below above status place here.0 of states here.1 grid_at word)
+    (sym here.1) (word_here project net l below above status place here.0 of states here.1 grid_at word)

@@ -11,6 +11,7 @@ use Rattle.hyd_spec.specs.Assignment.{head_at}
 use Rattle.hyd_spec.specs.Rules.{state_of_link}
 use Rattle.hyd_spec.specs.declared.TankState.{TankState}
 use Rattle.hyd_spec.specs.declared.TankState.TheVariants.{Between}
+use Rattle.hyd_spec_certificates.specs.Spans.{levels_of, flows_of}
 use Rattle.hyd_spec_certificates.specs.Interval.{Interval, shifted}
 use Rattle.hyd_spec_certificates.specs.PeriodNetwork.{Grid, GridLink, GridJunction}
 use Rattle.hyd_spec_certificates.specs.FlowIntervals.{difference, flow_box}
@@ -21,11 +22,7 @@ use Rattle.hyd_spec_reports.specs.Report.{Prints, LineEach, IsJunctionLine, IsRe
 use Rattle.hyd_spec_reports.specs.Report.{AreStateLines, AreEndLines, IsReport, is_report_time, change_line, event_line}
 use Rattle.hyd_spec_reports.specs.Report.{changes_at, status_of}
 use Rattle.hyd_period_facts.specs.declared.facts.Facts.{Facts}
-use Rattle.hyd_period_facts.specs.FactsOfPeriod.{AreFacts, levels_of, flows_of}
-use Rattle.hyd_period_network.specs.NetAsPeriodNetwork.{links_of}
-use Rattle.hyd_period_network.specs.declared.net_types.Ends.{Ends}
-use Rattle.hyd_period_network.specs.declared.net_types.Setting.{Setting}
-use Rattle.hyd_law.specs.declared.link_law.LinkLaw.{LinkLaw}
+use Rattle.hyd_period_facts.specs.FactsOfPeriod.{AreFacts}
 use Rattle.hyd_report.specs.Printing.{printed, quantity_in}
 use Rattle.hyd_report.specs.declared.printed_intervals.Quantity.TheVariants.{Head, Pressure, Flow}
 use Rattle.hyd_report.specs.EventTextsAndChangesByRules.{before_rules}
@@ -33,16 +30,6 @@ use Rattle.hyd_report.specs.NodeAndLinkLines.{junction_line, reservoir_line, tan
 use Rattle.hyd_report.specs.PeriodLines.{AreTankFacts, state_lines, middle_lines, end_lines, lines_of}
 use Rattle.hyd_report.proofs.PrintLemmas.{prints}
 use Rattle.hyd_report.proofs.ChangeLemmas.{changes_apart}
-
--- a net has a link of its grid for each pair of ends
-pub length-links_of : (ends : List Ends) (settings : List Setting) (own : List LinkLaw) → length settings
-    ≡ length ends → length own ≡ length ends
-    → length (links_of ends settings own) ≡ length ends
-length-links_of [] settings own s o = refl
-length-links_of (e ∷ ends) [] own s o = absurd (omega arith)
-length-links_of (e ∷ ends) (x ∷ settings) [] s o = absurd (omega arith)
-length-links_of (e ∷ ends) (x ∷ settings) (l ∷ own) s o = ap suc (length-links_of ends settings own (omega arith)
-    (omega arith))
 
 each_line : {X : Type 0} (P : ℕ → X → ReportLine → Type 0) (f : ℕ → X → ReportLine) (n : ℕ) (xs : List X)
     → ((k : ℕ) (x : X) → slice_get xs k ≡ Some x → P (n + k) x (f (n + k) x)) → LineEach P n xs (map_from f n xs)
@@ -70,13 +57,13 @@ map_from-at f n (y ∷ ys) (suc k) x d at =
     let m : suc n + k ≡ n + suc k = omega arith in
     map_from-at f (suc n) ys k x d at ∙ ap (λ j. f j x) m
 
-module _ (network : Project) (grid : Grid) (states : List LinkState) (standing : Standing) (row : Record)
+module _ (project : Project) (grid : Grid) (states : List LinkState) (standing : Standing) (row : Record)
     (facts : Facts)
-    (are : AreFacts network grid standing row facts) (tanks : AreTankFacts network facts) (same : states
+    (are : AreFacts project grid standing row facts) (tanks : AreTankFacts project facts) (same : states
     ≡ facts.links.list)
-    (each : length grid.links ≡ length network.links.list) where
+    (each : length grid.links ≡ length project.links.list) where
   junction : (j : ℕ) (here : GridJunction)
-      → IsJunctionLine network grid row j here (junction_line network row.main.lower row.main.upper j here)
+      → IsJunctionLine project grid row j here (junction_line project row.main.lower row.main.upper j here)
   junction j here = record {
     heads = record { lo = head_at row.main.lower j; hi = head_at row.main.upper j };
     heads_are = refl;
@@ -84,56 +71,56 @@ module _ (network : Project) (grid : Grid) (states : List LinkState) (standing :
     pressure = _;
     outflow = _;
     is_line = refl;
-    head_is = prints network Head _;
-    pressure_is = prints network Pressure _;
-    outflow_is = prints network Flow _;
+    head_is = prints project Head _;
+    pressure_is = prints project Pressure _;
+    outflow_is = prints project Flow _;
   }
 
-  reservoir : (r : ℕ) (height : ℤ) → IsReservoirLine network r height (reservoir_line network r height)
-  reservoir r height = record { head = _; is_line = refl; head_is = prints network Head _ }
+  reservoir : (r : ℕ) (height : ℤ) → IsReservoirLine project r height (reservoir_line project r height)
+  reservoir r height = record { head = _; is_line = refl; head_is = prints project Head _ }
 
   level_is : (k : ℕ) → slice_index_or (map levels_of facts.levels.list) k nowhere ≡ level_of_tank standing k
   level_is k = ap (λ (xs : List Interval). slice_index_or xs k nowhere) are.levels
 
-  inflow_is : (k : ℕ) (tank : Tank) → slice_get network.tanks.list k ≡ Some tank
-      → slice_index_or (map flows_of facts.inflows.list) k nowhere ≡ inflow_of_tank network grid row k
+  inflow_is : (k : ℕ) (tank : Tank) → slice_get project.tanks.list k ≡ Some tank
+      → slice_index_or (map flows_of facts.inflows.list) k nowhere ≡ inflow_of_tank project grid row k
   inflow_is k tank at =
       let m : 0 + k ≡ k = omega arith in
       ap (λ (xs : List Interval). slice_index_or xs k nowhere) are.inflows
-      ∙ (map_from-at (λ (j : ℕ) (t : Tank). inflow_of_tank network grid row j) 0 network.tanks.list k tank nowhere at
-      ∙ ap (inflow_of_tank network grid row) m)
+      ∙ (map_from-at (λ (j : ℕ) (t : Tank). inflow_of_tank project grid row j) 0 project.tanks.list k tank nowhere at
+      ∙ ap (inflow_of_tank project grid row) m)
 
-  tank_here : (k : ℕ) (tank : Tank) → slice_get network.tanks.list k ≡ Some tank
-      → IsTankLine network grid standing row k tank (tank_line network facts.levels.list facts.inflows.list
+  tank_here : (k : ℕ) (tank : Tank) → slice_get project.tanks.list k ≡ Some tank
+      → IsTankLine project grid standing row k tank (tank_line project facts.levels.list facts.inflows.list
       facts.tanks.list k tank)
   tank_here k tank at =
-      let within = slice_get_within network.tanks.list k tank at in
+      let within = slice_get_within project.tanks.list k tank at in
       let few = tanks.states in
       let level = slice_index_or (map levels_of facts.levels.list) k nowhere in
       let inflow = slice_index_or (map flows_of facts.inflows.list) k nowhere in
       record {
-        head = printed (quantity_in network Head) (shifted tank.bottom level);
-        level = printed (quantity_in network Head) level;
-        inflow = printed (quantity_in network Flow) inflow;
+        head = printed (quantity_in project Head) (shifted tank.bottom level);
+        level = printed (quantity_in project Head) level;
+        inflow = printed (quantity_in project Flow) inflow;
         state = slice_index_or facts.tanks.list k Between;
         is_line = refl;
-        head_is = subst (λ (l : Interval). Prints (quantity_in network Head) (shifted tank.bottom l) (printed
-            (quantity_in network Head) (shifted tank.bottom level)))
-            (level_is k) (prints network Head (shifted tank.bottom level));
-        level_is = subst (λ (l : Interval). Prints (quantity_in network Head) l (printed
-            (quantity_in network Head) level)) (level_is k) (prints network Head level);
-        inflow_is = subst (λ (i : Interval). Prints (quantity_in network Flow) i (printed
-            (quantity_in network Flow) inflow)) (inflow_is k tank at) (prints network Flow inflow);
+        head_is = subst (λ (l : Interval). Prints (quantity_in project Head) (shifted tank.bottom l) (printed
+            (quantity_in project Head) (shifted tank.bottom level)))
+            (level_is k) (prints project Head (shifted tank.bottom level));
+        level_is = subst (λ (l : Interval). Prints (quantity_in project Head) l (printed
+            (quantity_in project Head) level)) (level_is k) (prints project Head level);
+        inflow_is = subst (λ (i : Interval). Prints (quantity_in project Flow) i (printed
+            (quantity_in project Flow) inflow)) (inflow_is k tank at) (prints project Flow inflow);
         state_is = subst (λ (xs : List TankState). slice_get xs k ≡ Some
             (slice_index_or facts.tanks.list k Between)) are.tanks
             (slice_get-get_or facts.tanks.list k Between (omega (arith, within, few)));
       }
 
-  link_here : (l : ℕ) (link : Link) → slice_get network.links.list l ≡ Some link
-      → IsLinkLine network grid standing row l link (link_line network grid (heads_below grid row)
+  link_here : (l : ℕ) (link : Link) → slice_get project.links.list l ≡ Some link
+      → IsLinkLine project grid standing row l link (link_line project grid (heads_below grid row)
       (heads_above grid row) states l link)
   link_here l link at =
-      let within = slice_get_within network.links.list l link at in
+      let within = slice_get_within project.links.list l link at in
       let place = slice_index_or grid.links l no_link in
       let place_at : slice_get grid.links l ≡ Some place = slice_get-get_or grid.links l no_link (omega
       (arith, within, each)) in
@@ -143,50 +130,50 @@ module _ (network : Project) (grid : Grid) (states : List LinkState) (standing :
         place_is = place_at;
         box = box place;
         box_is = slice_get-map box grid.links l ∙ ap (λ (o : Option GridLink). option_map box o) place_at;
-        flow = printed (quantity_in network Flow) (box place);
-        flow_is = prints network Flow (box place);
-        is_line = ap (λ (ss : List LinkState). LinkLine l (printed (quantity_in network Flow) (box place))
-            (status_of (is_us network) network.bends.list link.kind (state_of_link ss l) (difference place
+        flow = printed (quantity_in project Flow) (box place);
+        flow_is = prints project Flow (box place);
+        is_line = ap (λ (ss : List LinkState). LinkLine l (printed (quantity_in project Flow) (box place))
+            (status_of (is_us project) project.bends.list link.kind (state_of_link ss l) (difference place
             (heads_below grid row) (heads_above grid row))))
             (same ∙ are.links);
       }
 
-  state_are : AreStateLines network grid standing row (state_lines network grid states row facts)
+  state_are : AreStateLines project grid standing row (state_lines project grid states row facts)
   state_are = record {
-    junctions = map_from (junction_line network row.main.lower row.main.upper) 0 grid.junctions;
-    reservoirs = map_from (reservoir_line network) 0 grid.reservoirs;
-    tanks = map_from (tank_line network facts.levels.list facts.inflows.list facts.tanks.list) 0 network.tanks.list;
-    links = map_from (link_line network grid (heads_below grid row) (heads_above grid row) states) 0 network.links.list;
-    junctions_are = every_line (IsJunctionLine network grid row) (junction_line network row.main.lower row.main.upper)
+    junctions = map_from (junction_line project row.main.lower row.main.upper) 0 grid.junctions;
+    reservoirs = map_from (reservoir_line project) 0 grid.reservoirs;
+    tanks = map_from (tank_line project facts.levels.list facts.inflows.list facts.tanks.list) 0 project.tanks.list;
+    links = map_from (link_line project grid (heads_below grid row) (heads_above grid row) states) 0 project.links.list;
+    junctions_are = every_line (IsJunctionLine project grid row) (junction_line project row.main.lower row.main.upper)
         grid.junctions (λ j here at. junction j here);
-    reservoirs_are = every_line (IsReservoirLine network) (reservoir_line network) grid.reservoirs
+    reservoirs_are = every_line (IsReservoirLine project) (reservoir_line project) grid.reservoirs
         (λ r height at. reservoir r height);
-    tanks_are = every_line (IsTankLine network grid standing row) (tank_line network facts.levels.list
-        facts.inflows.list facts.tanks.list) network.tanks.list tank_here;
-    links_are = every_line (IsLinkLine network grid standing row) (link_line network grid (heads_below grid row)
-        (heads_above grid row) states) network.links.list link_here;
-    lines_are = ap (λ (t : ℕ). TimeLine t ∷ (map_from (junction_line network row.main.lower row.main.upper) 0
+    tanks_are = every_line (IsTankLine project grid standing row) (tank_line project facts.levels.list
+        facts.inflows.list facts.tanks.list) project.tanks.list tank_here;
+    links_are = every_line (IsLinkLine project grid standing row) (link_line project grid (heads_below grid row)
+        (heads_above grid row) states) project.links.list link_here;
+    lines_are = ap (λ (t : ℕ). TimeLine t ∷ (map_from (junction_line project row.main.lower row.main.upper) 0
         grid.junctions
-        ++ (map_from (reservoir_line network) 0 grid.reservoirs
-        ++ (map_from (tank_line network facts.levels.list facts.inflows.list facts.tanks.list) 0 network.tanks.list
-        ++ map_from (link_line network grid (heads_below grid row) (heads_above grid row) states) 0
-        network.links.list)))) are.time;
+        ++ (map_from (reservoir_line project) 0 grid.reservoirs
+        ++ (map_from (tank_line project facts.levels.list facts.inflows.list facts.tanks.list) 0 project.tanks.list
+        ++ map_from (link_line project grid (heads_below grid row) (heads_above grid row) states) 0
+        project.links.list)))) are.time;
   }
 
-  where_reported : (b : Bool) (state : List ReportLine) → AreStateLines network grid standing row state
-      → MatchBool b (AreStateLines network grid standing row (if b then state else [])) ((if b then state else []) ≡ [])
+  where_reported : (b : Bool) (state : List ReportLine) → AreStateLines project grid standing row state
+      → MatchBool b (AreStateLines project grid standing row (if b then state else [])) ((if b then state else []) ≡ [])
   where_reported true state is = is
   where_reported false state is = refl
 
-  apart : (take (before_rules facts.changes.list) facts.changes.list ≡ changes_at network standing)
+  apart : (take (before_rules facts.changes.list) facts.changes.list ≡ changes_at project standing)
       × (drop (before_rules facts.changes.list) facts.changes.list ≡ are.by_rules)
-  apart = changes_apart network grid standing row facts.events.list facts.changes.list are.by_rules are.changes
+  apart = changes_apart project grid standing row facts.events.list facts.changes.list are.by_rules are.changes
       are.brings
 
   end_is : facts.time + facts.length ≡ standing.time + row.length
   end_is = ap (λ (t : ℕ). t + facts.length) are.time ∙ ap (λ (s : ℕ). standing.time + s) are.length
 
-  ends_are : AreEndLines network grid standing row (end_lines facts)
+  ends_are : AreEndLines project grid standing row (end_lines facts)
   ends_are = record {
     events = facts.events.list;
     changes = are.by_rules;
@@ -197,17 +184,17 @@ module _ (network : Project) (grid : Grid) (states : List LinkState) (standing :
         (standing.time + row.length)) xs) apart.1;
   }
 
-  pub lines_are_report : IsReport network grid standing row (lines_of network grid states row facts)
+  pub lines_are_report : IsReport project grid standing row (lines_of project grid states row facts)
   lines_are_report = record {
-    state = middle_lines network grid states row facts;
-    state_are = subst (λ (t : ℕ). MatchBool (is_report_time network t) (AreStateLines network grid standing row
-        (middle_lines network grid states row facts))
-        (middle_lines network grid states row facts ≡ [])) are.time
-        (where_reported (is_report_time network facts.time) (state_lines network grid states row facts) state_are);
+    state = middle_lines project grid states row facts;
+    state_are = subst (λ (t : ℕ). MatchBool (is_report_time project t) (AreStateLines project grid standing row
+        (middle_lines project grid states row facts))
+        (middle_lines project grid states row facts ≡ [])) are.time
+        (where_reported (is_report_time project facts.time) (state_lines project grid states row facts) state_are);
     at_end = end_lines facts;
     at_end_are = ends_are;
     lines_are = ap (λ (t : ℕ). map (change_line t) (take (before_rules facts.changes.list) facts.changes.list)
-        ++ (middle_lines network grid states row facts ++ end_lines facts)) are.time
-        ∙ ap (λ xs. map (change_line standing.time) xs ++ (middle_lines network grid states row facts ++ end_lines
+        ++ (middle_lines project grid states row facts ++ end_lines facts)) are.time
+        ∙ ap (λ xs. map (change_line standing.time) xs ++ (middle_lines project grid states row facts ++ end_lines
         facts)) apart.0;
   }

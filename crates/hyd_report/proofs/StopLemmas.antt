@@ -33,27 +33,27 @@ front_of_stop : (p t : List ℕ) (ws : List (List ℕ)) → 0 < length ws
 front_of_stop p t [] some = absurd (omega arith)
 front_of_stop p t (w ∷ ws) some = simp append_assoc refl
 
-has_words : (network : Project) (cause : StopCause) → 0 < length (cause_words network cause)
-has_words network (NoCertificate period problem side junction) = omega arith
-has_words network (TankOpen period tank lo hi) = omega arith
-has_words network (RuleOpen period rule clause lo hi) = omega arith
-has_words network (ControlOpen period control lo hi) = omega arith
-has_words network (EventOpen period earliest latest) = omega arith
-has_words network (RoundsSpent period problem side rounds) = omega arith
-has_words network (DemandOutOfRange period junction demand) = omega arith
+has_words : (project : Project) (cause : StopCause) → 0 < length (cause_words project cause)
+has_words project (NoCertificate period problem side junction) = omega arith
+has_words project (TankOpen period tank lo hi) = omega arith
+has_words project (RuleOpen period rule clause lo hi) = omega arith
+has_words project (ControlOpen period control lo hi) = omega arith
+has_words project (EventOpen period earliest latest) = omega arith
+has_words project (RoundsSpent period problem side rounds) = omega arith
+has_words project (DemandOutOfRange period junction demand) = omega arith
 
-pub stop_text : (network : Project) (time : ℕ) (cause : StopCause) (a p t : List ℕ) → a ≡ codes "STOP period "
+pub stop_text : (project : Project) (time : ℕ) (cause : StopCause) (a p t : List ℕ) → a ≡ codes "STOP period "
     → p ≡ decimal (period_of cause) → t ≡ clock_text time
-    → joined (a ∷ (p ∷ (codes " time " ∷ (t ∷ (codes " " ∷ []))))) ++ (words (cause_words network cause) ++ codes "\n")
-    ≡ stop_line network time cause
-stop_text network time cause a p t is_a is_p is_t =
-    let rest = words (cause_words network cause) ++ codes "\n" in
+    → joined (a ∷ (p ∷ (codes " time " ∷ (t ∷ (codes " " ∷ []))))) ++ (words (cause_words project cause) ++ codes "\n")
+    ≡ stop_line project time cause
+stop_text project time cause a p t is_a is_p is_t =
+    let rest = words (cause_words project cause) ++ codes "\n" in
     ap (λ x. joined (x ∷ (p ∷ (codes " time " ∷ (t ∷ (codes " " ∷ []))))) ++ rest) is_a
     ∙ (ap (λ x. joined (codes "STOP period " ∷ (x ∷ (codes " time " ∷ (t ∷ (codes " " ∷ []))))) ++ rest) is_p
     ∙ (ap (λ x. joined (codes "STOP period " ∷ (decimal (period_of cause) ∷ (codes " time " ∷ (x ∷
     (codes " " ∷ []))))) ++ rest) is_t
-    ∙ front_of_stop (decimal (period_of cause)) (clock_text time) (cause_words network cause)
-    (has_words network cause)))
+    ∙ front_of_stop (decimal (period_of cause)) (clock_text time) (cause_words project cause)
+    (has_words project cause)))
 
 front_of_refusal : (p : List ℕ) (ws : List (List ℕ)) → 0 < length ws
     → (codes "BADCERT period " ++ (p ++ (codes " " ++ []))) ++ (words ws ++ codes "\n")
@@ -61,19 +61,19 @@ front_of_refusal : (p : List ℕ) (ws : List (List ℕ)) → 0 < length ws
 front_of_refusal p [] some = absurd (omega arith)
 front_of_refusal p (w ∷ ws) some = simp append_assoc refl
 
-has_reason : (network : Project) (cause : CertRefused) → 0 < length (refusal_words network cause)
-has_reason network (Place period) = omega arith
-has_reason network (Demand period) = omega arith
-has_reason network (Fails period problem side junction) = omega arith
-has_reason network (MatterOpen period) = omega arith
-has_reason network (Length period) = omega arith
-has_reason network (After period) = omega arith
+has_reason : (project : Project) (cause : CertRefused) → 0 < length (refusal_words project cause)
+has_reason project (Place period) = omega arith
+has_reason project (Demand period) = omega arith
+has_reason project (Fails period problem side junction) = omega arith
+has_reason project (MatterOpen period) = omega arith
+has_reason project (Length period) = omega arith
+has_reason project (After period) = omega arith
 
-pub refused_text : (network : Project) (cause : CertRefused) (a p : List ℕ) → a ≡ codes "BADCERT period " → p
+pub refused_text : (project : Project) (cause : CertRefused) (a p : List ℕ) → a ≡ codes "BADCERT period " → p
     ≡ decimal (refused_period cause)
-    → joined (a ∷ (p ∷ (codes " " ∷ []))) ++ (words (refusal_words network cause) ++ codes "\n")
-    ≡ refused_line network cause
-refused_text network cause a p is_a is_p =
-    ap (λ t. t ++ (words (refusal_words network cause) ++ codes "\n")) (three_pieces a p (codes " ")
+    → joined (a ∷ (p ∷ (codes " " ∷ []))) ++ (words (refusal_words project cause) ++ codes "\n")
+    ≡ refused_line project cause
+refused_text project cause a p is_a is_p =
+    ap (λ t. t ++ (words (refusal_words project cause) ++ codes "\n")) (three_pieces a p (codes " ")
     (codes "BADCERT period ") (decimal (refused_period cause)) is_a is_p)
-    ∙ front_of_refusal (decimal (refused_period cause)) (refusal_words network cause) (has_reason network cause)
+    ∙ front_of_refusal (decimal (refused_period cause)) (refusal_words project cause) (has_reason project cause)

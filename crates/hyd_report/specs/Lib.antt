@@ -1,6 +1,5 @@
 pub mod NodeAndLinkLines
 pub mod PeriodLines
 pub mod Printing
-pub mod Putting
 pub mod EventTextsAndChangesByRules
 pub mod RefusedText

@@ -8,10 +8,10 @@ use Rattle.hyd_spec.specs.Assignment.{head_at}
 use Rattle.hyd_spec.specs.Rules.{state_of_link}
 use Rattle.hyd_spec.specs.declared.TankState.{TankState}
 use Rattle.hyd_spec.specs.declared.TankState.TheVariants.{Between}
+use Rattle.hyd_spec_certificates.specs.Spans.{levels_of, flows_of}
 use Rattle.hyd_spec_certificates.specs.declared.LevelSpan.{LevelSpan}
 use Rattle.hyd_num.specs.declared.decimals.Span.{Span}
 use Rattle.hyd_spec_certificates.specs.Decided.{nowhere}
-use Rattle.hyd_period_facts.specs.FactsOfPeriod.{levels_of, flows_of}
 use Rattle.hyd_spec_certificates.specs.Interval.{Interval, exactly, shifted}
 use Rattle.hyd_spec_certificates.specs.PeriodNetwork.{Grid, GridLink, GridJunction}
 use Rattle.hyd_spec_certificates.specs.FlowIntervals.{difference, flow_box, out_box}
@@ -22,34 +22,34 @@ use Rattle.hyd_report.specs.declared.printed_intervals.Quantity.TheVariants.{Hea
 
 -- The bytes of lines, one after another.
 abbrev pub texts : Project → List ReportLine → List ℕ
-texts network lines = joined (map (line_text network) lines)
+texts project lines = joined (map (line_text project) lines)
 
 -- The line of junction number j between two of its heads.
 abbrev pub junction_between : Project → ℕ → GridJunction → ℤ → ℤ → ReportLine
-junction_between network j here lower upper =
-    JunctionLine j (printed (quantity_in network Head) (record { lo = lower; hi = upper }))
-    (printed (quantity_in network Pressure) (record { lo = lower -ℤ here.elevation; hi = upper -ℤ here.elevation }))
-    (printed (quantity_in network Flow) (out_box here lower upper))
+junction_between project j here lower upper =
+    JunctionLine j (printed (quantity_in project Head) (record { lo = lower; hi = upper }))
+    (printed (quantity_in project Pressure) (record { lo = lower -ℤ here.elevation; hi = upper -ℤ here.elevation }))
+    (printed (quantity_in project Flow) (out_box here lower upper))
 
 -- The line of junction number j by vectors below and above.
 abbrev pub junction_line : Project → List ℤ → List ℤ → ℕ → GridJunction → ReportLine
-junction_line network lower upper j here = junction_between network j here (head_at lower j) (head_at upper j)
+junction_line project lower upper j here = junction_between project j here (head_at lower j) (head_at upper j)
 
 -- The line of reservoir number r at a head.
 abbrev pub reservoir_line : Project → ℕ → ℤ → ReportLine
-reservoir_line network r height = ReservoirLine r (printed (quantity_in network Head) (exactly height))
+reservoir_line project r height = ReservoirLine r (printed (quantity_in project Head) (exactly height))
 
 -- The line of tank number k at its levels, with its inflow and its state.
 abbrev pub tank_at : Project → ℕ → Tank → Interval → Interval → TankState → ReportLine
-tank_at network k tank level inflow state =
-    TankLine k (printed (quantity_in network Head) (shifted tank.bottom level)) (printed
-    (quantity_in network Head) level)
-    (printed (quantity_in network Flow) inflow) state
+tank_at project k tank level inflow state =
+    TankLine k (printed (quantity_in project Head) (shifted tank.bottom level)) (printed
+    (quantity_in project Head) level)
+    (printed (quantity_in project Flow) inflow) state
 
 -- The line of tank number k by the levels, the inflows and the states of all tanks.
 abbrev pub tank_line : Project → List LevelSpan → List Span → List TankState → ℕ → Tank → ReportLine
-tank_line network levels inflows states k tank =
-    tank_at network k tank (slice_index_or (map levels_of levels) k nowhere) (slice_index_or
+tank_line project levels inflows states k tank =
+    tank_at project k tank (slice_index_or (map levels_of levels) k nowhere) (slice_index_or
     (map flows_of inflows) k nowhere)
     (slice_index_or states k Between)
 
@@ -59,7 +59,7 @@ no_link = record { from = 0; to = 0; law = Shut }
 
 -- The line of link number l by heads of all nodes below and above and by the states of links.
 abbrev pub link_line : Project → Grid → List ℤ → List ℤ → List LinkState → ℕ → Link → ReportLine
-link_line network grid below above states l link =
-    LinkLine l (printed (quantity_in network Flow) (flow_box (slice_index_or grid.links l no_link) below above))
-    (status_of (is_us network) network.bends.list link.kind (state_of_link states l)
+link_line project grid below above states l link =
+    LinkLine l (printed (quantity_in project Flow) (flow_box (slice_index_or grid.links l no_link) below above))
+    (status_of (is_us project) project.bends.list link.kind (state_of_link states l)
     (difference (slice_index_or grid.links l no_link) below above))

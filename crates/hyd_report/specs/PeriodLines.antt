@@ -19,10 +19,10 @@ use Rattle.hyd_report.specs.NodeAndLinkLines.{junction_line, reservoir_line, tan
 -- ---- what is needed
 
 -- Each tank has its levels, its state and its inflow, which can be printed.
-pub record AreTankFacts (network : Project) (facts : Facts) : Type 0 where
-  pub levels : length facts.levels.list ≡ tank_count network
-  pub inflows : length facts.inflows.list ≡ tank_count network
-  pub states : length facts.tanks.list ≡ tank_count network
+pub record AreTankFacts (project : Project) (facts : Facts) : Type 0 where
+  pub levels : length facts.levels.list ≡ tank_count project
+  pub inflows : length facts.inflows.list ≡ tank_count project
+  pub states : length facts.tanks.list ≡ tank_count project
   pub small : All IsSmall facts.inflows.list
 
 -- The vectors of a record with all tanks alike are heads of a net's junctions in the box, each below at most the one
@@ -37,11 +37,11 @@ pub record AreBounds (net : NetView) (row : Record) : Type 0 where
 
 -- The lines of a report time.
 abbrev pub state_lines : Project → Grid → List LinkState → Record → Facts → List ReportLine
-state_lines network grid states row facts =
-    TimeLine facts.time ∷ (map_from (junction_line network row.main.lower row.main.upper) 0 grid.junctions
-    ++ (map_from (reservoir_line network) 0 grid.reservoirs
-    ++ (map_from (tank_line network facts.levels.list facts.inflows.list facts.tanks.list) 0 network.tanks.list
-    ++ map_from (link_line network grid (heads_below grid row) (heads_above grid row) states) 0 network.links.list)))
+state_lines project grid states row facts =
+    TimeLine facts.time ∷ (map_from (junction_line project row.main.lower row.main.upper) 0 grid.junctions
+    ++ (map_from (reservoir_line project) 0 grid.reservoirs
+    ++ (map_from (tank_line project facts.levels.list facts.inflows.list facts.tanks.list) 0 project.tanks.list
+    ++ map_from (link_line project grid (heads_below grid row) (heads_above grid row) states) 0 project.links.list)))
 
 -- The lines of changes by controls at the start.
 abbrev pub start_lines : Facts → List ReportLine
@@ -49,8 +49,8 @@ start_lines facts = map (change_line facts.time) (take (before_rules facts.chang
 
 -- The lines of a report time, where the period is reported.
 abbrev pub middle_lines : Project → Grid → List LinkState → Record → Facts → List ReportLine
-middle_lines network grid states row facts =
-    if is_report_time network facts.time then state_lines network grid states row facts else []
+middle_lines project grid states row facts =
+    if is_report_time project facts.time then state_lines project grid states row facts else []
 
 -- The lines of events and of changes by rules at the end.
 abbrev pub end_lines : Facts → List ReportLine
@@ -60,5 +60,5 @@ end_lines facts =
 
 -- All lines of the period.
 abbrev pub lines_of : Project → Grid → List LinkState → Record → Facts → List ReportLine
-lines_of network grid states row facts =
-    start_lines facts ++ (middle_lines network grid states row facts ++ end_lines facts)
+lines_of project grid states row facts =
+    start_lines facts ++ (middle_lines project grid states row facts ++ end_lines facts)

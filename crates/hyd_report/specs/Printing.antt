@@ -24,9 +24,9 @@ printed quantity ticks = record {
 
 -- The value of a number of ticks in the units of a network's file.
 abbrev pub quantity_in : Project → Quantity → ℤ → Rational
-quantity_in network Head ticks = head_quantity (is_us network) ticks
-quantity_in network Pressure ticks = pressure_quantity (is_us network) ticks
-quantity_in network Flow ticks = flow_quantity network.options.unit ticks
+quantity_in project Head ticks = head_quantity (is_us project) ticks
+quantity_in project Pressure ticks = pressure_quantity (is_us project) ticks
+quantity_in project Flow ticks = flow_quantity project.options.unit ticks
 
 -- The texts are those of the ends of a printed interval (ten-thousandths).
 pub record ArePrinted (interval : Interval) (ends : Ends) : Type 0 where

@@ -7,7 +7,7 @@ ghost use Rattle.hyd_report.specs.EventTextsAndChangesByRules.{is_by_rule, befor
 ghost use Rattle.hyd_io.specs.Output.{OnCert};
 ghost use Rattle.hyd_net.specs.Sound.{Sound};
 ghost use Rattle.hyd_spec_reports.specs.ReportLine.{ControlLine, RuleLine, line_text};
-ghost use Rattle.hyd_report.specs.Putting.{Puts};
+ghost use Rattle.hyd_io.specs.Putting.{Puts};
 
 use crate::ids::{link_id, rule_id};
 use crate::numbers::{clock, number};

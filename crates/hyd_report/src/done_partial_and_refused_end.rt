@@ -1,9 +1,9 @@
-//! The last line of a run.
+//! The last line of a report: of a run, and of a check that accepts or refuses.
 
 ghost use Rattle.std.specs.Prelude.{IsTrue};
 ghost use Rattle.hyd_io.specs.Output.{OnCert};
 ghost use Rattle.hyd_spec_reports.specs.ReportLine.{done_line, partial_line, refused_end_line};
-ghost use Rattle.hyd_report.specs.Putting.{Puts};
+ghost use Rattle.hyd_io.specs.Putting.{Puts};
 
 use crate::numbers::number;
 use crate::pieces::put_pieces;

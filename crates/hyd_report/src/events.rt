@@ -6,7 +6,7 @@ ghost use Rattle.hyd_io.specs.Output.{OnCert};
 ghost use Rattle.hyd_net.specs.Sound.{Sound};
 ghost use Rattle.hyd_spec_reports.specs.ReportLine.{line_text};
 ghost use Rattle.hyd_spec_reports.specs.Report.{event_line};
-ghost use Rattle.hyd_report.specs.Putting.{Puts};
+ghost use Rattle.hyd_io.specs.Putting.{Puts};
 ghost use Rattle.hyd_report.specs.EventTextsAndChangesByRules.{event_text};
 
 use crate::ids::tank_id;

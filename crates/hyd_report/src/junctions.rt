@@ -13,7 +13,7 @@ ghost use Rattle.hyd_spec_certificates.specs.declared.Side.TheVariants.{Upper, L
 ghost use Rattle.hyd_spec_reports.specs.ReportLine.{JunctionLine, line_text};
 ghost use Rattle.hyd_period_network.specs.NetAsPeriodNetwork.{grid_of};
 ghost use Rattle.hyd_bounds.specs.VectorsInOrder.{IsVector, AreInOrder};
-ghost use Rattle.hyd_report.specs.Putting.{Puts};
+ghost use Rattle.hyd_io.specs.Putting.{Puts};
 ghost use Rattle.hyd_report.specs.Printing.{ArePrinted};
 ghost use Rattle.hyd_report.specs.NodeAndLinkLines.{texts, junction_between, junction_line};
 

@@ -13,7 +13,7 @@ ghost use Rattle.hyd_period_network.specs.NetAsPeriodNetwork.{grid_of, states_of
 ghost use Rattle.hyd_period_network.specs.Periods.{IsNetOf};
 ghost use Rattle.hyd_period_network.specs.LawsInSettings.{AreStates};
 ghost use Rattle.hyd_bounds.specs.VectorsInOrder.{IsVector, AreInOrder};
-ghost use Rattle.hyd_report.specs.Putting.{Puts};
+ghost use Rattle.hyd_io.specs.Putting.{Puts};
 ghost use Rattle.hyd_report.specs.Printing.{ArePrinted};
 ghost use Rattle.hyd_report.specs.NodeAndLinkLines.{texts, link_line};
 

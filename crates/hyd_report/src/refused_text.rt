@@ -2,7 +2,7 @@
 
 ghost use Rattle.std.specs.Prelude.{◌≡◌, decimal, IsTrue};
 ghost use Rattle.hyd_io.specs.Output.{OnCert};
-ghost use Rattle.hyd_report.specs.Putting.{Puts};
+ghost use Rattle.hyd_io.specs.Putting.{Puts};
 ghost use Rattle.hyd_report.specs.RefusedText.{cause_number, detail_of, refused_text_line};
 
 use crate::numbers::number;

@@ -12,7 +12,7 @@ ghost use Rattle.hyd_period_network.specs.NetAsPeriodNetwork.{grid_of, states_of
 ghost use Rattle.hyd_period_network.specs.Periods.{IsNetOf};
 ghost use Rattle.hyd_period_network.specs.LawsInSettings.{AreStates};
 ghost use Rattle.hyd_cert.specs.RecordView.{row_of};
-ghost use Rattle.hyd_report.specs.Putting.{Puts};
+ghost use Rattle.hyd_io.specs.Putting.{Puts};
 ghost use Rattle.hyd_report.specs.NodeAndLinkLines.{texts, tank_line, link_line};
 ghost use Rattle.hyd_report.specs.EventTextsAndChangesByRules.{before_rules};
 ghost use Rattle.hyd_report.specs.PeriodLines.{start_lines, state_lines, middle_lines, end_lines, lines_of};

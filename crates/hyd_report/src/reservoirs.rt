@@ -7,7 +7,7 @@ ghost use Rattle.hyd_spec.specs.Lists.{map_from};
 ghost use Rattle.hyd_spec_certificates.specs.Interval.{Interval};
 ghost use Rattle.hyd_spec_reports.specs.ReportLine.{ReservoirLine, line_text};
 ghost use Rattle.hyd_period_network.specs.NetAsPeriodNetwork.{grid_of};
-ghost use Rattle.hyd_report.specs.Putting.{Puts};
+ghost use Rattle.hyd_io.specs.Putting.{Puts};
 ghost use Rattle.hyd_report.specs.Printing.{ArePrinted};
 ghost use Rattle.hyd_report.specs.NodeAndLinkLines.{texts, reservoir_line};
 

@@ -7,7 +7,7 @@ ghost use Rattle.hyd_spec_reports.specs.CertificateText.{words};
 ghost use Rattle.hyd_spec_reports.specs.ReportLine.{node_id, rule_id, problem_words, side_word, cause_words, stop_line};
 ghost use Rattle.hyd_spec_reports.specs.Stops.{period_of};
 ghost use Rattle.std.specs.Fmt.{signed_decimal};
-ghost use Rattle.hyd_report.specs.Putting.{Puts};
+ghost use Rattle.hyd_io.specs.Putting.{Puts};
 
 use crate::ids::{node_id, rule_id, tank_id};
 use crate::numbers::{clock, number, signed};

@@ -5,10 +5,10 @@ ghost use Rattle.std.specs.Prelude.{IfSome, None};
 ghost use Rattle.hyd_io.specs.Output.{OnCert};
 ghost use Rattle.hyd_net.specs.Sound.{Sound};
 ghost use Rattle.hyd_spec.specs.Lists.{map_from};
+ghost use Rattle.hyd_spec_certificates.specs.Spans.{levels_of, flows_of};
 ghost use Rattle.hyd_spec_certificates.specs.Interval.{Interval};
 ghost use Rattle.hyd_spec_reports.specs.ReportLine.{TankLine, line_text, tank_word};
-ghost use Rattle.hyd_period_facts.specs.FactsOfPeriod.{levels_of, flows_of};
-ghost use Rattle.hyd_report.specs.Putting.{Puts};
+ghost use Rattle.hyd_io.specs.Putting.{Puts};
 ghost use Rattle.hyd_report.specs.Printing.{ArePrinted, IsSmall};
 ghost use Rattle.hyd_report.specs.NodeAndLinkLines.{texts, tank_at, tank_line};
 

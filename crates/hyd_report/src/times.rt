@@ -6,7 +6,7 @@ ghost use Rattle.hyd_spec_reports.specs.Report.{is_report_time};
 ghost use Rattle.hyd_io.specs.Output.{OnCert};
 ghost use Rattle.hyd_spec.specs.ProgramTypes.{Project};
 ghost use Rattle.hyd_spec_reports.specs.ReportLine.{TimeLine, line_text};
-ghost use Rattle.hyd_report.specs.Putting.{Puts};
+ghost use Rattle.hyd_io.specs.Putting.{Puts};
 
 use crate::numbers::clock;
 use crate::pieces::put_pieces;
@@ -16,8 +16,8 @@ use hyd_net::Project;
 /// Puts the line of a report time, in seconds.
 pub(crate) fn put_time<D: Desk>(time: u32, pen: &mut Pen, desk: &mut D) -> Result<(), OutFault>
     requires { OnCert pen.old.to (IsTrue (D.ready desk.old)) }
-    ensures { (network : Project) → Puts D.files D.rest D.written D.printed D.target D.ready D.counts D.openings
-        (line_text network (TimeLine time)) result pen.old pen.new desk.old desk.new }
+    ensures { (project : Project) → Puts D.files D.rest D.written D.printed D.target D.ready D.counts D.openings
+        (line_text project (TimeLine time)) result pen.old pen.new desk.old desk.new }
 {
     let time = clock(u64::from(time));
     put_pieces(&[b"TIME ".as_slice(), time.bytes(), b"\n"], pen, desk)

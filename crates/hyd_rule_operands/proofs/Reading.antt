@@ -1,6 +1,6 @@
 -- Heads and flows that are read, one after another.
-use Rattle.std.proofs.Common.{◌≡◌, ℕ, zero, suc, ◌+◌, ◌<◌, ◌≤◌, ℤ, pos, List, [], ◌∷◌, ◌++◌, length, map, take, Option}
-use Rattle.std.proofs.Common.{Some, refl, sym, ap, subst, ◌∙◌, append_assoc, arith}
+use Rattle.std.proofs.Common.{◌≡◌, ℕ, ◌+◌, ◌<◌, ◌≤◌, ℤ, pos, List, [], ◌∷◌, ◌++◌, length, map, take, Option, Some, sym}
+use Rattle.std.proofs.Common.{ap, subst, ◌∙◌, append_assoc, arith}
 use Rattle.std.specs.Prelude.{slice_get, IfSome}
 use Rattle.std.proofs.lemmas.List.{take_more, take_all, map_push, map_more, length-map}
 use Rattle.std.proofs.lemmas.Option.{slice_get_within, slice_get-get_or}
@@ -8,52 +8,30 @@ use Rattle.hyd_num.specs.declared.decimals.Span.{Span}
 use Rattle.hyd_spec.specs.ProgramTypes.{Project}
 use Rattle.hyd_spec.specs.Assignment.{head_at}
 use Rattle.hyd_spec.specs.NodeNumbers.{nodes_before_tanks}
+use Rattle.hyd_spec_certificates.specs.Spans.{flows_of}
 use Rattle.hyd_spec_certificates.specs.Interval.{Interval}
 use Rattle.hyd_spec_certificates.specs.PeriodNetwork.{GridLink}
 use Rattle.hyd_period_network.specs.NetView.{NetView}
 use Rattle.hyd_period_network.specs.Demands.{IsNetJunction}
 use Rattle.hyd_period_network.specs.Periods.{IsNetOf, ends_of}
+use Rattle.hyd_lemmas.proofs.ListsAndOptions.{item_is, item_there}
 use Rattle.hyd_period_network.proofs.Sounding.{long_zipped}
 use Rattle.hyd_bounds.specs.VectorsInOrder.{IsSpan}
-use Rattle.hyd_controls_and_rules.specs.RuleReadings.{flow_interval}
-use Rattle.hyd_tank_inflows.proofs.Numbered.{item_there, item_is}
 
 -- ---- counts of a net of a project
 
-pub nodes_are : (network : Project) (net : NetView) → IsNetOf network net
-    → length net.junctions + length net.reservoirs ≡ nodes_before_tanks network
-nodes_are network net of =
-    let junctions = long_zipped IsNetJunction network.junctions.list net.junctions of.junctions in
+pub nodes_are : (project : Project) (net : NetView) → IsNetOf project net
+    → length net.junctions + length net.reservoirs ≡ nodes_before_tanks project
+nodes_are project net of =
+    let junctions = long_zipped IsNetJunction project.junctions.list net.junctions of.junctions in
     let reservoirs = of.each_reservoir in
     omega (arith, junctions, reservoirs)
 
-pub links_are : (network : Project) (net : NetView) → IsNetOf network net
-    → length net.ends ≡ length network.links.list
-links_are network net of = ap length of.ends ∙ length-map network.links.list ends_of
+pub links_are : (project : Project) (net : NetView) → IsNetOf project net
+    → length net.ends ≡ length project.links.list
+links_are project net of = ap length of.ends ∙ length-map project.links.list ends_of
 
 -- ---- reservoirs
-
--- so many heads
-pub heads_of : {X : Type 0} → List X → List ℤ
-heads_of xs = map (λ _. pos 0) xs
-
-pub heads_of-length : {X : Type 0} (xs : List X) → length (heads_of xs) ≡ length xs
-unfolding heads_of
-heads_of-length [] = refl
-heads_of-length (x ∷ xs) = ap suc (heads_of-length xs)
-
--- a head behind those of a vector
-pub head_behind : (u rest : List ℤ) (n r : ℕ) → length u ≡ n → head_at (u ++ rest) (n + r) ≡ head_at rest r
-head_behind [] rest n r is = let m : n + r ≡ r = omega (arith, is) in ap (head_at rest) m
-head_behind (h ∷ u) rest n r is =
-    let m : n + r ≡ suc (length u + r) = omega (arith, is) in
-    ap (head_at (h ∷ (u ++ rest))) m ∙ head_behind u rest (length u) r refl
-
--- a head in front of others
-pub head_before : (u rest : List ℤ) (r : ℕ) → r < length u → head_at (u ++ rest) r ≡ head_at u r
-head_before [] rest r within = absurd (omega arith)
-head_before (h ∷ u) rest zero within = refl
-head_before (h ∷ u) rest (suc r) within = head_before u rest r (omega arith)
 
 -- one reservoir more
 pub one_behind : (before heads reservoirs : List ℤ) (r : ℕ) (head : ℤ) → slice_get reservoirs r ≡ Some head
@@ -84,28 +62,28 @@ reservoir_is reservoirs r head within is =
 between : ℤ → ℤ → Interval
 between lo hi = record { lo = lo; hi = hi }
 
-span_is : (span : Span) (box : Interval) → IsSpan span box → flow_interval span ≡ box
+span_is : (span : Span) (box : Interval) → IsSpan span box → flows_of span ≡ box
 unfolding between
 span_is span box is =
     ap (λ (lo : ℤ). between lo span.hi) is.lo_is ∙ ap (λ (hi : ℤ). between box.lo hi) is.hi_is
 
 -- one flow more
 pub one_more : (box : GridLink → Interval) (links : List GridLink) (flows : List Span) (flow : Span) (i : ℕ)
-    → i < length links → map flow_interval flows ≡ map box (take i links)
+    → i < length links → map flows_of flows ≡ map box (take i links)
     → IfSome (slice_get links i) (λ link. IsSpan flow (box link))
-    → map flow_interval (flows ++ flow ∷ []) ≡ map box (take (i + 1) links)
+    → map flows_of (flows ++ flow ∷ []) ≡ map box (take (i + 1) links)
 one_more box links flows flow i h before here =
     let there = item_there links i h in
     let is : IsSpan flow (box there.0) =
     subst (λ (o : Option GridLink). IfSome o (λ link. IsSpan flow (box link))) there.1 here in
     let item = item_is links i there.0 there.0 there.1 in
-    map_push flow_interval flows flow
-    ∙ ap (λ (boxes : List Interval). boxes ++ flow_interval flow ∷ []) before
+    map_push flows_of flows flow
+    ∙ ap (λ (boxes : List Interval). boxes ++ flows_of flow ∷ []) before
     ∙ ap (λ (last : Interval). map box (take i links) ++ last ∷ [])
     (span_is flow (box there.0) is ∙ ap box (sym item))
     ∙ sym (map_more box links i there.0 h)
 
 -- all flows
 pub all_flows : (box : GridLink → Interval) (links : List GridLink) (flows : List Span) (i : ℕ) → length links ≤ i
-    → map flow_interval flows ≡ map box (take i links) → map flow_interval flows ≡ map box links
+    → map flows_of flows ≡ map box (take i links) → map flows_of flows ≡ map box links
 all_flows box links flows i past is = is ∙ ap (map box) (take_all i links past)

@@ -13,7 +13,7 @@ pub record AreNone (readings : Readings) : Type 0 where
 
 -- There is room for what is read in each period of a project: a head from either side for each junction and each
 -- reservoir, and a flow for each link.
-pub record HasRoom (network : Project) (readings : Readings) : Type 0 where
-  pub low : Takes readings.low (nodes_before_tanks network)
-  pub high : Takes readings.high (nodes_before_tanks network)
-  pub flows : Takes readings.flows (length network.links.list)
+pub record HasRoom (project : Project) (readings : Readings) : Type 0 where
+  pub low : Takes readings.low (nodes_before_tanks project)
+  pub high : Takes readings.high (nodes_before_tanks project)
+  pub flows : Takes readings.flows (length project.links.list)

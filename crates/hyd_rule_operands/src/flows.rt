@@ -2,12 +2,13 @@
 #![tactic(auto)]
 
 ghost use Rattle.std.specs.Prelude.{◌≡◌, ◌<◌, ◌≤◌, ◌+◌, ◌++◌, ◌∷◌, [], pos, length, map, All};
+ghost use Rattle.hyd_spec_certificates.specs.Spans.{flows_of};
 ghost use Rattle.hyd_spec_certificates.specs.declared.Problem.TheVariants.{Main};
 ghost use Rattle.hyd_spec_certificates.specs.declared.Side.TheVariants.{Upper, Lower};
 ghost use Rattle.hyd_spec_certificates.specs.PeriodNetwork.{all_heads};
 ghost use Rattle.hyd_period_network.specs.NetAsPeriodNetwork.{grid_of};
 ghost use Rattle.hyd_bounds.specs.VectorsInOrder.{IsVector, AreInOrder};
-ghost use Rattle.hyd_controls_and_rules.specs.RuleReadings.{flow_interval, IsBounded};
+ghost use Rattle.hyd_controls_and_rules.specs.RuleReadings.{IsBounded};
 ghost use Rattle.hyd_rule_operands.specs.FlowBoxes.{boxes_between};
 
 use hyd_bounds::flow_box;
@@ -32,7 +33,7 @@ pub(crate) fn put_flows(net: &Net, low: &[i64], high: &[i64], flows: &mut List<S
     requires ordered { AreInOrder (pos 0) (all_heads (grid_of net.now) Main Lower low.now)
         (all_heads (grid_of net.now) Main Upper high.now) }
     requires room { length net.now.ends ≤ length flows.old.list + flows.old.spare }
-    ensures flows { map flow_interval flows.new.list ≡ boxes_between (grid_of net.now) low.now high.now }
+    ensures flows { map flows_of flows.new.list ≡ boxes_between (grid_of net.now) low.now high.now }
     ensures bounded { All IsBounded flows.new.list }
     ensures room { length flows.old.list + flows.old.spare ≤ length flows.new.list + flows.new.spare }
 {

@@ -10,21 +10,12 @@ use Rattle.hyd_spec.specs.ProgramTypes.{Project, Rule}
 use Rattle.hyd_spec.specs.Rules.{Readings}
 use Rattle.hyd_spec_certificates.specs.ThreeValuedLogic.{Verdict, Yes, is_yes, is_unknown}
 use Rattle.hyd_spec_certificates.specs.Decided.{rule_between}
+use Rattle.hyd_lemmas.proofs.ListsAndOptions.{item_is, item_there}
 use Rattle.hyd_controls_and_rules.proofs.Positions.{first_is}
 use Rattle.hyd_rule_values.specs.declared.truth_of_rules.RuleOpen.{RuleOpen}
 use Rattle.hyd_rule_values.specs.TruthOfRules.{IsKnown, IsOpen, AreKnown, IsFirstOpen}
 
 -- ---- items of lists
-
-item_is : {X : Type 0} (xs : List X) (k : ℕ) (x d : X) → slice_get xs k ≡ Some x → slice_index_or xs k d ≡ x
-item_is {X} [] k x d at = absurd (cc)
-item_is {X} (y ∷ xs) zero x d at = cc
-item_is {X} (y ∷ xs) (suc k) x d at = item_is xs k x d at
-
-pub item_there : {X : Type 0} (xs : List X) (k : ℕ) → k < length xs → (x : X) × (slice_get xs k ≡ Some x)
-item_there {X} [] k h = absurd (omega (arith, h))
-item_there {X} (x ∷ xs) zero h = (x, refl)
-item_there {X} (x ∷ xs) (suc k) h = item_there xs k (omega (arith, h))
 
 set_here : {X : Type 0} (xs : List X) (k : ℕ) (x d : X) → k < length xs → slice_index_or (slice_set xs k x) k d ≡ x
 set_here {X} [] k x d h = absurd (omega (arith, h))
@@ -40,29 +31,29 @@ set_before {X} (y ∷ xs) (suc k) (suc i) x d h = set_before xs k i x d (omega (
 
 -- ---- rules
 
-module _ (network : Project) (time : ℕ) (below above : Readings) where
+module _ (project : Project) (time : ℕ) (below above : Readings) where
   abbrev truth : Rule → Verdict
-  truth rule = rule_between network time below above rule
+  truth rule = rule_between project time below above rule
 
   -- the rules before a number are known, with the values that stand in a list
   abbrev pub KnownBefore : ℕ → List Bool → Type 0
-  KnownBefore i values = (k : ℕ) (each : Rule) → k < i → slice_get network.rules.list k ≡ Some each
-      → IsKnown network time below above each (slice_index_or values k false)
+  KnownBefore i values = (k : ℕ) (each : Rule) → k < i → slice_get project.rules.list k ≡ Some each
+      → IsKnown project time below above each (slice_index_or values k false)
 
   pub known_more : (i : ℕ) (values : List Bool) (value : Bool) → i < length values → KnownBefore i values
-      → ((each : Rule) → slice_get network.rules.list i ≡ Some each → IsKnown network time below above each value)
+      → ((each : Rule) → slice_get project.rules.list i ≡ Some each → IsKnown project time below above each value)
       → KnownBefore (i + 1) (slice_set values i value)
   known_more i values value within before here k each h at = elim (cases_lt k i) [
-    | inl less ↦ subst (IsKnown network time below above each) (sym (set_before values k i value false less))
+    | inl less ↦ subst (IsKnown project time below above each) (sym (set_before values k i value false less))
         (before k each less at)
     | inr more ↦
         let same : k ≡ i = omega (arith, h, more) in
-        let there : slice_get network.rules.list i ≡ Some each =
-        ap (λ (n : ℕ). slice_get network.rules.list n) (sym same) ∙ at in
+        let there : slice_get project.rules.list i ≡ Some each =
+        ap (λ (n : ℕ). slice_get project.rules.list n) (sym same) ∙ at in
         let stands : value ≡ slice_index_or (slice_set values i value) k false =
         sym (ap (λ (n : ℕ). slice_index_or (slice_set values i value) n false) same
         ∙ set_here values i value false within) in
-        subst (IsKnown network time below above each) stands (here each there)
+        subst (IsKnown project time below above each) stands (here each there)
   ]
 
   values_from : (rules : List Rule) (values : List Bool) → length values ≡ length rules
@@ -89,34 +80,34 @@ module _ (network : Project) (time : ℕ) (below above : Readings) where
       or-false false b h k = k
       or-false true b h k = absurd (cc)
 
-  pub all_known : (i : ℕ) (values : List Bool) → length values ≡ length network.rules.list
-      → length values ≤ i → KnownBefore i values → AreKnown network time below above values
+  pub all_known : (i : ℕ) (values : List Bool) → length values ≡ length project.rules.list
+      → length values ≤ i → KnownBefore i values → AreKnown project time below above values
   all_known i values e h before = record {
-    none_open = none_from network.rules.list (λ k each at.
-        (before k each (let w = slice_get_within network.rules.list k each at in omega (arith, w, e, h)) at).decided);
-    values_are = values_from network.rules.list values e (λ k each at.
-        (before k each (let w = slice_get_within network.rules.list k each at in omega (arith, w, e, h)) at).value_is);
+    none_open = none_from project.rules.list (λ k each at.
+        (before k each (let w = slice_get_within project.rules.list k each at in omega (arith, w, e, h)) at).decided);
+    values_are = values_from project.rules.list values e (λ k each at.
+        (before k each (let w = slice_get_within project.rules.list k each at in omega (arith, w, e, h)) at).value_is);
   }
 
-  pub first_open : (i : ℕ) (values : List Bool) (found : RuleOpen) → i < length network.rules.list
+  pub first_open : (i : ℕ) (values : List Bool) (found : RuleOpen) → i < length project.rules.list
       → KnownBefore i values
-      → ((each : Rule) → slice_get network.rules.list i ≡ Some each → IsOpen network time below above i each found)
-      → IsFirstOpen network time below above found
+      → ((each : Rule) → slice_get project.rules.list i ≡ Some each → IsOpen project time below above i each found)
+      → IsFirstOpen project time below above found
   first_open i values found within before opens =
-      let there = item_there network.rules.list i within in
+      let there = item_there project.rules.list i within in
       let is = opens there.0 there.1 in
-      let size : length (map truth network.rules.list) ≡ length network.rules.list = length-map network.rules.list
+      let size : length (map truth project.rules.list) ≡ length project.rules.list = length-map project.rules.list
       truth in
-      let first = first_is is_unknown (map truth network.rules.list) i Yes (omega (arith, within, size))
+      let first = first_is is_unknown (map truth project.rules.list) i Yes (omega (arith, within, size))
       (λ k less.
-      let each = item_there network.rules.list k (omega (arith, less, within)) in
-      ap is_unknown (get_or-map truth network.rules.list k each.0 Yes (omega (arith, less, within))
-      ∙ ap truth (item_is network.rules.list k each.0 each.0 each.1)) ∙ (before k each.0 less each.1).decided)
-      (ap is_unknown (get_or-map truth network.rules.list i there.0 Yes within
-      ∙ ap truth (item_is network.rules.list i there.0 there.0 there.1) ∙ is.is_open)) in
+      let each = item_there project.rules.list k (omega (arith, less, within)) in
+      ap is_unknown (get_or-map truth project.rules.list k each.0 Yes (omega (arith, less, within))
+      ∙ ap truth (item_is project.rules.list k each.0 each.0 each.1)) ∙ (before k each.0 less each.1).decided)
+      (ap is_unknown (get_or-map truth project.rules.list i there.0 Yes within
+      ∙ ap truth (item_is project.rules.list i there.0 there.0 there.1) ∙ is.is_open)) in
       record {
         first_rule = first ∙ ap (λ (n : ℕ). Some n) (sym is.number_is);
         rule = there.0;
-        is_rule = ap (λ (n : ℕ). slice_get network.rules.list n) is.number_is ∙ there.1;
+        is_rule = ap (λ (n : ℕ). slice_get project.rules.list n) is.number_is ∙ there.1;
         clause_is = is.clause_is;
       }

@@ -10,28 +10,28 @@ use Rattle.hyd_rule_values.specs.declared.truth_of_rules.RuleOpen.{RuleOpen}
 
 -- what is known of each rule, in order
 abbrev pub truths_between : Project → ℕ → Readings → Readings → List Verdict
-truths_between network time below above = map (rule_between network time below above) network.rules.list
+truths_between project time below above = map (rule_between project time below above) project.rules.list
 
 -- a rule is decided, with this value
-pub record IsKnown (network : Project) (time : ℕ) (below above : Readings) (rule : Rule) (value : Bool) : Type 0 where
-  pub decided : is_unknown (rule_between network time below above rule) ≡ false
-  pub value_is : value ≡ is_yes (rule_between network time below above rule)
+pub record IsKnown (project : Project) (time : ℕ) (below above : Readings) (rule : Rule) (value : Bool) : Type 0 where
+  pub decided : is_unknown (rule_between project time below above rule) ≡ false
+  pub value_is : value ≡ is_yes (rule_between project time below above rule)
 
 -- a rule of a number is open, by its first clause that is open by itself
-pub record IsOpen (network : Project) (time : ℕ) (below above : Readings) (number : ℕ) (rule : Rule)
+pub record IsOpen (project : Project) (time : ℕ) (below above : Readings) (number : ℕ) (rule : Rule)
     (found : RuleOpen) : Type 0 where
-  pub is_open : rule_between network time below above rule ≡ Unknown
+  pub is_open : rule_between project time below above rule ≡ Unknown
   pub number_is : found.rule ≡ number
-  pub clause_is : IsOpenClause network time below above rule found.clause found.lo found.hi
+  pub clause_is : IsOpenClause project time below above rule found.clause found.lo found.hi
 
 -- all rules are decided, with these values
-pub record AreKnown (network : Project) (time : ℕ) (below above : Readings) (values : List Bool) : Type 0 where
-  pub none_open : list_any is_unknown (truths_between network time below above) ≡ false
-  pub values_are : values ≡ map is_yes (truths_between network time below above)
+pub record AreKnown (project : Project) (time : ℕ) (below above : Readings) (values : List Bool) : Type 0 where
+  pub none_open : list_any is_unknown (truths_between project time below above) ≡ false
+  pub values_are : values ≡ map is_yes (truths_between project time below above)
 
 -- the first rule that is open, and its first clause that is open by itself
-pub record IsFirstOpen (network : Project) (time : ℕ) (below above : Readings) (found : RuleOpen) : Type 0 where
-  pub first_rule : position is_unknown (truths_between network time below above) ≡ Some found.rule
+pub record IsFirstOpen (project : Project) (time : ℕ) (below above : Readings) (found : RuleOpen) : Type 0 where
+  pub first_rule : position is_unknown (truths_between project time below above) ≡ Some found.rule
   pub rule : Rule
-  pub is_rule : slice_get network.rules.list found.rule ≡ Some rule
-  pub clause_is : IsOpenClause network time below above rule found.clause found.lo found.hi
+  pub is_rule : slice_get project.rules.list found.rule ≡ Some rule
+  pub clause_is : IsOpenClause project time below above rule found.clause found.lo found.hi

@@ -7,8 +7,9 @@ ghost use Rattle.hyd_net.specs.Sound.{Sound};
 ghost use Rattle.hyd_spec.specs.ProgramTypes.{Rule};
 ghost use Rattle.hyd_spec.specs.NodeNumbers.{nodes_before_tanks, tank_count};
 ghost use Rattle.hyd_spec.specs.Rules.{Readings};
+ghost use Rattle.hyd_spec_certificates.specs.Spans.{levels_of, flows_of};
 ghost use Rattle.hyd_controls_and_rules.specs.AlikeButTankHeads.{AreAlike};
-ghost use Rattle.hyd_controls_and_rules.specs.RuleReadings.{IsBounded, flow_interval, level_interval, lower_readings};
+ghost use Rattle.hyd_controls_and_rules.specs.RuleReadings.{IsBounded, lower_readings};
 ghost use Rattle.hyd_controls_and_rules.specs.RuleReadings.{upper_readings};
 ghost use Rattle.hyd_rule_values.specs.TruthOfRules.{IsKnown, IsOpen, AreKnown, IsFirstOpen};
 
@@ -51,16 +52,16 @@ fn value_of(
     requires each_level { length levels.now ≡ tank_count project.now }
     requires each_link { length links.now ≡ length project.now.links.list }
     ensures known { IfOk result (λ value. (lower upper : Readings) (each : Rule)
-        → AreAlike project.now (lower_readings low.now (map flow_interval flows.now)
-        (map level_interval levels.now) links.now) lower
-        → AreAlike project.now (upper_readings high.now (map flow_interval flows.now)
-        (map level_interval levels.now) links.now) upper
+        → AreAlike project.now (lower_readings low.now (map flows_of flows.now)
+        (map levels_of levels.now) links.now) lower
+        → AreAlike project.now (upper_readings high.now (map flows_of flows.now)
+        (map levels_of levels.now) links.now) upper
         → slice_get project.now.rules.list rule ≡ Some each → IsKnown project.now time lower upper each value) }
     ensures open { IfErr result (λ found. (lower upper : Readings) (each : Rule)
-        → AreAlike project.now (lower_readings low.now (map flow_interval flows.now)
-        (map level_interval levels.now) links.now) lower
-        → AreAlike project.now (upper_readings high.now (map flow_interval flows.now)
-        (map level_interval levels.now) links.now) upper
+        → AreAlike project.now (lower_readings low.now (map flows_of flows.now)
+        (map levels_of levels.now) links.now) lower
+        → AreAlike project.now (upper_readings high.now (map flows_of flows.now)
+        (map levels_of levels.now) links.now) upper
         → slice_get project.now.rules.list rule ≡ Some each → IsOpen project.now time lower upper rule each found) }
 {
     match decide(project, rule, low, high, flows, levels, links, time) {
@@ -102,16 +103,16 @@ pub fn decide_all(
     requires each_link { length links.now ≡ length project.now.links.list }
     requires each_value { length values.old ≡ length project.now.rules.list }
     ensures decided { OnOk result ((lower upper : Readings)
-        → AreAlike project.now (lower_readings low.now (map flow_interval flows.now)
-        (map level_interval levels.now) links.now) lower
-        → AreAlike project.now (upper_readings high.now (map flow_interval flows.now)
-        (map level_interval levels.now) links.now) upper
+        → AreAlike project.now (lower_readings low.now (map flows_of flows.now)
+        (map levels_of levels.now) links.now) lower
+        → AreAlike project.now (upper_readings high.now (map flows_of flows.now)
+        (map levels_of levels.now) links.now) upper
         → AreKnown project.now time lower upper values.new) }
     ensures open { IfErr result (λ found. (lower upper : Readings)
-        → AreAlike project.now (lower_readings low.now (map flow_interval flows.now)
-        (map level_interval levels.now) links.now) lower
-        → AreAlike project.now (upper_readings high.now (map flow_interval flows.now)
-        (map level_interval levels.now) links.now) upper
+        → AreAlike project.now (lower_readings low.now (map flows_of flows.now)
+        (map levels_of levels.now) links.now) lower
+        → AreAlike project.now (upper_readings high.now (map flows_of flows.now)
+        (map levels_of levels.now) links.now) upper
         → IsFirstOpen project.now time lower upper found) }
     ensures each { length values.new ≡ length values.old }
 {

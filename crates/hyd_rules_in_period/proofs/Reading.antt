@@ -7,6 +7,7 @@ use Rattle.hyd_spec.specs.ProgramTypes.{Project, LinkState}
 use Rattle.hyd_spec.specs.Lists.{map_from}
 use Rattle.hyd_spec.specs.NodeNumbers.{nodes_before_tanks}
 use Rattle.hyd_spec.specs.Rules.{Readings}
+use Rattle.hyd_spec_certificates.specs.Spans.{levels_of, flows_of}
 use Rattle.hyd_spec_certificates.specs.declared.Problem.TheVariants.{Main}
 use Rattle.hyd_spec_certificates.specs.declared.Side.{Side}
 use Rattle.hyd_spec_certificates.specs.declared.Side.TheVariants.{Upper, Lower}
@@ -17,7 +18,7 @@ use Rattle.hyd_spec_certificates.specs.RecordAndStanding.{Record, Standing}
 use Rattle.hyd_spec_certificates.specs.Decided.{IsOpenRule, carried_at, readings_below, readings_above, least_magnitude}
 use Rattle.hyd_spec_certificates.specs.Decided.{greatest_magnitude}
 use Rattle.hyd_controls_and_rules.specs.AlikeButTankHeads.{AreAlike}
-use Rattle.hyd_controls_and_rules.specs.RuleReadings.{flow_interval, level_interval, lower_readings, upper_readings}
+use Rattle.hyd_controls_and_rules.specs.RuleReadings.{lower_readings, upper_readings}
 use Rattle.hyd_controls_and_rules.proofs.Unseen.{heads_behind}
 use Rattle.hyd_period_facts.specs.declared.facts.Facts.{Facts}
 use Rattle.hyd_rule_values.specs.declared.truth_of_rules.RuleOpen.{RuleOpen}
@@ -35,22 +36,22 @@ pub if_err : {A E : Type 0} (P Q : E → Type 0) (result : Result A E) → IfErr
 if_err P Q (Ok value) p f = p
 if_err P Q (Err fault) p f = f fault p
 
-module _ (network : Project) (grid : Grid) (standing : Standing) (row : Record) (facts : Facts) (seconds : ℕ)
-    (started : AreStarted network grid standing row facts) (low high : List ℤ) (flows : List Span)
+module _ (project : Project) (grid : Grid) (standing : Standing) (row : Record) (facts : Facts) (seconds : ℕ)
+    (started : AreStarted project grid standing row facts) (low high : List ℤ) (flows : List Span)
     (read : AreRead grid row low high flows) (levels : List LevelSpan)
-    (carried : map level_interval levels ≡ carried_at network grid standing row seconds) (links : List LinkState)
+    (carried : map levels_of levels ≡ carried_at project grid standing row seconds) (links : List LinkState)
     (links_are : links ≡ facts.links.list) where
   abbrev tank_ends : Side → List ℤ
   tank_ends side = map_from (λ k tank. end_on (tank_side Main side k) tank) 0 grid.tanks
 
   abbrev lower : Readings
-  lower = lower_readings low (map flow_interval flows) (map level_interval levels) links
+  lower = lower_readings low (map flows_of flows) (map levels_of levels) links
 
   abbrev upper : Readings
-  upper = upper_readings high (map flow_interval flows) (map level_interval levels) links
+  upper = upper_readings high (map flows_of flows) (map levels_of levels) links
 
-  pub alike_below : length low ≡ nodes_before_tanks network
-      → AreAlike network lower (readings_below network grid standing row seconds)
+  pub alike_below : length low ≡ nodes_before_tanks project
+      → AreAlike project lower (readings_below project grid standing row seconds)
   alike_below each = record {
     heads = λ node h. heads_behind low (tank_ends Lower) node (omega (arith, h, each))
         ∙ ap (λ (hs : List ℤ). slice_index_or hs node (pos 0)) (ap (λ (hs : List ℤ). hs ++ tank_ends Lower) read.low_is
@@ -60,8 +61,8 @@ module _ (network : Project) (grid : Grid) (standing : Standing) (row : Record) 
     links = links_are ∙ started.links;
   }
 
-  pub alike_above : length high ≡ nodes_before_tanks network
-      → AreAlike network upper (readings_above network grid standing row seconds)
+  pub alike_above : length high ≡ nodes_before_tanks project
+      → AreAlike project upper (readings_above project grid standing row seconds)
   alike_above each = record {
     heads = λ node h. heads_behind high (tank_ends Upper) node (omega (arith, h, each))
         ∙ ap (λ (hs : List ℤ). slice_index_or hs node (pos 0)) (ap (λ (hs : List ℤ). hs ++ tank_ends Upper) read.high_is
@@ -71,18 +72,18 @@ module _ (network : Project) (grid : Grid) (standing : Standing) (row : Record) 
     links = links_are ∙ started.links;
   }
 
-  pub decided_so : (values : List Bool) → AreKnown network (facts.time + seconds)
-      (readings_below network grid standing row seconds) (readings_above network grid standing row seconds) values
-      → AreDecided network grid standing row seconds values
+  pub decided_so : (values : List Bool) → AreKnown project (facts.time + seconds)
+      (readings_below project grid standing row seconds) (readings_above project grid standing row seconds) values
+      → AreDecided project grid standing row seconds values
   decided_so values known =
-      let there = subst (λ (t : ℕ). AreKnown network (t + seconds) (readings_below network grid standing row seconds)
-      (readings_above network grid standing row seconds) values) started.time known in
+      let there = subst (λ (t : ℕ). AreKnown project (t + seconds) (readings_below project grid standing row seconds)
+      (readings_above project grid standing row seconds) values) started.time known in
       record { none_open = there.none_open; values_are = there.values_are }
 
-  pub open_so : (found : RuleOpen) → IsFirstOpen network (facts.time + seconds)
-      (readings_below network grid standing row seconds) (readings_above network grid standing row seconds) found
-      → IsOpenRule network grid standing row seconds (open_rule found)
+  pub open_so : (found : RuleOpen) → IsFirstOpen project (facts.time + seconds)
+      (readings_below project grid standing row seconds) (readings_above project grid standing row seconds) found
+      → IsOpenRule project grid standing row seconds (open_rule found)
   open_so found first =
-      let there = subst (λ (t : ℕ). IsFirstOpen network (t + seconds) (readings_below network grid standing row seconds)
-      (readings_above network grid standing row seconds) found) started.time first in
+      let there = subst (λ (t : ℕ). IsFirstOpen project (t + seconds) (readings_below project grid standing row seconds)
+      (readings_above project grid standing row seconds) found) started.time first in
       record { first_rule = there.first_rule; rule = there.rule; is_rule = there.is_rule; clause_is = there.clause_is }

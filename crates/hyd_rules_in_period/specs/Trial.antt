@@ -4,11 +4,11 @@ use Rattle.std.specs.Prelude.{◌≡◌, ℕ, ℤ, Bool, false, List, ◌++◌, 
 use Rattle.std.specs.List.{list_any}
 use Rattle.hyd_num.specs.declared.decimals.Span.{Span}
 use Rattle.hyd_spec.specs.ProgramTypes.{Project}
+use Rattle.hyd_spec_certificates.specs.Spans.{flows_of}
 use Rattle.hyd_spec_certificates.specs.PeriodNetwork.{Grid}
 use Rattle.hyd_spec_certificates.specs.RecordAndStanding.{Record, Standing}
 use Rattle.hyd_spec_certificates.specs.ThreeValuedLogic.{is_yes, is_unknown}
 use Rattle.hyd_spec_certificates.specs.Decided.{OpenRule, rule_truths, flow_boxes}
-use Rattle.hyd_controls_and_rules.specs.RuleReadings.{flow_interval}
 use Rattle.hyd_rule_values.specs.declared.truth_of_rules.RuleOpen.{RuleOpen}
 
 -- the heads of junctions and then of reservoirs are those of a record's vectors with all tanks alike, and the flows of
@@ -16,13 +16,13 @@ use Rattle.hyd_rule_values.specs.declared.truth_of_rules.RuleOpen.{RuleOpen}
 pub record AreRead (grid : Grid) (row : Record) (low high : List ℤ) (flows : List Span) : Type 0 where
   pub low_is : low ≡ row.main.lower ++ grid.reservoirs
   pub high_is : high ≡ row.main.upper ++ grid.reservoirs
-  pub flows_are : map flow_interval flows ≡ flow_boxes grid row
+  pub flows_are : map flows_of flows ≡ flow_boxes grid row
 
 -- some seconds after the start all rules are decided, with these values
-pub record AreDecided (network : Project) (grid : Grid) (standing : Standing) (row : Record) (seconds : ℕ)
+pub record AreDecided (project : Project) (grid : Grid) (standing : Standing) (row : Record) (seconds : ℕ)
     (values : List Bool) : Type 0 where
-  pub none_open : list_any is_unknown (rule_truths network grid standing row seconds) ≡ false
-  pub values_are : values ≡ map is_yes (rule_truths network grid standing row seconds)
+  pub none_open : list_any is_unknown (rule_truths project grid standing row seconds) ≡ false
+  pub values_are : values ≡ map is_yes (rule_truths project grid standing row seconds)
 
 -- the open rule that was found
 abbrev pub open_rule : RuleOpen → OpenRule

@@ -36,46 +36,46 @@ pen-fresh to pen e f g =
     ∙ ap (λ (h : List ℕ). record { to = to; fault = None; held = h }) g)
 
 -- the header and the first line were put in, or a fault cut them off
-pub begun : (network : Project) (settings : Settings) (left : Standing) (header : Header) (before now : Moment)
-    → header ≡ header_for network
-    → left ≡ initial_standing network → PutIn (header_text header) first_line before now
-    → IsSoFar network (sharpness_of settings) left before now
-begun network settings left header before now same start put =
-    subst (λ (s : Standing). IsSoFar network (sharpness_of settings) s before now) (sym start)
-    (so-far-begins network (sharpness_of settings) before now
+pub begun : (project : Project) (settings : Settings) (left : Standing) (header : Header) (before now : Moment)
+    → header ≡ header_for project
+    → left ≡ initial_standing project → PutIn (header_text header) first_line before now
+    → IsSoFar project (sharpness_of settings) left before now
+begun project settings left header before now same start put =
+    subst (λ (s : Standing). IsSoFar project (sharpness_of settings) s before now) (sym start)
+    (so-far-begins project (sharpness_of settings) before now
     (subst (λ (h : Header). PutIn (header_text h) first_line before now) same put))
 
-pub begun-cut : (network : Project) (settings : Settings) (fault : OutFault) (header : Header) (before now : Moment)
-    → header ≡ header_for network
-    → IsCutOff fault (header_text header) first_line before now → IsCutShort network settings fault before now
-begun-cut network settings fault header before now same cut =
-    first-cut-short network settings fault before now
+pub begun-cut : (project : Project) (settings : Settings) (fault : OutFault) (header : Header) (before now : Moment)
+    → header ≡ header_for project
+    → IsCutOff fault (header_text header) first_line before now → IsCutShort project settings fault before now
+begun-cut project settings fault header before now same cut =
+    first-cut-short project settings fault before now
     (subst (λ (h : Header). IsCutOff fault (header_text h) first_line before now) same cut)
 
 -- the last lines were put in, or a fault cut them off
-pub ended : (network project : Project) (settings : Settings) (outcome : Outcome) (left : Standing) (start before
+pub ended : (project shown : Project) (settings : Settings) (outcome : Outcome) (left : Standing) (start before
     now : Moment) (records : ℕ)
-    → project ≡ network → records ≡ left.number → left.number < 2 ^ 32 → EndsSo network left settings.rounds outcome
-    → PutIn (end_line records (is_finished outcome)) (last_line project left records outcome) before now
-    → IsSoFar network (sharpness_of settings) left start before → IsWhole network settings outcome start now
-ended network project settings outcome left start before now records same counted few ends put =
-    is-whole network settings outcome left start before now records counted (omega (arith, counted, few)) ends
+    → shown ≡ project → records ≡ left.number → left.number < 2 ^ 32 → EndsSo project left settings.rounds outcome
+    → PutIn (end_line records (is_finished outcome)) (last_line shown left records outcome) before now
+    → IsSoFar project (sharpness_of settings) left start before → IsWhole project settings outcome start now
+ended project shown settings outcome left start before now records same counted few ends put =
+    is-whole project settings outcome left start before now records counted (omega (arith, counted, few)) ends
     (subst (λ (p : Project). PutIn (end_line records (is_finished outcome)) (last_line p left records outcome)
     before now) same put)
 
-pub ended-cut : (network project : Project) (settings : Settings) (fault : OutFault) (outcome : Outcome) (left :
+pub ended-cut : (project shown : Project) (settings : Settings) (fault : OutFault) (outcome : Outcome) (left :
     Standing) (start before now : Moment) (records : ℕ)
-    → project ≡ network → records ≡ left.number → EndsSo network left settings.rounds outcome
-    → IsCutOff fault (end_line records (is_finished outcome)) (last_line project left records outcome) before now
-    → IsSoFar network (sharpness_of settings) left start before → IsCutShort network settings fault start now
-ended-cut network project settings fault outcome left start before now records same counted ends cut =
-    last-cut-short network settings fault outcome left start before now records counted ends
+    → shown ≡ project → records ≡ left.number → EndsSo project left settings.rounds outcome
+    → IsCutOff fault (end_line records (is_finished outcome)) (last_line shown left records outcome) before now
+    → IsSoFar project (sharpness_of settings) left start before → IsCutShort project settings fault start now
+ended-cut project shown settings fault outcome left start before now records same counted ends cut =
+    last-cut-short project settings fault outcome left start before now records counted ends
     (subst (λ (p : Project). IsCutOff fault (end_line records (is_finished outcome)) (last_line p left records
     outcome) before now) same cut)
 
 -- ---- what a run gives
 
-module _ (network : Project) (settings : Settings) (start now : Moment) (sound : Sound network)
+module _ (project : Project) (settings : Settings) (start now : Moment) (sound : Sound project)
     (certificate : start.certificate ≡ fresh Cert) (report : start.report ≡ fresh Report) where
   c-held : start.certificate.held ≡ []
   c-held = ap (λ (p : PenState). p.held) certificate
@@ -83,43 +83,43 @@ module _ (network : Project) (settings : Settings) (start now : Moment) (sound :
   r-held : start.report.held ≡ []
   r-held = ap (λ (p : PenState). p.held) report
 
-  pub gives-whole : (result : Result RunEnd OutFault) → RunPuts result network settings start now
+  pub gives-whole : (result : Result RunEnd OutFault) → RunPuts result project settings start now
       → OnOk result (now.certificate ≡ fresh Cert) → OnOk result (now.report ≡ fresh Report)
-      → IfOk result (λ end. IsPutOut network settings (outcome_of end) start.told now.told)
+      → IfOk result (λ end. IsPutOut project settings (outcome_of end) start.told now.told)
   gives-whole (Ok end) puts e f =
-      put-out network settings (outcome_of end) start now sound c-held r-held (ap (λ (p : PenState). p.held) e) (ap
+      put-out project settings (outcome_of end) start now sound c-held r-held (ap (λ (p : PenState). p.held) e) (ap
       (λ (p : PenState). p.held) f) puts
   gives-whole (Err fault) puts e f = tt
 
-  pub gives-broken : (result : Result RunEnd OutFault) → RunPuts result network settings start now
-      → IfErr result (λ fault. IsBrokenOff network settings start.told now.told)
+  pub gives-broken : (result : Result RunEnd OutFault) → RunPuts result project settings start now
+      → IfErr result (λ fault. IsBrokenOff project settings start.told now.told)
   gives-broken (Ok end) puts = tt
-  gives-broken (Err fault) puts = broken-off network settings fault start now sound c-held r-held puts
+  gives-broken (Err fault) puts = broken-off project settings fault start now sound c-held r-held puts
 
-  pub gives-rose : (result : Result RunEnd OutFault) → RunPuts result network settings start now
+  pub gives-rose : (result : Result RunEnd OutFault) → RunPuts result project settings start now
       → IfErr result (λ fault. OneRose fault start.told.counts now.told.counts)
   gives-rose (Ok end) puts = tt
   gives-rose (Err fault) puts = puts.cut.rose
 
-  pub gives-steady : (result : Result RunEnd OutFault) → RunPuts result network settings start now
+  pub gives-steady : (result : Result RunEnd OutFault) → RunPuts result project settings start now
       → OnOk result (now.told.counts ≡ start.told.counts)
   gives-steady (Ok end) puts = puts.put.steady
   gives-steady (Err fault) puts = tt
 
-  pub gives-rest : (result : Result RunEnd OutFault) → RunPuts result network settings start now
+  pub gives-rest : (result : Result RunEnd OutFault) → RunPuts result project settings start now
       → LeavesRest start.told now.told
   gives-rest (Ok end) puts = puts.put.leaves
   gives-rest (Err fault) puts = puts.cut.leaves
 
 -- what the last lines make of a run, as of the one that was begun
-pub ending-puts : (network p : Project) (settings s : Settings) (left : Standing) (outcome : Outcome)
-    (result : Result RunEnd OutFault) (start before now : Moment) → p ≡ network → s ≡ settings
+pub ending-puts : (project p : Project) (settings s : Settings) (left : Standing) (outcome : Outcome)
+    (result : Result RunEnd OutFault) (start before now : Moment) → p ≡ project → s ≡ settings
     → (EndsSo p left s.rounds outcome → (x : Moment) → IsSoFar p (sharpness_of s) left x before
     → RunPuts result p s x now)
-    → EndsSo network left settings.rounds outcome → IsSoFar network (sharpness_of settings) left start before
-    → RunPuts result network settings start now
-ending-puts network p settings s left outcome result start before now e f puts ends so_far =
-    subst (λ (t : Settings). EndsSo network left t.rounds outcome → (x : Moment)
-    → IsSoFar network (sharpness_of t) left x before → RunPuts result network t x now) f
+    → EndsSo project left settings.rounds outcome → IsSoFar project (sharpness_of settings) left start before
+    → RunPuts result project settings start now
+ending-puts project p settings s left outcome result start before now e f puts ends so_far =
+    subst (λ (t : Settings). EndsSo project left t.rounds outcome → (x : Moment)
+    → IsSoFar project (sharpness_of t) left x before → RunPuts result project t x now) f
     (subst (λ (q : Project). EndsSo q left s.rounds outcome → (x : Moment)
     → IsSoFar q (sharpness_of s) left x before → RunPuts result q s x now) e puts) ends start so_far

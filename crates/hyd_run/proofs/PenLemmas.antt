@@ -10,7 +10,7 @@ use Rattle.hyd_io.specs.declared.output.Channel.TheVariants.{Cert, Report}
 use Rattle.hyd_io.specs.DeskBytes.{Files, Moves, PutOut, append_known}
 use Rattle.hyd_io.specs.Output.{by_channel, OnCert, OnReport, HasOutCause, PenState}
 use Rattle.hyd_io.proofs.ToldLemmas.{moves_then, put_out_then, put_out_nothing, moves_all}
-use Rattle.hyd_report.specs.Putting.{Puts}
+use Rattle.hyd_io.specs.Putting.{Puts}
 use Rattle.hyd_run.specs.Pens.{Told, told, Moment, moment, AreOpen, LeavesRest, PutIn, IsCutOff, PutsIn}
 
 -- whatever the channel
@@ -23,7 +23,7 @@ first-moves : (to : Channel) (w p w' p' : Option (List ℕ)) (all held : List �
 first-moves to w p w' p' all held e m = subst (λ (c : Channel). Moves (by_channel c w p) (by_channel c w' p') all
     held) e m
 
-second-moves : (to : Channel) (w p w' p' : Option (List ℕ)) (all held : List ℕ) → to ≡ Report
+pub second-moves : (to : Channel) (w p w' p' : Option (List ℕ)) (all held : List ℕ) → to ≡ Report
     → Moves (by_channel to w p) (by_channel to w' p') all held → Moves p p' all held
 second-moves to w p w' p' all held e m = subst (λ (c : Channel). Moves (by_channel c w p) (by_channel c w' p') all
     held) e m
@@ -32,11 +32,11 @@ first-out : (to : Channel) (w p w' p' : Option (List ℕ)) (all : List ℕ) → 
     → PutOut (by_channel to w p) (by_channel to w' p') all → PutOut w w' all
 first-out to w p w' p' all e m = subst (λ (c : Channel). PutOut (by_channel c w p) (by_channel c w' p') all) e m
 
-second-out : (to : Channel) (w p w' p' : Option (List ℕ)) (all : List ℕ) → to ≡ Report
+pub second-out : (to : Channel) (w p w' p' : Option (List ℕ)) (all : List ℕ) → to ≡ Report
     → PutOut (by_channel to w p) (by_channel to w' p') all → PutOut p p' all
 second-out to w p w' p' all e m = subst (λ (c : Channel). PutOut (by_channel c w p) (by_channel c w' p') all) e m
 
-on-report : (to : Channel) (P : Type 0) → to ≡ Report → OnReport to P → P
+pub on-report : (to : Channel) (P : Type 0) → to ≡ Report → OnReport to P → P
 on-report to P e on = subst (λ (c : Channel). OnReport c P) e on
 
 on-cert : (to : Channel) (P : Type 0) → to ≡ Cert → OnCert to P → P
@@ -115,7 +115,7 @@ module _ {S : Type 0} {files : S → Option Files} {rest written printed target 
     printed = out-from (printed d) (printed e) (printed f) (r.held ++ b)
         (on-cert c.to (printed e ≡ printed d) unbroken.certificate_to first.cert_printed)
         (second-out r.to (written e) (printed e) (written f) (printed f) (r.held ++ b) unbroken.report_to
-        second.prefix);
+        second.front);
     rose = inr (subst (λ (k : Channel). HasOutCause k why (counts d) (counts f)) unbroken.report_to
         (subst (λ (k : Faults). HasOutCause r.to why k (counts f)) first.steady (second.cause
         unbroken.report_fault)));
@@ -130,7 +130,7 @@ module _ {S : Type 0} {files : S → Option Files} {rest written printed target 
       (told files rest written printed target ready counts openings e))
   first-cut a b why c c' r d e unbroken first = record {
     written = first-out c.to (written d) (printed d) (written e) (printed e) (c.held ++ a) unbroken.certificate_to
-        first.prefix;
+        first.front;
     printed = subst (λ (o : Option (List ℕ)). PutOut (printed d) o (r.held ++ b))
         (sym (on-cert c.to (printed e ≡ printed d) unbroken.certificate_to first.cert_printed)) (put_out_nothing
         (printed d) (r.held ++ b));
@@ -185,8 +185,8 @@ flush-moves (Ok done) w w' h h' e f =
     (subst (λ (x : List ℕ). Moves w w' x []) (sym (append-nil h)) (moves_all w w' h e))
 flush-moves (Err why) w w' h h' e f = tt
 
-pub flush-prefix : (result : Result (Unit {0}) OutFault) (w w' : Option (List ℕ)) (h : List ℕ)
+pub flush-front : (result : Result (Unit {0}) OutFault) (w w' : Option (List ℕ)) (h : List ℕ)
     → OnErr result (PutOut w w' h)
     → OnErr result (PutOut w w' (h ++ []))
-flush-prefix (Ok done) w w' h cut = tt
-flush-prefix (Err why) w w' h cut = subst (PutOut w w') (sym (append-nil h)) cut
+flush-front (Ok done) w w' h cut = tt
+flush-front (Err why) w w' h cut = subst (PutOut w w') (sym (append-nil h)) cut

@@ -1,11 +1,9 @@
 -- From a period that was done to what is found, and what its report needs.
-use Rattle.std.proofs.Common.{◌≡◌, ℕ, zero, suc, ◌<◌, ◌≤◌, ◌+◌, ◌^◌, ℤ, pos, ◌-ℤ◌, ◌≤ℤ◌, List, [], ◌∷◌}
-use Rattle.std.proofs.Common.{◌++◌, length, slice_get, Some, refl, sym, ap, ◌∙◌, arith}
+use Rattle.std.proofs.Common.{◌≡◌, ℕ, suc, ◌<◌, ◌≤◌, ◌+◌, ◌^◌, ℤ, pos, List, length, sym, ap, ◌∙◌, arith}
 use Rattle.std.proofs.lemmas.Int.{ints}
 use Rattle.std.proofs.lemmas.List.Elements.{All-from_get_or}
 use Rattle.hyd_spec.specs.ProgramTypes.{Project}
 use Rattle.hyd_spec.specs.Lists.{map_from}
-use Rattle.hyd_spec.specs.Assignment.{head_at}
 use Rattle.hyd_spec.specs.NodeNumbers.{junction_count, tank_count}
 use Rattle.hyd_spec_certificates.specs.declared.Problem.TheVariants.{Main, Pinned}
 use Rattle.hyd_spec_certificates.specs.declared.Side.{Side}
@@ -17,6 +15,7 @@ use Rattle.hyd_spec_certificates.specs.RecordAndStanding.{Record, Standing, Vect
 use Rattle.hyd_spec_certificates.specs.Valid.{AreCertificates, IsValid, LeadsOn, continues, finishes}
 use Rattle.hyd_spec_reports.specs.CertificateText.{IsRow, IsVector as IsRowVector}
 use Rattle.hyd_theorems_on_definitions.specs.TermsOfTheorems.{IsSteady}
+use Rattle.hyd_theorems_on_definitions.proofs.HeadLists.{fixed-in-order, ends-in-order}
 use Rattle.hyd_theorems_on_nesting.proofs.TwoSides.{heads_below_plus}
 use Rattle.hyd_period_network.specs.NetAsPeriodNetwork.{grid_of}
 use Rattle.hyd_period_network.specs.NetView.{NetView}
@@ -31,23 +30,10 @@ use Rattle.hyd_sim.specs.View.{SimView, IsSim, standing_of}
 
 -- ---- bounds
 
-ends-in-order : (k : ℕ) (tanks : List Interval) → ((n : ℕ) (x : Interval) → slice_get tanks n ≡ Some x → x.lo ≤ℤ x.hi)
-    → (m : ℕ) → (head_at (map_from (λ (i : ℕ) (x : Interval). x.lo) k tanks) m -ℤ head_at (map_from (λ (i : ℕ) (x :
-    Interval). x.hi) k tanks) m) ≤ℤ pos 0
-ends-in-order k [] order m = omega (arith, ints)
-ends-in-order k (x ∷ tanks) order zero = let le = order 0 x refl in omega (arith, ints, le)
-ends-in-order k (x ∷ tanks) order (suc m) = ends-in-order (suc k) tanks (λ n y at. order (suc n) y at) m
-
-fixed-in-order : (reservoirs xs ys : List ℤ) → ((m : ℕ) → (head_at xs m -ℤ head_at ys m) ≤ℤ pos 0)
-    → (m : ℕ) → (head_at (reservoirs ++ xs) m -ℤ head_at (reservoirs ++ ys) m) ≤ℤ pos 0
-fixed-in-order [] xs ys within m = within m
-fixed-in-order (r ∷ reservoirs) xs ys within zero = omega (arith, ints)
-fixed-in-order (r ∷ reservoirs) xs ys within (suc m) = fixed-in-order reservoirs xs ys within m
-
 -- certificates are bounds of a net whose tanks' intervals are in order
-pub bounds-of : (network : Project) (net : NetView) (row : Record) → IsNetOf network net → IsSteady (grid_of net)
-    → TanksInOrder (grid_of net) → AreCertificates network (grid_of net) row → AreBounds net row
-bounds-of network net row of steady order certificates =
+pub bounds-of : (project : Project) (net : NetView) (row : Record) → IsNetOf project net → IsSteady (grid_of net)
+    → TanksInOrder (grid_of net) → AreCertificates project (grid_of net) row → AreBounds net row
+bounds-of project net row of steady order certificates =
     let under : IsCertificate (grid_of net) Main Lower row.main.lower = certificates.each Main Lower tt in
     let over : IsCertificate (grid_of net) Main Upper row.main.upper = certificates.each Main Upper tt in
     let count = junctions_count net.junctions net.demands (of.each_demand ∙ long_zipped _ _ _ of.junctions) in
@@ -64,8 +50,8 @@ bounds-of network net row of steady order certificates =
 
 -- ---- tanks
 
-pub tank-facts-of : (network : Project) (facts : Facts) → HaveTanks network facts → AreTankFacts network facts
-tank-facts-of network facts have = record {
+pub tank-facts-of : (project : Project) (facts : Facts) → HaveTanks project facts → AreTankFacts project facts
+tank-facts-of project facts have = record {
   levels = have.levels;
   inflows = have.inflows;
   states = have.tanks;
@@ -74,32 +60,32 @@ tank-facts-of network facts have = record {
 
 -- ---- records that a certificate can hold
 
-pub row-fits : (network : Project) (grid : Grid) (row : Record) → length grid.junctions ≡ junction_count network
-    → AreCertificates network grid row → row.number < 2 ^ 32 → row.time < 2 ^ 32 → row.length < 2 ^ 32
-    → IsRow (junction_count network) (tank_count network) row
-row-fits network grid row count certificates number time seconds = record {
+pub row-fits : (project : Project) (grid : Grid) (row : Record) → length grid.junctions ≡ junction_count project
+    → AreCertificates project grid row → row.number < 2 ^ 32 → row.time < 2 ^ 32 → row.length < 2 ^ 32
+    → IsRow (junction_count project) (tank_count project) row
+row-fits project grid row count certificates number time seconds = record {
   number_fits = number;
   time_fits = time;
   length_fits = seconds;
   main_upper = fits (certificates.each Main Upper tt);
   main_lower = fits (certificates.each Main Lower tt);
   pinned_each = certificates.pinned_each;
-  pinned_upper = All-from_get_or (λ (v : Vectors). IsRowVector (junction_count network) v.upper) row.pinned no_vectors
+  pinned_upper = All-from_get_or (λ (v : Vectors). IsRowVector (junction_count project) v.upper) row.pinned no_vectors
       (λ k inside. fits (certificates.each (Pinned k) Upper (inside-of k inside)));
-  pinned_lower = All-from_get_or (λ (v : Vectors). IsRowVector (junction_count network) v.lower) row.pinned no_vectors
+  pinned_lower = All-from_get_or (λ (v : Vectors). IsRowVector (junction_count project) v.lower) row.pinned no_vectors
       (λ k inside. fits (certificates.each (Pinned k) Lower (inside-of k inside)));
 }
   where
     fits : {problem : _} {side : Side} {u : List ℤ} → IsCertificate grid problem side u
-        → IsRowVector (junction_count network) u
+        → IsRowVector (junction_count project) u
     fits is = record { one_each = is.one_each ∙ count; in_box = is.in_box }
 
-    inside-of : (k : ℕ) → k < length row.pinned → k < tank_count network
+    inside-of : (k : ℕ) → k < length row.pinned → k < tank_count project
     inside-of k inside = let e = certificates.pinned_each in omega (arith, inside, e)
 
-pub grid-count : (network : Project) (net : NetView) → IsNetOf network net
-    → length (grid_of net).junctions ≡ junction_count network
-grid-count network net of =
+pub grid-count : (project : Project) (net : NetView) → IsNetOf project net
+    → length (grid_of net).junctions ≡ junction_count project
+grid-count project net of =
     let same = long_zipped _ _ _ of.junctions in
     junctions_count net.junctions net.demands (of.each_demand ∙ same) ∙ sym same
 
@@ -118,10 +104,10 @@ small-number sim is =
     let most = is.sound.times.duration in
     omega (arith, few, most)
 
-pub number-next : (network : Project) (standing : Standing) (grid : Grid) (row : Record) (next : Standing)
-    → IsValid network standing grid row next → next.number ≡ suc standing.number
-number-next network standing grid row next valid = by valid.leads_on
+pub number-next : (project : Project) (standing : Standing) (grid : Grid) (row : Record) (next : Standing)
+    → IsValid project standing grid row next → next.number ≡ suc standing.number
+number-next project standing grid row next valid = by valid.leads_on
   where
-    by : LeadsOn network grid standing row next → next.number ≡ suc standing.number
+    by : LeadsOn project grid standing row next → next.number ≡ suc standing.number
     by (continues c) = c.number
     by (finishes f) = ap (λ (s : Standing). s.number) f.next_is

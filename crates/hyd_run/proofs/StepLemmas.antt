@@ -1,6 +1,5 @@
 -- What the steps of a run find and put in.
-use Rattle.std.proofs.Common.{◌≡◌, suc, ◌<◌, ◌^◌, true, false, length, Option}
-use Rattle.std.proofs.Common.{Some, refl, sym, ap, subst, ◌∙◌, arith}
+use Rattle.std.proofs.Common.{◌≡◌, suc, ◌<◌, ◌^◌, true, false, length, Option, Some, refl, sym, ap, subst, ◌∙◌, arith}
 use Rattle.std.specs.Prelude.{IfSome}
 use Rattle.std.proofs.lemmas.List.{length-map}
 use Rattle.hyd_spec.specs.ProgramTypes.{Project}
@@ -12,7 +11,8 @@ use Rattle.hyd_cert.specs.RecordView.{row_of}
 use Rattle.hyd_period_network.specs.NetAsPeriodNetwork.{grid_of, states_of}
 use Rattle.hyd_period_network.specs.Periods.{ends_of, IsNetOf}
 use Rattle.hyd_report.specs.PeriodLines.{AreTankFacts, lines_of}
-use Rattle.hyd_report.proofs.ReportLemmas.{length-links_of, lines_are_report}
+use Rattle.hyd_period_network.proofs.Counts.{links_count}
+use Rattle.hyd_report.proofs.ReportLemmas.{lines_are_report}
 use Rattle.hyd_bounds.specs.VectorsInOrder.{TanksInOrder}
 use Rattle.hyd_io.specs.declared.output.OutFault.{OutFault}
 use Rattle.hyd_sim.specs.View.{SimView, IsSim, standing_of}
@@ -50,7 +50,7 @@ module _ (before now : SimView) (is : IsSim now) (period : IsPeriod before now) 
   each-link =
       let ends : length now.net.ends ≡ length now.project.links.list =
       ap length is.net.ends ∙ length-map now.project.links.list ends_of in
-      length-links_of now.net.ends now.net.settings now.net.own (is.net.each_setting ∙ sym ends) (is.net.each_own ∙
+      links_count now.net.ends now.net.settings now.net.own (is.net.each_setting ∙ sym ends) (is.net.each_own ∙
       sym ends) ∙ ends
 
   pub step-of : now.row.number < 2 ^ 32 → now.row.time < 2 ^ 32 → now.row.length < 2 ^ 32
@@ -100,49 +100,49 @@ over-stopped before now cause moment is stopped same = record {
 
 -- ---- steps of one run
 
-pub steps-more : (network : Project) (settings : Settings) (before now : SimView) (start m n : Moment)
-    → now.project ≡ network
+pub steps-more : (project : Project) (settings : Settings) (before now : SimView) (start m n : Moment)
+    → now.project ≡ project
     → now.settings ≡ settings → DidPeriod before now m n
-    → IsSoFar network (sharpness_of settings) (standing_of before) start m
-    → IsSoFar network (sharpness_of settings) (standing_of now) start n
-steps-more network settings before now start m n project same did =
+    → IsSoFar project (sharpness_of settings) (standing_of before) start m
+    → IsSoFar project (sharpness_of settings) (standing_of now) start n
+steps-more project settings before now start m n of_project same did =
     subst (λ (p : Project). IsSoFar p (sharpness_of settings) (standing_of before) start m
-    → IsSoFar p (sharpness_of settings) (standing_of now) start n) project
+    → IsSoFar p (sharpness_of settings) (standing_of now) start n) of_project
     (subst (λ (s : Settings). IsSoFar now.project (sharpness_of s) (standing_of before) start m
     → IsSoFar now.project (sharpness_of s) (standing_of now) start n) same
     (so-far-more now.project (sharpness_of now.settings) (standing_of before) (standing_of now) start m n did.found
     did.step
     did.put))
 
-pub steps-cut : (network : Project) (settings : Settings) (fault : OutFault) (before now : SimView) (start m n :
-    Moment) → now.project ≡ network
+pub steps-cut : (project : Project) (settings : Settings) (fault : OutFault) (before now : SimView) (start m n :
+    Moment) → now.project ≡ project
     → now.settings ≡ settings → LostPeriod fault before now m n
-    → IsSoFar network (sharpness_of settings) (standing_of before) start m
-    → IsCutShort network settings fault start n
-steps-cut network settings fault before now start m n project same lost =
+    → IsSoFar project (sharpness_of settings) (standing_of before) start m
+    → IsCutShort project settings fault start n
+steps-cut project settings fault before now start m n of_project same lost =
     subst (λ (p : Project). IsSoFar p (sharpness_of settings) (standing_of before) start m
-    → IsCutShort p settings fault start n) project
+    → IsCutShort p settings fault start n) of_project
     (subst (λ (s : Settings). IsSoFar now.project (sharpness_of s) (standing_of before) start m
     → IsCutShort now.project s fault start n) same
     (so-far-cut now.project now.settings fault (standing_of before) (standing_of now) start m n lost.found lost.step
     lost.cut))
 
 -- the end of a run
-pub steps-end : (network : Project) (settings : Settings) (outcome : Outcome) (before now : SimView) (m n : Moment)
-    → now.project ≡ network
+pub steps-end : (project : Project) (settings : Settings) (outcome : Outcome) (before now : SimView) (m n : Moment)
+    → now.project ≡ project
     → now.settings ≡ settings → IsOver outcome before now m n
-    → EndsSo network (standing_of now) settings.rounds outcome
-steps-end network settings outcome before now m n project same over =
-    subst (λ (p : Project). EndsSo p (standing_of now) settings.rounds outcome) project
+    → EndsSo project (standing_of now) settings.rounds outcome
+steps-end project settings outcome before now m n of_project same over =
+    subst (λ (p : Project). EndsSo p (standing_of now) settings.rounds outcome) of_project
     (subst (λ (s : Settings). EndsSo now.project (standing_of now) s.rounds outcome) same over.ends_so)
 
-pub steps-over : (network : Project) (settings : Settings) (outcome : Outcome) (before now : SimView) (start m n :
+pub steps-over : (project : Project) (settings : Settings) (outcome : Outcome) (before now : SimView) (start m n :
     Moment)
-    → IsOver outcome before now m n → IsSoFar network (sharpness_of settings) (standing_of before) start m
-    → IsSoFar network (sharpness_of settings) (standing_of now) start n
-steps-over network settings outcome before now start m n over so_far =
-    subst (λ (s : Standing). IsSoFar network (sharpness_of settings) s start n) (sym over.stays)
-    (subst (λ (x : Moment). IsSoFar network (sharpness_of settings) (standing_of before) start x) (sym over.nothing)
+    → IsOver outcome before now m n → IsSoFar project (sharpness_of settings) (standing_of before) start m
+    → IsSoFar project (sharpness_of settings) (standing_of now) start n
+steps-over project settings outcome before now start m n over so_far =
+    subst (λ (s : Standing). IsSoFar project (sharpness_of settings) s start n) (sym over.stays)
+    (subst (λ (x : Moment). IsSoFar project (sharpness_of settings) (standing_of before) start x) (sym over.nothing)
     so_far)
 
 -- ---- a period that was put in

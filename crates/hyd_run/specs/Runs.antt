@@ -38,19 +38,19 @@ abbrev pub fresh : Channel → PenState
 fresh to = record { to = to; fault = None; held = [] }
 
 -- The whole certificate of a run was written and its whole report printed.
-pub record IsPutOut (network : Project) (settings : Settings) (outcome : Outcome) (before now : Told) : Type 0 where
+pub record IsPutOut (project : Project) (settings : Settings) (outcome : Outcome) (before now : Told) : Type 0 where
   pub certificate : List ℕ
   pub report : List ℕ
-  pub writes : RunWrites network settings.rounds (sharpness_of settings) outcome certificate report
+  pub writes : RunWrites project settings.rounds (sharpness_of settings) outcome certificate report
   pub written : now.written ≡ append_known before.written certificate
   pub printed : now.printed ≡ append_known before.printed report
 
 -- A fault broke a run off: what was written and printed are fronts of the certificate and of the report of a run as
 -- far as it went.
-pub record IsBrokenOff (network : Project) (settings : Settings) (before now : Told) : Type 0 where
+pub record IsBrokenOff (project : Project) (settings : Settings) (before now : Told) : Type 0 where
   pub certificate : List ℕ
   pub report : List ℕ
-  pub breaks_off : RunBreaksOff network settings.rounds (sharpness_of settings) certificate report
+  pub breaks_off : RunBreaksOff project settings.rounds (sharpness_of settings) certificate report
   pub written : now.written ≡ append_known before.written certificate
   pub printed : now.printed ≡ append_known before.printed report
 
@@ -62,57 +62,57 @@ first_line = line (codes "HYD" ∷ (decimal 1 ∷ []))
 
 -- The record of what was found is one that a certificate can hold.
 abbrev pub IsRowFound : Project → Found → Type 0
-IsRowFound network found = IsRow (junction_count network) (tank_count network) found.row
+IsRowFound project found = IsRow (junction_count project) (tank_count project) found.row
 
 -- What a step found: the period that was due, as sharp as was asked for.
-pub record IsStep (network : Project) (sharpness : Sharpness) (before next : Standing) (found : Found) : Type 0 where
+pub record IsStep (project : Project) (sharpness : Sharpness) (before next : Standing) (found : Found) : Type 0 where
   pub begins : found.standing ≡ before
   pub leaves : found.next ≡ next
-  pub is_found : IsFound network found
-  pub sharp : IsSharpFound network sharpness found
-  pub fits : IsRowFound network found
+  pub is_found : IsFound project found
+  pub sharp : IsSharpFound project sharpness found
+  pub fits : IsRowFound project found
   pub number : next.number ≡ suc before.number
 
 -- What was found so far is a run that leaves a standing, as sharp as was asked for, with one record for each period
 -- that was done,
 -- and its certificate and its report as far as they go were put in at the pens.
-pub record IsSoFar (network : Project) (sharpness : Sharpness) (left : Standing) (before now : Moment) : Type 0 where
+pub record IsSoFar (project : Project) (sharpness : Sharpness) (left : Standing) (before now : Moment) : Type 0 where
   pub founds : List Found
-  pub is_run : IsRun network founds left
-  pub sharp : AllByRecursion (IsSharpFound network sharpness) founds
-  pub fit : All (IsRow (junction_count network) (tank_count network)) (rows_of founds)
+  pub is_run : IsRun project founds left
+  pub sharp : AllByRecursion (IsSharpFound project sharpness) founds
+  pub fit : All (IsRow (junction_count project) (tank_count project)) (rows_of founds)
   pub each : length founds ≡ left.number
-  pub put : PutIn (certificate_so_far network founds None) (report_so_far network left founds None) before now
+  pub put : PutIn (certificate_so_far project founds None) (report_so_far project left founds None) before now
 
 -- So it is, and the run's end is known and was put in too.
-pub record IsWhole (network : Project) (settings : Settings) (outcome : Outcome) (before now : Moment) : Type 0 where
+pub record IsWhole (project : Project) (settings : Settings) (outcome : Outcome) (before now : Moment) : Type 0 where
   pub founds : List Found
   pub left : Standing
-  pub is_run : IsRun network founds left
-  pub sharp : AllByRecursion (IsSharpFound network (sharpness_of settings)) founds
-  pub fit : All (IsRow (junction_count network) (tank_count network)) (rows_of founds)
+  pub is_run : IsRun project founds left
+  pub sharp : AllByRecursion (IsSharpFound project (sharpness_of settings)) founds
+  pub fit : All (IsRow (junction_count project) (tank_count project)) (rows_of founds)
   pub few : length founds < 2 ^ 32
-  pub ends_so : EndsSo network left settings.rounds outcome
-  pub put : PutIn (certificate_so_far network founds (Some outcome)) (report_so_far network left founds (Some
+  pub ends_so : EndsSo project left settings.rounds outcome
+  pub put : PutIn (certificate_so_far project founds (Some outcome)) (report_so_far project left founds (Some
       outcome)) before now
 
 -- A fault cut a run off, whose end is known or isn't.
-pub record IsCutShort (network : Project) (settings : Settings) (fault : OutFault) (before now : Moment) : Type 0
+pub record IsCutShort (project : Project) (settings : Settings) (fault : OutFault) (before now : Moment) : Type 0
   where
     pub founds : List Found
     pub left : Standing
-    pub is_run : IsRun network founds left
-    pub sharp : AllByRecursion (IsSharpFound network (sharpness_of settings)) founds
+    pub is_run : IsRun project founds left
+    pub sharp : AllByRecursion (IsSharpFound project (sharpness_of settings)) founds
     pub last : Option Outcome
-    pub ends_so : MatchOption last ⊤ (EndsSo network left settings.rounds)
-    pub cut : IsCutOff fault (certificate_so_far network founds last) (report_so_far network left founds last) before
+    pub ends_so : MatchOption last ⊤ (EndsSo project left settings.rounds)
+    pub cut : IsCutOff fault (certificate_so_far project founds last) (report_so_far project left founds last) before
         now
 
 -- ---- a step
 
 -- How many periods may still be due at a standing: each but the last lasts a second at least.
 abbrev pub periods_left : Project → Standing → ℕ
-periods_left network standing = suc network.times.duration - standing.number
+periods_left project standing = suc project.times.duration - standing.number
 
 -- A period was due and was found, and its record and its report were put in at the pens.
 pub record DidPeriod (sim now : SimView) (before after : Moment) : Type 0 where
@@ -152,5 +152,5 @@ StepsPut (Err fault) sim now before after = (start : Moment)
 
 -- What a run does before the pens are emptied.
 abbrev pub RunPuts : Result RunEnd OutFault → Project → Settings → Moment → Moment → Type 0
-RunPuts (Ok end) network settings before after = IsWhole network settings (outcome_of end) before after
-RunPuts (Err fault) network settings before after = IsCutShort network settings fault before after
+RunPuts (Ok end) project settings before after = IsWhole project settings (outcome_of end) before after
+RunPuts (Err fault) project settings before after = IsCutShort project settings fault before after

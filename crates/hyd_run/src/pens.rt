@@ -3,56 +3,14 @@
 
 ghost use Rattle.std.specs.Prelude.{◌≡◌, [], IsTrue, OnOk};
 ghost use Rattle.hyd_io.specs.Output.{OnCert};
-ghost use Rattle.hyd_spec_reports.specs.CertificateText.{record_text, end_line};
 ghost use Rattle.hyd_cert.specs.Lines.{header_text};
-ghost use Rattle.hyd_cert.specs.RecordView.{header_of, row_of};
-ghost use Rattle.hyd_report.specs.Putting.{Puts};
+ghost use Rattle.hyd_cert.specs.RecordView.{header_of};
+ghost use Rattle.hyd_io.specs.Putting.{Puts};
 ghost use Rattle.hyd_run.specs.Pens.{told, moment, AreOpen, PutsIn};
 ghost use Rattle.hyd_run.specs.Runs.{first_line};
 
-use hyd_cert::{Record, put_end, put_head, put_record};
+use hyd_cert::{Record, put_head};
 use hyd_io::{Desk, OutFault, Pen};
-
-// Puts the header of a certificate.
-fn put_header<D: Desk>(row: &Record, pen: &mut Pen, desk: &mut D) -> Result<(), OutFault>
-    requires { OnCert pen.old.to (IsTrue (D.ready desk.old)) }
-    ensures { Puts D.files D.rest D.written D.printed D.target D.ready D.counts D.openings
-        (header_text (header_of row.now)) result pen.old pen.new desk.old desk.new }
-{
-    put_head(row, pen, desk)
-}
-
-// Puts a record.
-pub(crate) fn put_row<D: Desk>(row: &Record, pen: &mut Pen, desk: &mut D) -> Result<(), OutFault>
-    requires { OnCert pen.old.to (IsTrue (D.ready desk.old)) }
-    ensures { Puts D.files D.rest D.written D.printed D.target D.ready D.counts D.openings
-        (record_text (row_of row.now)) result pen.old pen.new desk.old desk.new }
-{
-    put_record(row, pen, desk)
-}
-
-// Puts the END line.
-pub(crate) fn put_end_line<D: Desk>(
-    periods: u32,
-    finished: bool,
-    pen: &mut Pen,
-    desk: &mut D,
-) -> Result<(), OutFault>
-    requires { OnCert pen.old.to (IsTrue (D.ready desk.old)) }
-    ensures { Puts D.files D.rest D.written D.printed D.target D.ready D.counts D.openings
-        (end_line periods finished) result pen.old pen.new desk.old desk.new }
-{
-    put_end(periods, finished, pen, desk)
-}
-
-// Puts a text.
-fn put_text<D: Desk>(text: &[u8], pen: &mut Pen, desk: &mut D) -> Result<(), OutFault>
-    requires { OnCert pen.old.to (IsTrue (D.ready desk.old)) }
-    ensures { Puts D.files D.rest D.written D.printed D.target D.ready D.counts D.openings
-        text.now result pen.old pen.new desk.old desk.new }
-{
-    pen.put(desk, text)
-}
 
 // Puts the first line of a report.
 fn put_first<D: Desk>(pen: &mut Pen, desk: &mut D) -> Result<(), OutFault>
@@ -60,7 +18,7 @@ fn put_first<D: Desk>(pen: &mut Pen, desk: &mut D) -> Result<(), OutFault>
     ensures { Puts D.files D.rest D.written D.printed D.target D.ready D.counts D.openings
         first_line result pen.old pen.new desk.old desk.new }
 {
-    put_text(b"HYD 1\n", pen, desk)
+    pen.put(desk, b"HYD 1\n")
 }
 
 // Puts out all that a pen holds.
@@ -88,7 +46,7 @@ pub(crate) fn put_front<D: Desk>(
         (moment certificate.new report.new
         (told D.files D.rest D.written D.printed D.target D.ready D.counts D.openings desk.new)) }
 {
-    match put_header(row, certificate, desk) {
+    match put_head(row, certificate, desk) {
         Ok(()) => {}
         Err(fault) => return Err(fault),
     }

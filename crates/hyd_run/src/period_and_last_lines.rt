@@ -18,13 +18,12 @@ ghost use Rattle.hyd_period_network.specs.Periods.{IsNetOf};
 ghost use Rattle.hyd_period_network.specs.LawsInSettings.{AreStates};
 ghost use Rattle.hyd_report.specs.NodeAndLinkLines.{texts};
 ghost use Rattle.hyd_report.specs.PeriodLines.{AreTankFacts, lines_of};
-ghost use Rattle.hyd_report.specs.Putting.{Puts};
+ghost use Rattle.hyd_io.specs.Putting.{Puts};
 ghost use Rattle.hyd_run.specs.Pens.{told, moment, AreOpen, PutsIn};
 ghost use Rattle.hyd_run.specs.Runs.{outcome_of};
 
 use crate::outcome::RunEnd;
-use crate::pens::{put_end_line, put_row};
-use hyd_cert::Record;
+use hyd_cert::{Record, put_end, put_record};
 use hyd_io::{Desk, OutFault, Pen};
 use hyd_net::Project;
 use hyd_period_facts::Facts;
@@ -79,7 +78,7 @@ pub(crate) fn put_period<D: Desk>(
 {
     // Certificates are ordered where the net is steady.
     let _junctions = net.junctions();
-    match put_row(row, certificate, desk) {
+    match put_record(row, certificate, desk) {
         Ok(()) => {}
         Err(fault) => return Err(fault),
     }
@@ -138,7 +137,7 @@ pub(crate) fn put_last<D: Desk>(
         (moment certificate.new report.new
         (told D.files D.rest D.written D.printed D.target D.ready D.counts D.openings desk.new)) }
 {
-    match put_end_line(records, is_finished(end), certificate, desk) {
+    match put_end(records, is_finished(end), certificate, desk) {
         Ok(()) => {}
         Err(fault) => return Err(fault),
     }

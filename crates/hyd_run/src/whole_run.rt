@@ -94,10 +94,10 @@ fn finish<D: Desk>(
 ) -> Result<RunEnd, OutFault>
     requires { AreOpen (moment certificate.old report.old
         (told D.files D.rest D.written D.printed D.target D.ready D.counts D.openings desk.old)) }
-    ensures puts { (network : Project) (settings : Settings) (start : Moment)
-        → IsWhole network settings (outcome_of end) start (moment certificate.old report.old
+    ensures puts { (project : Project) (settings : Settings) (start : Moment)
+        → IsWhole project settings (outcome_of end) start (moment certificate.old report.old
         (told D.files D.rest D.written D.printed D.target D.ready D.counts D.openings desk.old))
-        → RunPuts result network settings start (moment certificate.new report.new
+        → RunPuts result project settings start (moment certificate.new report.new
         (told D.files D.rest D.written D.printed D.target D.ready D.counts D.openings desk.new)) }
     ensures certificate { OnOk result (certificate.new ≡ fresh Cert) }
     ensures report { OnOk result (report.new ≡ fresh Report) }

@@ -6,6 +6,7 @@ use Rattle.std.proofs.lemmas.Bool.{cases_lt}
 use Rattle.hyd_spec.specs.ProgramTypes.{Project, Tank, LinkState}
 use Rattle.hyd_spec.specs.Lists.{map_from}
 use Rattle.hyd_spec.specs.declared.Change.{Change}
+use Rattle.hyd_spec_certificates.specs.Spans.{levels_of, flows_of}
 use Rattle.hyd_spec_certificates.specs.declared.Problem.{Problem}
 use Rattle.hyd_spec_certificates.specs.declared.Problem.TheVariants.{Main, Pinned}
 use Rattle.hyd_spec_certificates.specs.declared.Side.{Side}
@@ -21,8 +22,7 @@ use Rattle.hyd_spec_certificates.specs.Certificate.{IsCertificate}
 use Rattle.hyd_net.specs.ListView.{ListView}
 use Rattle.hyd_cert.specs.RecordView.{row_of, IsProblemOf}
 use Rattle.hyd_cert.specs.declared.record.Record.{Record as Row}
-use Rattle.hyd_tank.specs.StockIntervals.{IsInflow}
-use Rattle.hyd_period_facts.specs.FactsOfPeriod.{levels_of, volumes_of, flows_of}
+use Rattle.hyd_tank.specs.StockIntervals.{IsInflow, volumes_of}
 use Rattle.hyd_period_facts.specs.declared.facts.Facts.{Facts}
 use Rattle.hyd_period_network.specs.NetAsPeriodNetwork.{grid_of}
 use Rattle.hyd_period_network.specs.NetView.{NetView}
@@ -43,19 +43,19 @@ no-more (x ∷ xs) = ap (λ (ys : List Change). x ∷ ys) (no-more xs)
 
 -- ---- the end of the run
 
-module _ (network : Project) (here : Here) (grid : Grid) (row : Row) (before now : Facts) (close : PeriodEnd)
-    (last : here.time ≡ network.times.duration) (begun : AreBegun network (standing_for here) before)
-    (ready : AreReady network before) (no_length : row.length ≡ 0)
+module _ (project : Project) (here : Here) (grid : Grid) (row : Row) (before now : Facts) (close : PeriodEnd)
+    (last : here.time ≡ project.times.duration) (begun : AreBegun project (standing_for here) before)
+    (ready : AreReady project before) (no_length : row.length ≡ 0)
     (keeps : now ≡ record before { length = 0; inflows = now.inflows; events = now.events })
     (inflows : map flows_of now.inflows.list
-    ≡ map_from (λ k (tank : Tank). inflow_of_tank network grid (row_of row) k) 0 network.tanks.list)
+    ≡ map_from (λ k (tank : Tank). inflow_of_tank project grid (row_of row) k) 0 project.tanks.list)
     (small : All IsInflow now.inflows.list) (no_events : now.events.list ≡ []) where
-  pub last-over : IsOver network here grid row now close
+  pub last-over : IsOver project here grid row now close
   last-over = record {
     leads_on = finishes (record {
       is_last = last;
       no_length = no_length;
-      next_is = at-last network here row.length close last;
+      next_is = at-last project here row.length close last;
     });
     facts_are = record {
       time = ap (λ (f : Facts). f.time) keeps ∙ begun.time;
@@ -67,19 +67,19 @@ module _ (network : Project) (here : Here) (grid : Grid) (row : Row) (before now
       links = ap (λ (f : Facts). f.links.list) keeps ∙ begun.links;
       by_rules = [];
       changes = ap (λ (f : Facts). f.changes.list) keeps ∙ begun.changes
-          ∙ sym (no-more (changes_at network (standing_for here)));
-      brings = subst (λ (es : List Event). EndBrings network grid (standing_for here) (row_of row) es [])
+          ∙ sym (no-more (changes_at project (standing_for here)));
+      brings = subst (λ (es : List Event). EndBrings project grid (standing_for here) (row_of row) es [])
           (sym no_events) (at_end last);
     };
-    have = subst (HaveTanks network) (sym keeps) have-now;
+    have = subst (HaveTanks project) (sym keeps) have-now;
     held = λ other. absurd (other last);
     later = λ other. absurd (other last);
   }
     where
-      have-inflows : HaveTanks network (record before { inflows = now.inflows })
-      have-inflows = have-tanks network grid (row_of row) before now.inflows ready inflows small
+      have-inflows : HaveTanks project (record before { inflows = now.inflows })
+      have-inflows = have-tanks project grid (row_of row) before now.inflows ready inflows small
 
-      have-now : HaveTanks network (record before { length = 0; inflows = now.inflows; events = now.events })
+      have-now : HaveTanks project (record before { length = 0; inflows = now.inflows; events = now.events })
       have-now = record {
         levels = have-inflows.levels;
         volumes = have-inflows.volumes;
@@ -91,20 +91,20 @@ module _ (network : Project) (here : Here) (grid : Grid) (row : Row) (before now
 
 -- ---- any other end
 
-pub closed-over : (network : Project) (here : Here) (grid : Grid) (row : Row) (facts : Facts) (close : PeriodEnd)
-    → here.time ≢ network.times.duration → IsClosed network grid (standing_for here) (row_of row) facts close
-    → AreKeptIn network close.next → HaveTanks network facts → 0 < row.length
-    → IsOver network here grid row facts close
-closed-over network here grid row facts close other closed held have some = record {
-  leads_on = subst (LeadsOn network grid (standing_for here) (row_of row))
-      (sym (at-later network here row.length close other)) (continues (record {
+pub closed-over : (project : Project) (here : Here) (grid : Grid) (row : Row) (facts : Facts) (close : PeriodEnd)
+    → here.time ≢ project.times.duration → IsClosed project grid (standing_for here) (row_of row) facts close
+    → AreKeptIn project close.next → HaveTanks project facts → 0 < row.length
+    → IsOver project here grid row facts close
+closed-over project here grid row facts close other closed held have some = record {
+  leads_on = subst (LeadsOn project grid (standing_for here) (row_of row))
+      (sym (at-later project here row.length close other)) (continues (record {
         not_last = other;
         leaves_links = closed.leaves;
         levels = closed.levels;
         volumes = closed.volumes;
-        tanks = subst (λ (ls : List Interval). AreStates network ls close.next.tanks.list) (sym closed.levels)
+        tanks = subst (λ (ls : List Interval). AreStates project ls close.next.tanks.list) (sym closed.levels)
             closed.tanks;
-        controls = subst (ControlsAreDecided network) (sym closed.levels) closed.controls;
+        controls = subst (ControlsAreDecided project) (sym closed.levels) closed.controls;
         number = refl;
         time = refl;
         unfinished = refl;
@@ -116,9 +116,9 @@ closed-over network here grid row facts close other closed held have some = reco
 }
 
 -- a period that doesn't begin at the end of the run begins before it
-pub begins-before : (network : Project) (here : Here) → IsStanding network here → here.time ≢ network.times.duration
-    → here.time < network.times.duration
-begins-before network here is other = elim (cases_lt here.time network.times.duration) [
+pub begins-before : (project : Project) (here : Here) → IsStanding project here → here.time ≢ project.times.duration
+    → here.time < project.times.duration
+begins-before project here is other = elim (cases_lt here.time project.times.duration) [
   | inl less ↦ less
   | inr more ↦ (let within = is.tidy.in_time in absurd (other (omega (arith, within, more))))
 ]
@@ -127,12 +127,12 @@ begins-before network here is other = elim (cases_lt here.time network.times.dur
 
 module _ (row now : Row) (same : now ≡ record row { length = now.length }) where
   -- a record with another length has the same certificates
-  pub certificates-again : (network : Project) (grid : Grid) → AreCertificates network grid (row_of row)
-      → AreCertificates network grid (row_of now)
-  certificates-again network grid are = subst (λ (r : Row). AreCertificates network grid (row_of r)) (sym same)
+  pub certificates-again : (project : Project) (grid : Grid) → AreCertificates project grid (row_of row)
+      → AreCertificates project grid (row_of now)
+  certificates-again project grid are = subst (λ (r : Row). AreCertificates project grid (row_of r)) (sym same)
       (record { pinned_each = are.pinned_each; each = λ problem side is. by problem side is })
     where
-      by : (problem : Problem) (side : Side) → IsProblem network problem
+      by : (problem : Problem) (side : Side) → IsProblem project problem
           → IsCertificate grid problem side (vector_of (row_of (record row { length = now.length })) problem side)
       by Main side is = are.each Main side is
       by (Pinned tank) side is = are.each (Pinned tank) side is
@@ -155,12 +155,12 @@ module _ (row now : Row) (same : now ≡ record row { length = now.length }) whe
   }
 
 -- a period that was started and is over by certificates
-pub made-of : (network : Project) (here : Here) (net : NetView) (started row : Row) (begun facts : Facts)
+pub made-of : (project : Project) (here : Here) (net : NetView) (started row : Row) (begun facts : Facts)
     (close : PeriodEnd)
-    → IsStarted network here net started begun → here.finished ≡ false → row.number ≡ started.number
-    → row.time ≡ started.time → facts.links ≡ begun.links → AreCertificates network (grid_of net) (row_of row)
-    → IsOver network here (grid_of net) row facts close → IsMade network here net row facts close
-made-of network here net started row begun facts close is unfinished number time links certificates over = record {
+    → IsStarted project here net started begun → here.finished ≡ false → row.number ≡ started.number
+    → row.time ≡ started.time → facts.links ≡ begun.links → AreCertificates project (grid_of net) (row_of row)
+    → IsOver project here (grid_of net) row facts close → IsMade project here net row facts close
+made-of project here net started row begun facts close is unfinished number time links certificates over = record {
   valid = record {
     unfinished = unfinished;
     number = number ∙ is.number;

@@ -1,5 +1,5 @@
 -- What is lacking.
-use Rattle.std.proofs.Common.{◌≡◌, ℕ, ℤ, Bool, true, false, List, length, inl, inr}
+use Rattle.std.proofs.Common.{◌≡◌, ℕ, ℤ, Bool, false, List, length, inl, inr}
 use Rattle.std.specs.Prelude.{◌⊎◌, Result, Ok, Err, OnOk, IfErr, Option}
 use Rattle.hyd_spec_certificates.specs.declared.Problem.{Problem}
 use Rattle.hyd_spec_certificates.specs.declared.Problem.TheVariants.{Main}
@@ -10,21 +10,15 @@ use Rattle.hyd_spec_certificates.specs.Certificate.{IsCertificate}
 use Rattle.hyd_spec_certificates.specs.RecordAndStanding.{Record, vector_of}
 use Rattle.hyd_theorems_on_definitions.specs.TermsOfTheorems.{IsSteady}
 use Rattle.hyd_theorems_on_definitions.proofs.OneStanding.{one_vector}
-use Rattle.hyd_period_vectors.specs.Vectors.{IsAtHand, IsFound, IsReached, IsSought, IsTold}
-use Rattle.hyd_period_vectors.specs.Vectors.{InOrder, Comes, Tells, Lacks}
-use Rattle.hyd_period_vectors.specs.Vectors.{AreTold, HaveSame, LacksFirst, OfEach}
+use Rattle.hyd_period_vectors.specs.Vectors.{IsAtHand, IsFound, IsReached, IsSought, IsTold, InOrder, Comes, Tells}
+use Rattle.hyd_period_vectors.specs.Vectors.{Lacks, AreTold, HaveSame, LacksFirst, OfEach}
 use Rattle.hyd_period_vectors.specs.declared.missing_vector.Lack.{Lack}
 use Rattle.hyd_period_vectors.specs.declared.missing_vector.Lack.TheVariants.{NoCertificate, RoundsSpent}
 use Rattle.hyd_sim.specs.PeriodAttempt.{AreSought}
 use Rattle.hyd_sim.specs.NarrowRecordsAndStops.{LacksOne}
 use Rattle.hyd_sim.specs.Steps.{IsLeftToRounds, AreToldOrLeft}
+use Rattle.hyd_period_vectors.proofs.Telling.{sought-certificate}
 use Rattle.hyd_sim.proofs.Reached.{tight-reached}
-
--- what is sought is a certificate
-pub sought-certificate : (tight : Bool) (told : Option (List ℤ)) (grid : Grid) (tanks : ℕ) (problem : Problem)
-    (side : Side) (u : List ℤ) → IsSought tight told grid tanks problem side u → IsCertificate grid problem side u
-sought-certificate true told grid tanks problem side u t = t.is_certificate
-sought-certificate false told grid tanks problem side u f = f.certificate
 
 -- the first that lacks a vector
 pub lacks-one : (tight : Bool) (told : Option (List ℤ)) (grid : Grid) (tanks rounds : ℕ) (row : Record) (lack : Lack)
@@ -46,11 +40,6 @@ pub if-err : {A E : Type 0} (P Q : E → Type 0) (result : Result A E) → ((fau
     → IfErr result P → IfErr result Q
 if-err P Q (Ok value) f p = p
 if-err P Q (Err fault) f p = f fault p
-
--- what holds of an answer that is there
-pub on-ok : {A E : Type 0} (P Q : Type 0) (result : Result A E) → (P → Q) → OnOk result P → OnOk result Q
-on-ok P Q (Ok value) f p = f p
-on-ok P Q (Err fault) f p = p
 
 -- the vector that is found is the one that the finder tells, or that is left to rounds
 module _ (told : Option (List ℤ)) (grid : Grid) (tanks rounds : ℕ) where

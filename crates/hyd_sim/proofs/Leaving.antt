@@ -9,25 +9,25 @@ use Rattle.hyd_spec_certificates.specs.Valid.{LeavesLinks, levels_next}
 use Rattle.hyd_spec_reports.specs.declared.StopCause.TheVariants.{RuleOpen, EventOpen, TankOpen, ControlOpen}
 use Rattle.hyd_spec_reports.specs.Stops.{Stops, IsTightRow, EndsAtLevels, open_states, is_open_control}
 
-module _ (network : Project) (standing : Standing) (rounds : ℕ) (grid : Grid) (row : Record)
-    (tight : IsTightRow network standing grid row) where
+module _ (project : Project) (standing : Standing) (rounds : ℕ) (grid : Grid) (row : Record)
+    (tight : IsTightRow project standing grid row) where
   pub rule-stops : (rule clause : ℕ) (lo hi : ℤ)
-      → EndsBy network grid standing row (RuleIsOpen (record { rule = rule; clause = clause; lo = lo; hi = hi }))
-      → Stops network standing rounds (RuleOpen standing.number rule clause lo hi)
+      → EndsBy project grid standing row (RuleIsOpen (record { rule = rule; clause = clause; lo = lo; hi = hi }))
+      → Stops project standing rounds (RuleOpen standing.number rule clause lo hi)
   rule-stops rule clause lo hi is = record {
     period_is = refl;
     holds = record { grid = grid; row = row; tight = tight; is_open = is };
   }
 
-  pub event-stops : (earliest latest : ℕ) → EndsBy network grid standing row (EventIsOpen earliest latest)
-      → Stops network standing rounds (EventOpen standing.number earliest latest)
+  pub event-stops : (earliest latest : ℕ) → EndsBy project grid standing row (EventIsOpen earliest latest)
+      → Stops project standing rounds (EventOpen standing.number earliest latest)
   event-stops earliest latest is = record {
     period_is = refl;
     holds = record { grid = grid; row = row; tight = tight; is_open = is };
   }
 
-  module _ (seconds : ℕ) (links : List LinkState) (leaves : LeavesLinks network grid standing row seconds links) where
-    at-levels : EndsAtLevels network standing (levels_next network grid standing row seconds)
+  module _ (seconds : ℕ) (links : List LinkState) (leaves : LeavesLinks project grid standing row seconds links) where
+    at-levels : EndsAtLevels project standing (levels_next project grid standing row seconds)
     at-levels = record {
       grid = grid;
       row = row;
@@ -39,14 +39,14 @@ module _ (network : Project) (standing : Standing) (rounds : ℕ) (grid : Grid) 
     }
 
     pub tank-stops : (tank : ℕ) (lo hi : ℤ)
-        → position (λ is_open. is_open) (open_states network (levels_next network grid standing row seconds))
+        → position (λ is_open. is_open) (open_states project (levels_next project grid standing row seconds))
         ≡ Some tank
-        → slice_get (levels_next network grid standing row seconds) tank ≡ Some (record { lo = lo; hi = hi })
-        → Stops network standing rounds (TankOpen standing.number tank lo hi)
+        → slice_get (levels_next project grid standing row seconds) tank ≡ Some (record { lo = lo; hi = hi })
+        → Stops project standing rounds (TankOpen standing.number tank lo hi)
     tank-stops tank lo hi first level = record {
       period_is = refl;
       holds = record {
-        levels = levels_next network grid standing row seconds;
+        levels = levels_next project grid standing row seconds;
         at_levels = at-levels;
         first = first;
         level_is = level;
@@ -54,15 +54,15 @@ module _ (network : Project) (standing : Standing) (rounds : ℕ) (grid : Grid) 
     }
 
     pub control-stops : (number tank : ℕ) (above : Bool) (ticks : ℤ) (control : Control) (lo hi : ℤ)
-        → position (λ is_open. is_open) (open_states network (levels_next network grid standing row seconds)) ≡ None
-        → position (is_open_control (levels_next network grid standing row seconds)) network.controls.list ≡ Some number
-        → slice_get network.controls.list number ≡ Some control → control.when ≡ AtLevel tank above ticks
-        → slice_get (levels_next network grid standing row seconds) tank ≡ Some (record { lo = lo; hi = hi })
-        → Stops network standing rounds (ControlOpen standing.number number lo hi)
+        → position (λ is_open. is_open) (open_states project (levels_next project grid standing row seconds)) ≡ None
+        → position (is_open_control (levels_next project grid standing row seconds)) project.controls.list ≡ Some number
+        → slice_get project.controls.list number ≡ Some control → control.when ≡ AtLevel tank above ticks
+        → slice_get (levels_next project grid standing row seconds) tank ≡ Some (record { lo = lo; hi = hi })
+        → Stops project standing rounds (ControlOpen standing.number number lo hi)
     control-stops number tank above ticks control lo hi decided first is is_level level = record {
       period_is = refl;
       holds = record {
-        levels = levels_next network grid standing row seconds;
+        levels = levels_next project grid standing row seconds;
         at_levels = at-levels;
         tanks_decided = decided;
         first = first;

@@ -25,9 +25,9 @@ use Rattle.hyd_sim.proofs.Running.{at-later}
 use Rattle.hyd_sim.proofs.Starting.{zip-length}
 
 -- no more periods were done than seconds are over, so their number is small
-pub small-number : (network : Project) (here : Here) → Sound network → IsStanding network here → here.finished ≡ false
+pub small-number : (project : Project) (here : Here) → Sound project → IsStanding project here → here.finished ≡ false
     → here.number ≤ 10 ^ 8
-small-number network here sound is unfinished =
+small-number project here sound is unfinished =
     let few = is.unfinished unfinished in
     let within = is.tidy.in_time in
     let short = sound.times.duration in
@@ -35,9 +35,9 @@ small-number network here sound is unfinished =
 
 -- ---- behind the period at the end of the run
 
-pub finished-standing : (network : Project) (here : Here) → IsStanding network here → here.finished ≡ false
-    → IsStanding network (record here { number = here.number + 1; finished = true })
-finished-standing network here is unfinished = record {
+pub finished-standing : (project : Project) (here : Here) → IsStanding project here → here.finished ≡ false
+    → IsStanding project (record here { number = here.number + 1; finished = true })
+finished-standing project here is unfinished = record {
   kept = record { controls = is.kept.controls; levels = is.kept.levels; states = is.kept.states };
   tidy = record {
     levels_each = is.tidy.levels_each;
@@ -54,36 +54,36 @@ finished-standing network here is unfinished = record {
 
 -- ---- behind any other
 
-module _ (network : Project) (sound : Sound network) (here : Here) (is : IsStanding network here)
+module _ (project : Project) (sound : Sound project) (here : Here) (is : IsStanding project here)
     (unfinished : here.finished ≡ false) (net : NetView) (row : Row) (facts : Facts) (close : PeriodEnd)
-    (made : IsMade network here net row facts close) (other : here.time ≢ network.times.duration) where
+    (made : IsMade project here net row facts close) (other : here.time ≢ project.times.duration) where
   abbrev later : Standing
   later = later_standing here row.length close
 
-  valid-later : IsValid network (standing_for here) (grid_of net) (row_of row) later
-  valid-later = subst (IsValid network (standing_for here) (grid_of net) (row_of row))
-      (at-later network here row.length close other) made.valid
+  valid-later : IsValid project (standing_for here) (grid_of net) (row_of row) later
+  valid-later = subst (IsValid project (standing_for here) (grid_of net) (row_of row))
+      (at-later project here row.length close other) made.valid
 
-  goes-on : LeadsOn network (grid_of net) (standing_for here) (row_of row) later
-      → Continues network (grid_of net) (standing_for here) (row_of row) later
+  goes-on : LeadsOn project (grid_of net) (standing_for here) (row_of row) later
+      → Continues project (grid_of net) (standing_for here) (row_of row) later
   goes-on (continues c) = c
   goes-on (finishes f) = absurd (other f.is_last)
 
-  abbrev onward : Continues network (grid_of net) (standing_for here) (row_of row) later
+  abbrev onward : Continues project (grid_of net) (standing_for here) (row_of row) later
   onward = goes-on valid-later.leads_on
 
-  kept-later : IsKept network later
-  kept-later = kept_next network sound (grid_of net) (standing_for here) (row_of row) later is.kept onward
+  kept-later : IsKept project later
+  kept-later = kept_next project sound (grid_of net) (standing_for here) (row_of row) later is.kept onward
 
-  tidy-later : IsTidy network later
-  tidy-later = tidy_next network sound (standing_for here) (grid_of net) (row_of row) later is.kept is.tidy valid-later
+  tidy-later : IsTidy project later
+  tidy-later = tidy_next project sound (standing_for here) (grid_of net) (row_of row) later is.kept is.tidy valid-later
       onward
 
   -- it ends within the run
-  pub in-time : here.time + row.length ≤ network.times.duration
+  pub in-time : here.time + row.length ≤ project.times.duration
   in-time = tidy-later.in_time
 
-  module _ (now : Here) (room : HasRoom network close) (number : now.number ≡ here.number + 1)
+  module _ (now : Here) (room : HasRoom project close) (number : now.number ≡ here.number + 1)
       (time : now.time ≡ here.time + row.length) (stocks : now.stocks ≡ close.next)
       (commanded : now.commanded ≡ close.commanded) (finished : now.finished ≡ here.finished) where
     pub same-later : standing_for now ≡ later
@@ -92,12 +92,12 @@ module _ (network : Project) (sound : Sound network) (here : Here) (is : IsStand
         let f : now.finished ≡ false = finished ∙ unfinished in
         λ i. standing_at (n i) (time i) (stocks i) ((commanded i).items) (f i)
 
-    pub standing-later : IsStanding network now
+    pub standing-later : IsStanding project now
     standing-later = record {
-      kept = subst (IsKept network) (sym same-later) kept-later;
-      tidy = subst (IsTidy network) (sym same-later) tidy-later;
-      held = subst (AreKeptIn network) (sym stocks) (made.over.held other);
-      room = subst (HasNextRoom network) (sym stocks) room.next;
+      kept = subst (IsKept project) (sym same-later) kept-later;
+      tidy = subst (IsTidy project) (sym same-later) tidy-later;
+      held = subst (AreKeptIn project) (sym stocks) (made.over.held other);
+      room = subst (HasNextRoom project) (sym stocks) room.next;
       few = (let few = is.unfinished unfinished in omega (arith, few, number, time));
       unfinished = λ e. (let few = is.unfinished unfinished in let some = made.over.later other in
           omega (arith, few, number, time, some));
@@ -105,13 +105,13 @@ module _ (network : Project) (sound : Sound network) (here : Here) (is : IsStand
 
 -- ---- what is left of the room
 
-pub room-later : (network : Project) (here : Here) (before now : PeriodEnd) → IsStanding network here
-    → HasRoom network before → now ≡ record before { next = here.stocks; commanded = here.commanded }
-    → HasRoom network now
-room-later network here before now is room same = subst (HasRoom network) (sym same) (record {
+pub room-later : (project : Project) (here : Here) (before now : PeriodEnd) → IsStanding project here
+    → HasRoom project before → now ≡ record before { next = here.stocks; commanded = here.commanded }
+    → HasRoom project now
+room-later project here before now is room same = subst (HasRoom project) (sym same) (record {
   readings = room.readings;
   carried = room.carried;
   values = room.values;
-  commanded = zip-length network network.links.list here.commanded.items is.kept.states;
+  commanded = zip-length project project.links.list here.commanded.items is.kept.states;
   next = is.room;
 })

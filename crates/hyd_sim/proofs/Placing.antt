@@ -1,11 +1,12 @@
 -- What a standing of a run gives the start of its period.
-use Rattle.std.proofs.Common.{◌≡◌, ℕ, zero, suc, ◌+◌, ◌<◌, ◌≤◌, ℤ, ◌+ℤ◌, ◌≤ℤ◌, List, [], ◌∷◌, length, map, refl}
-use Rattle.std.proofs.Common.{sym, ap, subst, ◌∙◌, arith}
+use Rattle.std.proofs.Common.{◌≡◌, ℕ, zero, suc, ◌+◌, ◌<◌, ◌≤◌, ℤ, ◌+ℤ◌, ◌≤ℤ◌, List, [], ◌∷◌, length, map, refl, sym}
+use Rattle.std.proofs.Common.{ap, subst, ◌∙◌, arith}
 use Rattle.std.specs.Prelude.{Some, slice_get, slice_index_or}
 use Rattle.std.proofs.lemmas.Int.{ints}
 use Rattle.std.proofs.lemmas.List.{length-map}
 use Rattle.hyd_spec.specs.ProgramTypes.{Project, Tank}
 use Rattle.hyd_spec.specs.Tank.{level_bounds}
+use Rattle.hyd_spec_certificates.specs.Spans.{levels_of}
 use Rattle.hyd_spec_certificates.specs.Interval.{Interval}
 use Rattle.hyd_spec_certificates.specs.PeriodNetwork.{Grid, tank_intervals}
 use Rattle.hyd_spec_certificates.specs.RecordAndStanding.{Standing}
@@ -15,10 +16,9 @@ use Rattle.hyd_spec_certificates.specs.declared.LevelSpan.{LevelSpan}
 use Rattle.hyd_theorems_on_definitions.specs.TermsOfTheorems.{IsWithin}
 use Rattle.hyd_theorems_on_histories.specs.Agreement.{IsKept}
 use Rattle.hyd_theorems_on_nesting.specs.Nesting.{IsTidy}
-use Rattle.hyd_period_facts.specs.FactsOfPeriod.{levels_of}
 use Rattle.hyd_period_network.specs.Periods.{AreLevels, IsSpanOf}
 use Rattle.hyd_bounds.specs.VectorsInOrder.{TanksInOrder}
-use Rattle.hyd_tank_inflows.proofs.Numbered.{item_there, item_is}
+use Rattle.hyd_lemmas.proofs.ListsAndOptions.{item_is, item_there}
 
 mapped-at : (levels : List LevelSpan) (k : ℕ) (d : LevelSpan) → k < length levels
     → slice_index_or (map levels_of levels) k nowhere ≡ levels_of (slice_index_or levels k d)
@@ -34,14 +34,14 @@ span-of tank span x is within ordered =
     record { from_minimum = bounds.lo_above; ordered = order; to_maximum = bounds.hi_below }
 
 -- the levels of a standing that is kept and tidy
-pub levels-there : (network : Project) (standing : Standing) (levels : List LevelSpan)
-    → map levels_of levels ≡ standing.levels → IsKept network standing → IsTidy network standing
-    → AreLevels network levels
-levels-there network standing levels are kept tidy = record {
+pub levels-there : (project : Project) (standing : Standing) (levels : List LevelSpan)
+    → map levels_of levels ≡ standing.levels → IsKept project standing → IsTidy project standing
+    → AreLevels project levels
+levels-there project standing levels are kept tidy = record {
   each = long;
   spans = λ k tank span less.
-      let there = item_there network.tanks.list k (omega (arith, less, long)) in
-      let own = item_is network.tanks.list k there.0 tank there.1 in
+      let there = item_there project.tanks.list k (omega (arith, less, long)) in
+      let own = item_is project.tanks.list k there.0 tank there.1 in
       let at : level_of_tank standing k ≡ levels_of (slice_index_or levels k span) =
       ap (λ (xs : List Interval). slice_index_or xs k nowhere) (sym are) ∙ mapped-at levels k span less in
       subst (λ (t : Tank). IsSpanOf t (slice_index_or levels k span)) (sym own)
@@ -49,7 +49,7 @@ levels-there network standing levels are kept tidy = record {
       (tidy.ordered k).level);
 }
   where
-    long : length levels ≡ length network.tanks.list
+    long : length levels ≡ length project.tanks.list
     long = sym (length-map levels levels_of) ∙ ap length are ∙ tidy.levels_each
 
 intervals-ordered : (tanks : List Tank) (levels : List Interval)
@@ -66,9 +66,9 @@ intervals-ordered (tank ∷ tanks) (level ∷ levels) ordered (suc k) x at =
     intervals-ordered tanks levels (λ n. ordered (suc n)) k x at
 
 -- the tanks of a grid of a tidy standing are in order
-pub order-there : (network : Project) (standing : Standing) (grid : Grid) → IsTidy network standing
-    → IsGridAt network standing grid → TanksInOrder grid
-order-there network standing grid tidy is =
+pub order-there : (project : Project) (standing : Standing) (grid : Grid) → IsTidy project standing
+    → IsGridAt project standing grid → TanksInOrder grid
+order-there project standing grid tidy is =
     subst (λ (xs : List Interval). (k : ℕ) (x : Interval) → slice_get xs k ≡ Some x → x.lo ≤ℤ x.hi)
     (sym is.tank_heads)
-    (intervals-ordered network.tanks.list standing.levels (λ k. (tidy.ordered k).level))
+    (intervals-ordered project.tanks.list standing.levels (λ k. (tidy.ordered k).level))

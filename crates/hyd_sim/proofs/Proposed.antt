@@ -54,42 +54,42 @@ same-record row w share number time long =
 
 -- ---- what a valid record leaves no doubt about
 
-module _ (network : Project) (standing : Standing) (grid : Grid) (w : Record) (next : Standing)
-    (valid : IsValid network standing grid w next) where
+module _ (project : Project) (standing : Standing) (grid : Grid) (w : Record) (next : Standing)
+    (valid : IsValid project standing grid w next) where
   -- a valid record leaves no matter open
-  pub none-open-at : (found : Open) → IsOpenAt network grid standing w found → ⊥
+  pub none-open-at : (found : Open) → IsOpenAt project grid standing w found → ⊥
   none-open-at found is = by valid.leads_on found is
     where
-      at-end : (P : List Interval → Type 0) → Continues network grid standing w next
-          → EndsWith network grid standing w P → P next.levels
+      at-end : (P : List Interval → Type 0) → Continues project grid standing w next
+          → EndsWith project grid standing w P → P next.levels
       at-end P c ends =
-          let same = same-seconds network grid standing w w.length ends.seconds next.commanded ends.links
+          let same = same-seconds project grid standing w w.length ends.seconds next.commanded ends.links
           c.leaves_links ends.leaves in
           subst P (sym c.levels)
-          (subst (λ (s : ℕ). P (levels_next network grid standing w s)) (sym same) ends.at_levels)
+          (subst (λ (s : ℕ). P (levels_next project grid standing w s)) (sym same) ends.at_levels)
 
-      by : LeadsOn network grid standing w next → (matter : Open) → IsOpenAt network grid standing w matter → ⊥
+      by : LeadsOn project grid standing w next → (matter : Open) → IsOpenAt project grid standing w matter → ⊥
       by (continues c) (Rule found) o =
-          not-open-by-rule network grid standing w w.length next.commanded (open_rule found) c.leaves_links o
+          not-open-by-rule project grid standing w w.length next.commanded (open_rule found) c.leaves_links o
       by (continues c) (Event earliest latest) o =
-          not-open-by-event network grid standing w w.length earliest latest next.commanded c.leaves_links o
+          not-open-by-event project grid standing w w.length earliest latest next.commanded c.leaves_links o
       by (continues c) (Tank found) o =
-          no-open-tank network next.levels next.tanks c.tanks found.tank
-          (at-end (λ levels. IsFirstOpen network levels found) c o).first
+          no-open-tank project next.levels next.tanks c.tanks found.tank
+          (at-end (λ levels. IsFirstOpen project levels found) c o).first
       by (continues c) (Control found) o =
-          let first = at-end (λ levels. IsFirstControl network levels found) c o in
-          no-open-control network next.levels c.controls found.control first.tank first.above first.ticks
+          let first = at-end (λ levels. IsFirstControl project levels found) c o in
+          no-open-control project next.levels c.controls found.control first.tank first.above first.ticks
           first.control first.first first.is_control first.is_level
-      by (finishes f) (Rule found) o = not-last network grid standing w _ o f.is_last
-      by (finishes f) (Event earliest latest) o = not-last network grid standing w _ o f.is_last
+      by (finishes f) (Rule found) o = not-last project grid standing w _ o f.is_last
+      by (finishes f) (Event earliest latest) o = not-last project grid standing w _ o f.is_last
       by (finishes f) (Tank found) o =
-          not-last-left network grid standing w o.seconds o.links o.leaves f.is_last
+          not-last-left project grid standing w o.seconds o.links o.leaves f.is_last
       by (finishes f) (Control found) o =
-          not-last-left network grid standing w o.seconds o.links o.leaves f.is_last
+          not-last-left project grid standing w o.seconds o.links o.leaves f.is_last
 
   -- and another record with its vectors, number and time that leads on is the same, and leads on to the same standing
   module _ (row : Record) (other : Standing) (share : SharesVectors w row) (number : w.number ≡ row.number)
-      (time : w.time ≡ row.time) (leads : LeadsOn network grid standing row other) where
+      (time : w.time ≡ row.time) (leads : LeadsOn project grid standing row other) where
     again-is : (record w { length = row.length }) ≡ row
     again-is = same-record row (record w { length = row.length }) (record {
       main = share.main;
@@ -98,9 +98,9 @@ module _ (network : Project) (standing : Standing) (grid : Grid) (w : Record) (n
 
     pub same-row : w ≡ row
     same-row = same-record row w share number time
-        (one_length network grid standing w row.length next other valid.leads_on
-        (subst (λ (r : Record). LeadsOn network grid standing r other) (sym again-is) leads))
+        (one_length project grid standing w row.length next other valid.leads_on
+        (subst (λ (r : Record). LeadsOn project grid standing r other) (sym again-is) leads))
 
     pub same-next : next ≡ other
-    same-next = one_standing network grid standing w next other valid.leads_on
-        (subst (λ (r : Record). LeadsOn network grid standing r other) (sym same-row) leads)
+    same-next = one_standing project grid standing w next other valid.leads_on
+        (subst (λ (r : Record). LeadsOn project grid standing r other) (sym same-row) leads)

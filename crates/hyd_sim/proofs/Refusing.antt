@@ -54,14 +54,14 @@ shares-taken row given now junctions tanks vectors own_junctions own_tanks =
     }
 
 -- records that share their vectors have the same certificates
-pub certificates-shared : (network : Project) (grid : Grid) (row other : Record) → SharesVectors row other
-    → AreCertificates network grid row → AreCertificates network grid other
-certificates-shared network grid row other share are = record {
+pub certificates-shared : (project : Project) (grid : Grid) (row other : Record) → SharesVectors row other
+    → AreCertificates project grid row → AreCertificates project grid other
+certificates-shared project grid row other share are = record {
   pinned_each = ap length (sym share.pinned) ∙ are.pinned_each;
   each = λ problem side is. by problem side is;
 }
   where
-    by : (problem : Problem) (side : Side) → IsProblem network problem
+    by : (problem : Problem) (side : Side) → IsProblem project problem
         → IsCertificate grid problem side (vector_of other problem side)
     by Main side is =
         subst (λ (x : Vectors). IsCertificate grid Main side (vector_on side x)) share.main (are.each Main side is)
@@ -76,21 +76,21 @@ shares-again row now later share same = subst (λ (r : Row). SharesVectors row (
     (record { main = share.main; pinned = share.pinned })
 
 -- the first vector that isn't a certificate
-pub fails-refused : (network : Project) (standing : Standing) (grid : Grid) (row : Record) (tanks : ℕ)
-    (failing : Failing) → tanks ≡ tank_count network → HasItsGrid network standing grid row
+pub fails-refused : (project : Project) (standing : Standing) (grid : Grid) (row : Record) (tanks : ℕ)
+    (failing : Failing) → tanks ≡ tank_count project → HasItsGrid project standing grid row
     → FailsAt grid tanks row failing
-    → IsRefused network standing row (Fails standing.number failing.problem failing.side failing.junction)
-fails-refused network standing grid row tanks failing each has fails = record {
+    → IsRefused project standing row (Fails standing.number failing.problem failing.side failing.junction)
+fails-refused project standing grid row tanks failing each has fails = record {
   period_is = refl;
   refused_by = (
     grid,
     (
       has,
       record {
-        is_problem = problem-in network failing.problem
+        is_problem = problem-in project failing.problem
             (subst (λ (n : ℕ). IsProblemOf n failing.problem) each fails.is_problem);
         earlier = λ before other is less. fails.earlier before other
-            (subst (λ (n : ℕ). IsProblemOf n before) (sym each) (problem-of network before is)) less;
+            (subst (λ (n : ℕ). IsProblemOf n before) (sym each) (problem-of project before is)) less;
         fails = fails.fails;
       },
     ),
@@ -100,55 +100,55 @@ fails-refused network standing grid row tanks failing each has fails = record {
 -- ---- matters
 
 -- what a record leaves open
-pub leaves-open : (network : Project) (grid : Grid) (standing : Standing) (row : Record) (found : Open)
-    → IsOpenAt network grid standing row found → LeavesOpen network grid standing row
-leaves-open network grid standing row (RuleIsFound found) o = rule (open_rule found) o
-leaves-open network grid standing row (EventIsFound earliest latest) o = event earliest latest o
-leaves-open network grid standing row (TankIsFound found) o =
+pub leaves-open : (project : Project) (grid : Grid) (standing : Standing) (row : Record) (found : Open)
+    → IsOpenAt project grid standing row found → LeavesOpen project grid standing row
+leaves-open project grid standing row (RuleIsFound found) o = rule (open_rule found) o
+leaves-open project grid standing row (EventIsFound earliest latest) o = event earliest latest o
+leaves-open project grid standing row (TankIsFound found) o =
     tank o.seconds o.links found.tank o.leaves o.at_levels.first
-leaves-open network grid standing row (ControlIsFound found) o =
+leaves-open project grid standing row (ControlIsFound found) o =
     control o.seconds o.links found.control o.leaves o.at_levels.first
 
-pub open-refused : (network : Project) (standing : Standing) (grid : Grid) (row : Record) (found : Open)
-    → HasItsGrid network standing grid row → AreCertificates network grid row
-    → IsOpenAt network grid standing row found → IsRefused network standing row (MatterOpen standing.number)
-open-refused network standing grid row found has are is = record {
+pub open-refused : (project : Project) (standing : Standing) (grid : Grid) (row : Record) (found : Open)
+    → HasItsGrid project standing grid row → AreCertificates project grid row
+    → IsOpenAt project grid standing row found → IsRefused project standing row (MatterOpen standing.number)
+open-refused project standing grid row found has are is = record {
   period_is = refl;
   refused_by = (
     grid,
     (
       record { has_grid = has; certificates = are },
-      leaves-open network grid standing row found is,
+      leaves-open project grid standing row found is,
     ),
   );
 }
 
 -- ---- lengths
 
-module _ (network : Project) (standing : Standing) (grid : Grid) (row : Record) (next : Standing)
-    (valid : IsValid network standing grid row next) (seconds : ℕ) (other : seconds ≢ row.length) where
+module _ (project : Project) (standing : Standing) (grid : Grid) (row : Record) (next : Standing)
+    (valid : IsValid project standing grid row next) (seconds : ℕ) (other : seconds ≢ row.length) where
   -- the record with this length in place of its own
   abbrev again : Record
   again = record row { length = seconds }
 
-  leaves-again : (n : ℕ) (links : List LinkState) → LeavesLinks network grid standing row n links
-      → LeavesLinks network grid standing again n links
-  leaves-again n _ (by_rules e) = by_rules (ends_again network grid standing row seconds (ByRules n) e)
-  leaves-again n _ (by_clock e) = by_clock (ends_again network grid standing row seconds (WithoutRules n) e)
+  leaves-again : (n : ℕ) (links : List LinkState) → LeavesLinks project grid standing row n links
+      → LeavesLinks project grid standing again n links
+  leaves-again n _ (by_rules e) = by_rules (ends_again project grid standing row seconds (ByRules n) e)
+  leaves-again n _ (by_clock e) = by_clock (ends_again project grid standing row seconds (WithoutRules n) e)
 
-  leaves-back : (n : ℕ) (links : List LinkState) → LeavesLinks network grid standing again n links
-      → LeavesLinks network grid standing row n links
-  leaves-back n _ (by_rules e) = by_rules (ends_again network grid standing again row.length (ByRules n) e)
-  leaves-back n _ (by_clock e) = by_clock (ends_again network grid standing again row.length (WithoutRules n) e)
+  leaves-back : (n : ℕ) (links : List LinkState) → LeavesLinks project grid standing again n links
+      → LeavesLinks project grid standing row n links
+  leaves-back n _ (by_rules e) = by_rules (ends_again project grid standing again row.length (ByRules n) e)
+  leaves-back n _ (by_clock e) = by_clock (ends_again project grid standing again row.length (WithoutRules n) e)
 
-  open-back : LeavesOpen network grid standing again → LeavesOpen network grid standing row
-  open-back (rule found e) = rule found (ends_again network grid standing again row.length (RuleIsOpen found) e)
+  open-back : LeavesOpen project grid standing again → LeavesOpen project grid standing row
+  open-back (rule found e) = rule found (ends_again project grid standing again row.length (RuleIsOpen found) e)
   open-back (event earliest latest e) =
-      event earliest latest (ends_again network grid standing again row.length (EventIsOpen earliest latest) e)
+      event earliest latest (ends_again project grid standing again row.length (EventIsOpen earliest latest) e)
   open-back (tank n links number leaves is) = tank n links number (leaves-back n links leaves) is
   open-back (control n links number leaves is) = control n links number (leaves-back n links leaves) is
 
-  has-grid : HasItsGrid network standing grid row
+  has-grid : HasItsGrid project standing grid row
   has-grid = record {
     in_place = record {
       unfinished = valid.unfinished;
@@ -158,8 +158,8 @@ module _ (network : Project) (standing : Standing) (grid : Grid) (row : Record) 
     is_grid = valid.is_grid;
   }
 
-  shut : LeavesOpen network grid standing again → ⊥
-  shut open_there = refused_invalid network standing row (MatterOpen standing.number) (record {
+  shut : LeavesOpen project grid standing again → ⊥
+  shut open_there = refused_invalid project standing row (MatterOpen standing.number) (record {
     period_is = refl;
     refused_by = (
       grid,
@@ -170,12 +170,12 @@ module _ (network : Project) (standing : Standing) (grid : Grid) (row : Record) 
     );
   }) grid next valid
 
-  other-length : LeadsOn network grid standing row next → HasOtherLength network grid standing again
+  other-length : LeadsOn project grid standing row next → HasOtherLength project grid standing again
   other-length (continues c) = before_end row.length next.commanded
       (leaves-again row.length next.commanded c.leaves_links) other
   other-length (finishes f) = at_end f.is_last (λ none. other (none ∙ sym f.no_length))
 
-  pub length-refused : IsRefused network standing again (Length standing.number)
+  pub length-refused : IsRefused project standing again (Length standing.number)
   length-refused = record {
     period_is = refl;
     refused_by = (
@@ -190,7 +190,7 @@ module _ (network : Project) (standing : Standing) (grid : Grid) (row : Record) 
             in_range = valid.demands;
             is_grid = valid.is_grid;
           };
-          certificates = certificates-shared network grid row again (record { main = refl; pinned = refl })
+          certificates = certificates-shared project grid row again (record { main = refl; pinned = refl })
               valid.certificates;
         },
         (shut, other-length valid.leads_on),
@@ -199,32 +199,32 @@ module _ (network : Project) (standing : Standing) (grid : Grid) (row : Record) 
   }
 
 -- a record with the vectors, number and time of a valid one, and another length
-pub other-length-refused : (network : Project) (standing : Standing) (grid : Grid) (given row : Record)
-    (next : Standing) → IsValid network standing grid row next → SharesVectors given row
+pub other-length-refused : (project : Project) (standing : Standing) (grid : Grid) (given row : Record)
+    (next : Standing) → IsValid project standing grid row next → SharesVectors given row
     → given.number ≡ row.number → given.time ≡ row.time → given.length ≢ row.length
-    → IsRefused network standing given (Length standing.number)
-other-length-refused network standing grid given row next valid share number time other =
-    subst (λ (r : Record). IsRefused network standing r (Length standing.number))
+    → IsRefused project standing given (Length standing.number)
+other-length-refused project standing grid given row next valid share number time other =
+    subst (λ (r : Record). IsRefused project standing r (Length standing.number))
     (sym (same-record (record row { length = given.length }) given
     (record { main = share.main; pinned = share.pinned }) number time refl))
-    (length-refused network standing grid row next valid given.length other)
+    (length-refused project standing grid row next valid given.length other)
 
 -- a record whose vectors leave a matter open
-pub some-open-refused : {A : Type 0} (network : Project) (standing : Standing) (grid : Grid) (given row : Record)
+pub some-open-refused : {A : Type 0} (project : Project) (standing : Standing) (grid : Grid) (given row : Record)
     (result : Result A Open) → is_err result ≡ true
-    → IfErr result (λ found. (other : Record) → SharesVectors other row → IsOpenAt network grid standing other found)
-    → SharesVectors given row → HasItsGrid network standing grid given → AreCertificates network grid given
-    → IsRefused network standing given (MatterOpen standing.number)
-some-open-refused network standing grid given row (Ok value) e is share has are = absurd (false≢true e)
-some-open-refused network standing grid given row (Err found) e is share has are =
-    open-refused network standing grid given found has are (is given share)
+    → IfErr result (λ found. (other : Record) → SharesVectors other row → IsOpenAt project grid standing other found)
+    → SharesVectors given row → HasItsGrid project standing grid given → AreCertificates project grid given
+    → IsRefused project standing given (MatterOpen standing.number)
+some-open-refused project standing grid given row (Ok value) e is share has are = absurd (false≢true e)
+some-open-refused project standing grid given row (Err found) e is share has are =
+    open-refused project standing grid given found has are (is given share)
 
 -- demands that are out of range
-pub demand-refused : {A : Type 0} {E : Type 0} (network : Project) (standing : Standing) (row : Record)
-    (result : Result A E) → is_err result ≡ true → (DemandsAreInRange network standing.time → IsOk result)
-    → IsInPlace standing row → IsRefused network standing row (Demand standing.number)
-demand-refused network standing row (Ok value) e started place = absurd (false≢true e)
-demand-refused network standing row (Err fault) e started place = record {
+pub demand-refused : {A : Type 0} {E : Type 0} (project : Project) (standing : Standing) (row : Record)
+    (result : Result A E) → is_err result ≡ true → (DemandsAreInRange project standing.time → IsOk result)
+    → IsInPlace standing row → IsRefused project standing row (Demand standing.number)
+demand-refused project standing row (Ok value) e started place = absurd (false≢true e)
+demand-refused project standing row (Err fault) e started place = record {
   period_is = refl;
   refused_by = (place, λ in_range. absurd (false≢true (started in_range)));
 }
@@ -232,12 +232,12 @@ demand-refused network standing row (Err fault) e started place = record {
 -- ---- a record that is taken
 
 -- the period of a record that was made, and the standing behind it
-pub taken-of : (network : Project) (here : Here) (net : NetView) (row : Row) (facts : Facts) (close : PeriodEnd)
-    (now : Here) → standing_for now ≡ next_standing network here row.length close
-    → IsMade network here net row facts close
-    → IsTaken network (standing_for here) net row facts (standing_for now)
-taken-of network here net row facts close now same made =
-    subst (IsTaken network (standing_for here) net row facts) (sym same) (record {
+pub taken-of : (project : Project) (here : Here) (net : NetView) (row : Row) (facts : Facts) (close : PeriodEnd)
+    (now : Here) → standing_for now ≡ next_standing project here row.length close
+    → IsMade project here net row facts close
+    → IsTaken project (standing_for here) net row facts (standing_for now)
+taken-of project here net row facts close now same made =
+    subst (IsTaken project (standing_for here) net row facts) (sym same) (record {
       valid = made.valid;
       facts_are = made.over.facts_are;
       have = made.over.have;

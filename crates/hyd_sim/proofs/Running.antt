@@ -1,6 +1,5 @@
 -- The periods of a run.
-use Rattle.std.proofs.Common.{◌≡◌, ℕ, zero, suc, ◌<◌, ◌≤◌, ℤ, Bool, List}
-use Rattle.std.proofs.Common.{length, refl, sym, ap, subst, ◌∙◌, arith}
+use Rattle.std.proofs.Common.{◌≡◌, ℕ, ◌<◌, ◌≤◌, ℤ, Bool, length, refl, sym, ap, subst, ◌∙◌, arith}
 use Rattle.std.specs.Prelude.{unsigned_abs, if◌then◌else◌}
 use Rattle.std.proofs.Common.{◌≢◌, eq-eqb}
 use Rattle.std.proofs.lemmas.Bool.{ne_eqb}
@@ -18,7 +17,6 @@ use Rattle.hyd_spec_certificates.specs.Valid.{IsProblem, IsGridAt, DemandsAreInR
 use Rattle.hyd_spec_reports.specs.Stops.{Stops, IsFirstDemand, IsTightRow, EarlierHaveCertificates, HasNoCertificate}
 use Rattle.hyd_spec_reports.specs.Stops.{SpendsRounds}
 use Rattle.hyd_cert.specs.RecordView.{IsProblemOf}
-use Rattle.hyd_cert.specs.Vectors.{problems_in, behind_two}
 use Rattle.hyd_period_network.proofs.Sounding.{long_zipped}
 use Rattle.hyd_period_network.specs.NetView.{NetView}
 use Rattle.hyd_period_network.specs.Periods.{IsNetOf}
@@ -43,39 +41,34 @@ pub net-junctions : (project : Project) (net : NetView) → IsNetOf project net
 net-junctions project net of = long_zipped _ _ _ of.junctions
 
 -- a problem of a network is one of its count of tanks
-pub problem-of : (network : Project) (problem : Problem) → IsProblem network problem
-    → IsProblemOf (tank_count network) problem
-problem-of network Main is = tt
-problem-of network (Pinned tank) is = is
+pub problem-of : (project : Project) (problem : Problem) → IsProblem project problem
+    → IsProblemOf (tank_count project) problem
+problem-of project Main is = tt
+problem-of project (Pinned tank) is = is
 
-pub problem-in : (network : Project) (problem : Problem) → IsProblemOf (tank_count network) problem
-    → IsProblem network problem
-problem-in network Main is = tt
-problem-in network (Pinned tank) is = is
-
--- a record has vectors for each tank
-pub problems-each : (junctions tanks : ℕ) (heads : List ℤ) → length (problems_in junctions tanks heads) ≡ tanks
-problems-each junctions zero heads = refl
-problems-each junctions (suc tanks) heads = ap suc (problems-each junctions tanks (behind_two junctions heads))
+pub problem-in : (project : Project) (problem : Problem) → IsProblemOf (tank_count project) problem
+    → IsProblem project problem
+problem-in project Main is = tt
+problem-in project (Pinned tank) is = is
 
 -- the stop of a period that lacks a vector
-pub lack-stops : (network : Project) (standing : Standing) (grid : Grid) (tanks rounds : ℕ) (lack : Lack)
-    → tanks ≡ tank_count network → length grid.junctions ≡ junction_count network
-    → DemandsAreInRange network standing.time → IsGridAt network standing grid → LacksOne grid tanks rounds lack
-    → Stops network standing rounds (stop_of standing.number rounds lack)
-lack-stops network standing grid tanks rounds lack each count in_range is one =
+pub lack-stops : (project : Project) (standing : Standing) (grid : Grid) (tanks rounds : ℕ) (lack : Lack)
+    → tanks ≡ tank_count project → length grid.junctions ≡ junction_count project
+    → DemandsAreInRange project standing.time → IsGridAt project standing grid → LacksOne grid tanks rounds lack
+    → Stops project standing rounds (stop_of standing.number rounds lack)
+lack-stops project standing grid tanks rounds lack each count in_range is one =
     by lack one.lacks
   where
-    there : (problem : Problem) → IsProblemOf tanks problem → IsProblem network problem
-    there problem is = problem-in network problem (subst (λ (n : ℕ). IsProblemOf n problem) each is)
+    there : (problem : Problem) → IsProblemOf tanks problem → IsProblem project problem
+    there problem is = problem-in project problem (subst (λ (n : ℕ). IsProblemOf n problem) each is)
 
-    back : (problem : Problem) → IsProblem network problem → IsProblemOf tanks problem
-    back problem is = subst (λ (n : ℕ). IsProblemOf n problem) (sym each) (problem-of network problem is)
+    back : (problem : Problem) → IsProblem project problem → IsProblemOf tanks problem
+    back problem is = subst (λ (n : ℕ). IsProblemOf n problem) (sym each) (problem-of project problem is)
 
-    earlier : EarlierHaveCertificates network grid one.problem one.side
+    earlier : EarlierHaveCertificates project grid one.problem one.side
     earlier = λ problem side is less. one.earlier problem side (back problem is) less
 
-    none : HasNone grid one.problem one.side → HasNoCertificate network standing one.problem one.side
+    none : HasNone grid one.problem one.side → HasNoCertificate project standing one.problem one.side
     none lacking = record {
       in_range = in_range;
       is_problem = there one.problem one.is_problem;
@@ -86,7 +79,7 @@ lack-stops network standing grid tanks rounds lack each count in_range is one =
     }
 
     spent : AreSpent grid one.problem one.side rounds
-        → SpendsRounds network standing one.problem one.side rounds
+        → SpendsRounds project standing one.problem one.side rounds
     spent rounds_spent = record {
       in_range = in_range;
       is_problem = there one.problem one.is_problem;
@@ -104,86 +97,86 @@ lack-stops network standing grid tanks rounds lack each count in_range is one =
         subst (λ (q : Problem). P q side) (sym p) (subst (λ (t : Side). P one.problem t) (sym s) holds)
 
     by : (l : Lack) → Lacks grid one.problem one.side rounds l
-        → Stops network standing rounds (stop_of standing.number rounds l)
+        → Stops project standing rounds (stop_of standing.number rounds l)
     by (LacksCertificate problem side junction) (p, (s, (less, lacking))) = record {
       period_is = refl;
       holds = (
         subst (λ (n : ℕ). junction < n) count less,
-        moved (HasNoCertificate network standing) problem side p s (none lacking),
+        moved (HasNoCertificate project standing) problem side p s (none lacking),
       );
     }
     by (SpentRounds problem side) (p, (s, over)) = record {
       period_is = refl;
       holds = (
         refl,
-        moved (λ q t. SpendsRounds network standing q t rounds) problem side p s (spent over),
+        moved (λ q t. SpendsRounds project standing q t rounds) problem side p s (spent over),
       );
     }
 
 -- certificates of each problem and side
-pub certificates-of : (network : Project) (grid : Grid) (tanks : ℕ) (row : Record) → tanks ≡ tank_count network
-    → length row.pinned ≡ tanks → OfEach (IsCertificate grid) tanks row → AreCertificates network grid row
-certificates-of network grid tanks row each pinned all = record {
+pub certificates-of : (project : Project) (grid : Grid) (tanks : ℕ) (row : Record) → tanks ≡ tank_count project
+    → length row.pinned ≡ tanks → OfEach (IsCertificate grid) tanks row → AreCertificates project grid row
+certificates-of project grid tanks row each pinned all = record {
   pinned_each = pinned ∙ each;
   each = λ problem side is. all problem side
-      (subst (λ (n : ℕ). IsProblemOf n problem) (sym each) (problem-of network problem is));
+      (subst (λ (n : ℕ). IsProblemOf n problem) (sym each) (problem-of project problem is));
 }
 
 -- what is tight of each problem is so of the network's
-pub tight-of : (network : Project) (grid : Grid) (row : Record)
-    → OfEach (IsTight grid) (tank_count network) row → AreTight network grid row
-tight-of network grid row all = λ problem side is. all problem side (problem-of network problem is)
+pub tight-of : (project : Project) (grid : Grid) (row : Record)
+    → OfEach (IsTight grid) (tank_count project) row → AreTight project grid row
+tight-of project grid row all = λ problem side is. all problem side (problem-of project problem is)
 
 -- tight vectors make a tight row
-pub tight-row : (network : Project) (standing : Standing) (grid : Grid) (row : Record)
-    → DemandsAreInRange network standing.time → IsGridAt network standing grid → length row.pinned ≡ tank_count network
-    → OfEach (IsTight grid) (tank_count network) row → IsTightRow network standing grid row
-tight-row network standing grid row in_range is pinned all = record {
+pub tight-row : (project : Project) (standing : Standing) (grid : Grid) (row : Record)
+    → DemandsAreInRange project standing.time → IsGridAt project standing grid → length row.pinned ≡ tank_count project
+    → OfEach (IsTight grid) (tank_count project) row → IsTightRow project standing grid row
+tight-row project standing grid row in_range is pinned all = record {
   in_range = in_range;
   is_grid = is;
   one_each = pinned;
-  each = tight-of network grid row all;
+  each = tight-of project grid row all;
 }
 
 -- a matter that tight vectors leave open stops the run
-pub open-stops : (network : Project) (standing : Standing) (rounds : ℕ) (grid : Grid) (row : Record)
-    → IsTightRow network standing grid row → (found : Open) → IsOpenAt network grid standing row found
-    → Stops network standing rounds (open_stop_of standing.number found)
-open-stops network standing rounds grid row tight (RuleIsFound found) o =
-    rule-stops network standing rounds grid row tight found.rule found.clause found.lo found.hi o
-open-stops network standing rounds grid row tight (EventIsFound earliest latest) o =
-    event-stops network standing rounds grid row tight earliest latest o
-open-stops network standing rounds grid row tight (TankIsFound found) o =
-    tank-stops network standing rounds grid row tight o.seconds o.links o.leaves found.tank found.lo found.hi
+pub open-stops : (project : Project) (standing : Standing) (rounds : ℕ) (grid : Grid) (row : Record)
+    → IsTightRow project standing grid row → (found : Open) → IsOpenAt project grid standing row found
+    → Stops project standing rounds (open_stop_of standing.number found)
+open-stops project standing rounds grid row tight (RuleIsFound found) o =
+    rule-stops project standing rounds grid row tight found.rule found.clause found.lo found.hi o
+open-stops project standing rounds grid row tight (EventIsFound earliest latest) o =
+    event-stops project standing rounds grid row tight earliest latest o
+open-stops project standing rounds grid row tight (TankIsFound found) o =
+    tank-stops project standing rounds grid row tight o.seconds o.links o.leaves found.tank found.lo found.hi
     o.at_levels.first o.at_levels.level
-open-stops network standing rounds grid row tight (ControlIsFound found) o =
+open-stops project standing rounds grid row tight (ControlIsFound found) o =
     let at = o.at_levels in
-    control-stops network standing rounds grid row tight o.seconds o.links o.leaves found.control at.tank at.above
+    control-stops project standing rounds grid row tight o.seconds o.links o.leaves found.control at.tank at.above
     at.ticks at.control found.lo found.hi at.tanks_decided at.first at.is_control at.is_level at.level_is
 
 -- ---- the standing behind a period
 
-pub at-last : (network : Project) (here : Here) (seconds : ℕ) (close : PeriodEnd) → here.time ≡ network.times.duration
-    → next_standing network here seconds close ≡ last_standing here
-at-last network here seconds close e =
+pub at-last : (project : Project) (here : Here) (seconds : ℕ) (close : PeriodEnd) → here.time ≡ project.times.duration
+    → next_standing project here seconds close ≡ last_standing here
+at-last project here seconds close e =
     ap (λ (b : Bool). if b then last_standing here else later_standing here seconds close)
-    (eq-eqb here.time network.times.duration e)
+    (eq-eqb here.time project.times.duration e)
 
-pub at-later : (network : Project) (here : Here) (seconds : ℕ) (close : PeriodEnd) → here.time ≢ network.times.duration
-    → next_standing network here seconds close ≡ later_standing here seconds close
-at-later network here seconds close e =
+pub at-later : (project : Project) (here : Here) (seconds : ℕ) (close : PeriodEnd) → here.time ≢ project.times.duration
+    → next_standing project here seconds close ≡ later_standing here seconds close
+at-later project here seconds close e =
     ap (λ (b : Bool). if b then last_standing here else later_standing here seconds close)
-    (ne_eqb here.time network.times.duration e)
+    (ne_eqb here.time project.times.duration e)
 
 -- a demand in range isn't one that is out of range
-pub no-demand-out : (network : Project) (time j : ℕ) (demand : ℤ) → DemandsAreInRange network time
-    → IsFirstDemand network time j demand → ⊥
-no-demand-out network time j demand all first =
-    let within = slice_get_within network.junctions.list j first.junction first.is_junction in
+pub no-demand-out : (project : Project) (time j : ℕ) (demand : ℤ) → DemandsAreInRange project time
+    → IsFirstDemand project time j demand → ⊥
+no-demand-out project time j demand all first =
+    let within = slice_get_within project.junctions.list j first.junction first.is_junction in
     let small = all j first.junction within in
-    let here = get_or_from_slice_get network.junctions.list j first.junction first.junction first.is_junction in
-    let kept : unsigned_abs (demand_of network time first.junction) ≤ demand_limit =
-    subst (λ (x : Junction). unsigned_abs (demand_of network time x) ≤ demand_limit) here small in
+    let here = get_or_from_slice_get project.junctions.list j first.junction first.junction first.is_junction in
+    let kept : unsigned_abs (demand_of project time first.junction) ≤ demand_limit =
+    subst (λ (x : Junction). unsigned_abs (demand_of project time x) ≤ demand_limit) here small in
     let out = first.out_of_range in
     let same = ap unsigned_abs first.is_demand in
     omega (arith, kept, out, same)

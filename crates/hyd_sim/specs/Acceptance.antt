@@ -30,13 +30,13 @@ pub record FailsAt (grid : Grid) (tanks : ℕ) (row : Record) (failing : Failing
 
 -- from one standing to another a record was accepted: it is valid and leads on, the net is that of its period, with
 -- links in the states of the facts, and the facts are its own
-pub record IsTaken (network : Project) (before : Standing) (net : NetView) (row : Row) (facts : Facts) (now : Standing)
+pub record IsTaken (project : Project) (before : Standing) (net : NetView) (row : Row) (facts : Facts) (now : Standing)
     : Type 0 where
-  pub valid : IsValid network before (grid_of net) (row_of row) now
-  pub facts_are : AreFacts network (grid_of net) before (row_of row) facts
-  pub have : HaveTanks network facts
+  pub valid : IsValid project before (grid_of net) (row_of row) now
+  pub facts_are : AreFacts project (grid_of net) before (row_of row) facts
+  pub have : HaveTanks project facts
   pub order : TanksInOrder (grid_of net)
-  pub states : AreStates network (states_of net)
+  pub states : AreStates project (states_of net)
   pub links : states_of net ≡ facts.links.list
 
 -- a record was accepted as that of the period that was due, and the run stands behind it

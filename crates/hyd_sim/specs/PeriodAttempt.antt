@@ -38,40 +38,40 @@ later_standing here seconds close =
 
 -- the standing after a period of so many seconds
 abbrev pub next_standing : Project → Here → ℕ → PeriodEnd → Standing
-next_standing network here seconds close =
-    if here.time == network.times.duration then last_standing here else later_standing here seconds close
+next_standing project here seconds close =
+    if here.time == project.times.duration then last_standing here else later_standing here seconds close
 
 -- a period that begins at a standing was started: the net and the facts are those of its start, and its record has its
 -- number and its time
-pub record IsStarted (network : Project) (here : Here) (net : NetView) (row : Row) (facts : Facts) : Type 0 where
-  pub in_range : DemandsAreInRange network here.time
-  pub is_grid : IsGridAt network (standing_for here) (grid_of net)
-  pub states : AreStates network (states_of net)
+pub record IsStarted (project : Project) (here : Here) (net : NetView) (row : Row) (facts : Facts) : Type 0 where
+  pub in_range : DemandsAreInRange project here.time
+  pub is_grid : IsGridAt project (standing_for here) (grid_of net)
+  pub states : AreStates project (states_of net)
   pub links : states_of net ≡ facts.links.list
-  pub begun : AreBegun network (standing_for here) facts
-  pub ready : AreReady network facts
+  pub begun : AreBegun project (standing_for here) facts
+  pub ready : AreReady project facts
   pub number : row.number ≡ here.number
   pub time : row.time ≡ here.time
   pub order : TanksInOrder (grid_of net)
 
 -- a period is over, and this is what it leaves: its record leads on, the facts are its own, and where the run goes on,
 -- it lasted a second at least and the next stocks lie within the bounds of their tanks
-pub record IsOver (network : Project) (here : Here) (grid : Grid) (row : Row) (facts : Facts) (close : PeriodEnd)
+pub record IsOver (project : Project) (here : Here) (grid : Grid) (row : Row) (facts : Facts) (close : PeriodEnd)
     : Type 0 where
-  pub leads_on : LeadsOn network grid (standing_for here) (row_of row) (next_standing network here row.length close)
-  pub facts_are : AreFacts network grid (standing_for here) (row_of row) facts
-  pub have : HaveTanks network facts
-  pub held : here.time ≢ network.times.duration → AreKeptIn network close.next
-  pub later : here.time ≢ network.times.duration → 0 < row.length
+  pub leads_on : LeadsOn project grid (standing_for here) (row_of row) (next_standing project here row.length close)
+  pub facts_are : AreFacts project grid (standing_for here) (row_of row) facts
+  pub have : HaveTanks project facts
+  pub held : here.time ≢ project.times.duration → AreKeptIn project close.next
+  pub later : here.time ≢ project.times.duration → 0 < row.length
 
 -- its record is valid besides, and the net is that of the period, with links in the states of the facts
-pub record IsMade (network : Project) (here : Here) (net : NetView) (row : Row) (facts : Facts) (close : PeriodEnd)
+pub record IsMade (project : Project) (here : Here) (net : NetView) (row : Row) (facts : Facts) (close : PeriodEnd)
     : Type 0 where
-  pub valid : IsValid network (standing_for here) (grid_of net) (row_of row)
-      (next_standing network here row.length close)
-  pub over : IsOver network here (grid_of net) row facts close
+  pub valid : IsValid project (standing_for here) (grid_of net) (row_of row)
+      (next_standing project here row.length close)
+  pub over : IsOver project here (grid_of net) row facts close
   pub order : TanksInOrder (grid_of net)
-  pub states : AreStates network (states_of net)
+  pub states : AreStates project (states_of net)
   pub links : states_of net ≡ facts.links.list
 
 -- each vector of a record is what is sought of its problem and side, whatever becomes of the others: the tight one, or
@@ -84,11 +84,11 @@ pub record AreSought (tight : Bool) (told : Option (List ℤ)) (grid : Grid) (ta
 
 -- why an attempt at a period failed: a vector is lacking, or they leave a matter open, as any record with them does
 abbrev pub IsFault : Bool → Option (List ℤ) → Project → Grid → Standing → ℕ → Record → Fault → Type 0
-IsFault tight told network grid standing rounds row (Lack lack) =
-    LacksFirst tight told grid (tank_count network) rounds row lack
-IsFault tight told network grid standing rounds row (Open found) =
-    AreSought tight told grid (tank_count network) rounds row
-    × ((other : Record) → SharesVectors other row → IsOpenAt network grid standing other found)
+IsFault tight told project grid standing rounds row (Lack lack) =
+    LacksFirst tight told grid (tank_count project) rounds row lack
+IsFault tight told project grid standing rounds row (Open found) =
+    AreSought tight told grid (tank_count project) rounds row
+    × ((other : Record) → SharesVectors other row → IsOpenAt project grid standing other found)
 
 -- the stop of a period whose vectors are as sharp as can be
 abbrev pub fault_stop_of : ℕ → ℕ → Fault → StopCause

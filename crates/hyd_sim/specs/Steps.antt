@@ -31,25 +31,25 @@ use Rattle.hyd_sim.specs.declared.steps.Step.TheVariants.{Period, Finished, Stop
 
 -- all vectors of a record are the tight ones
 abbrev pub AreTight : Project → Grid → Record → Type 0
-AreTight network grid row = (problem : Problem) (side : Side) → IsProblem network problem
+AreTight project grid row = (problem : Problem) (side : Side) → IsProblem project problem
     → IsTight grid problem side (vector_of row problem side)
 
 -- a record is as sharp as the settings ask: where they ask for tight vectors these are tight, else they are or the
 -- record is narrow
 abbrev pub IsSharp : Project → Settings → Standing → Grid → Record → Standing → Type 0
-IsSharp network settings standing grid row next =
-    MatchBool settings.tight (AreTight network grid row)
-    (AreTight network grid row ⊎ IsNarrow settings.width standing row next)
+IsSharp project settings standing grid row next =
+    MatchBool settings.tight (AreTight project grid row)
+    (AreTight project grid row ⊎ IsNarrow settings.width standing row next)
 
 -- the vectors of a record that is as sharp as the settings ask are those that were sought: tight ones; or, where not
 -- all need be tight, the record is narrow, and each vector is a certificate, and the finder's where that is one,
 -- whether or not it tells certificates of the others
 abbrev pub IsSharpAsSought : Option (List ℤ) → Project → Settings → Standing → Grid → Record → Standing → Type 0
-IsSharpAsSought told network settings standing grid row next =
-    MatchBool settings.tight (AreSought true told grid (tank_count network) settings.rounds row)
-    (AreSought true told grid (tank_count network) settings.rounds row
+IsSharpAsSought told project settings standing grid row next =
+    MatchBool settings.tight (AreSought true told grid (tank_count project) settings.rounds row)
+    (AreSought true told grid (tank_count project) settings.rounds row
     ⊎ (IsNarrow settings.width standing row next
-    × AreSought false told grid (tank_count network) settings.rounds row))
+    × AreSought false told grid (tank_count project) settings.rounds row))
 
 -- a vector is left to rounds: the finder tells no certificate of this problem and side, this is the tight one, and it
 -- isn't so that as many plain rounds as a search may make lead to no certificate
@@ -67,35 +67,35 @@ pub record AreToldOrLeft (told : Option (List ℤ)) (grid : Grid) (tanks rounds 
 
 -- a record is valid at a standing and narrow, and each of its vectors, on the grid there, is a certificate that the
 -- finder tells, or is left to rounds
-pub record IsProposal (told : Option (List ℤ)) (network : Project) (settings : Settings) (standing : Standing)
+pub record IsProposal (told : Option (List ℤ)) (project : Project) (settings : Settings) (standing : Standing)
     (w : Record) : Type 0 where
-  pub told_at : (there : Grid) → IsGridAt network standing there
-      → AreToldOrLeft told there (tank_count network) settings.rounds w
+  pub told_at : (there : Grid) → IsGridAt project standing there
+      → AreToldOrLeft told there (tank_count project) settings.rounds w
   pub grid : Grid
   pub next : Standing
-  pub valid : IsValid network standing grid w next
+  pub valid : IsValid project standing grid w next
   pub narrow : IsNarrow settings.width standing w next
 
 -- a period was done, and its record is as sharp as the settings ask by the vectors that were sought
-pub record IsDone (told : Option (List ℤ)) (network : Project) (settings : Settings) (here : Here) (net : NetView)
+pub record IsDone (told : Option (List ℤ)) (project : Project) (settings : Settings) (here : Here) (net : NetView)
     (row : Row) (facts : Facts) (close : PeriodEnd) : Type 0 where
-  pub made : IsMade network here net row facts close
-  pub sought : IsSharpAsSought told network settings (standing_for here) (grid_of net) (row_of row)
-      (next_standing network here row.length close)
+  pub made : IsMade project here net row facts close
+  pub sought : IsSharpAsSought told project settings (standing_for here) (grid_of net) (row_of row)
+      (next_standing project here row.length close)
 
 -- from one standing to another a period was done: its record is valid and leads on, the net is that of the period, with
 -- links in the states of the facts, the facts are its own, and the record is as sharp as the settings ask, by the
 -- vectors that were sought
-pub record IsAdvanced (told : Option (List ℤ)) (network : Project) (settings : Settings) (before : Standing)
+pub record IsAdvanced (told : Option (List ℤ)) (project : Project) (settings : Settings) (before : Standing)
     (net : NetView) (row : Row) (facts : Facts) (now : Standing) : Type 0 where
-  pub valid : IsValid network before (grid_of net) (row_of row) now
-  pub facts_are : AreFacts network (grid_of net) before (row_of row) facts
-  pub have : HaveTanks network facts
+  pub valid : IsValid project before (grid_of net) (row_of row) now
+  pub facts_are : AreFacts project (grid_of net) before (row_of row) facts
+  pub have : HaveTanks project facts
   pub order : TanksInOrder (grid_of net)
-  pub states : AreStates network (states_of net)
+  pub states : AreStates project (states_of net)
   pub links : states_of net ≡ facts.links.list
-  pub sharp : IsSharp network settings before (grid_of net) (row_of row) now
-  pub sought : IsSharpAsSought told network settings before (grid_of net) (row_of row) now
+  pub sharp : IsSharp project settings before (grid_of net) (row_of row) now
+  pub sought : IsSharpAsSought told project settings before (grid_of net) (row_of row) now
 
 -- a step did a period, and the run stands behind it
 pub record IsPeriod (before now : SimView) : Type 0 where

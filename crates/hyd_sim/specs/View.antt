@@ -2,6 +2,7 @@
 use Rattle.std.specs.Prelude.{◌≡◌, ◌≤◌, ℕ, ◌+◌, Bool, false, List, length, map, Option, IfSome}
 use Rattle.hyd_net.specs.Sound.{Sound}
 use Rattle.hyd_spec.specs.ProgramTypes.{Project, LinkState}
+use Rattle.hyd_spec_certificates.specs.Spans.{levels_of}
 use Rattle.hyd_spec_certificates.specs.RecordAndStanding.{Standing}
 use Rattle.hyd_spec_reports.specs.CertificateText.{version_of}
 use Rattle.hyd_spec_reports.specs.Stops.{Stops}
@@ -11,7 +12,7 @@ use Rattle.hyd_theorems_on_nesting.specs.Nesting.{IsTidy}
 use Rattle.hyd_cert.specs.Lines.{Header}
 use Rattle.hyd_cert.specs.RecordView.{header_of}
 use Rattle.hyd_cert.specs.declared.record.Record.{Record}
-use Rattle.hyd_period_facts.specs.FactsOfPeriod.{levels_of, volumes_of}
+use Rattle.hyd_tank.specs.StockIntervals.{volumes_of}
 use Rattle.hyd_period_facts.specs.declared.facts.Facts.{Facts}
 use Rattle.hyd_period_facts.specs.ReservedMemory.{HasRoom}
 use Rattle.hyd_period_network.specs.NetView.{NetView}
@@ -59,20 +60,20 @@ standing_of sim = standing_for sim.here
 
 -- the certificate of a network has one head for each junction in a vector
 abbrev pub header_for : Project → Header
-header_for network = record {
-  version = version_of network;
-  junctions = length network.junctions.list;
-  tanks = length network.tanks.list;
+header_for project = record {
+  version = version_of project;
+  junctions = length project.junctions.list;
+  tanks = length project.tanks.list;
 }
 
 -- a standing of a run: it keeps what every standing of a run keeps, its stocks lie within the bounds of their tanks,
 -- there is room for the next one's, and as each period before the end lasts a second at least, no more were done than
 -- seconds are over, but for the last
-pub record IsStanding (network : Project) (here : Here) : Type 0 where
-  pub kept : IsKept network (standing_for here)
-  pub tidy : IsTidy network (standing_for here)
-  pub held : AreKeptIn network here.stocks
-  pub room : HasNextRoom network here.stocks
+pub record IsStanding (project : Project) (here : Here) : Type 0 where
+  pub kept : IsKept project (standing_for here)
+  pub tidy : IsTidy project (standing_for here)
+  pub held : AreKeptIn project here.stocks
+  pub room : HasNextRoom project here.stocks
   pub few : here.number ≤ here.time + 1
   pub unfinished : here.finished ≡ false → here.number ≤ here.time
 

@@ -21,7 +21,7 @@ impl Sim {
     /// Closes the run and gives its network back. Dropping a run frees as much, but a function that does is proved
     /// with all that it drops, and one that calls this isn't.
     pub fn close(self) -> Project
-        ensures network { result ≡ self.project }
+        ensures project { result ≡ self.project }
     {
         drop_vectors(self.row, self.search, self.net);
         drop_period(self.links, self.standing, self.facts, self.close);

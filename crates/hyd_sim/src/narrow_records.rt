@@ -5,10 +5,10 @@ ghost use Rattle.std.specs.Prelude.{◌≡◌, ◌<◌, ◌≤◌, ◌^◌, ℤ,
 ghost use Rattle.std.specs.Prelude.{slice_index_or};
 ghost use Rattle.hyd_spec.specs.Assignment.{head_at};
 ghost use Rattle.hyd_spec.specs.Lists.{Each};
+ghost use Rattle.hyd_spec_certificates.specs.Spans.{levels_of};
 ghost use Rattle.hyd_spec_certificates.specs.Interval.{width as width_of};
 ghost use Rattle.hyd_spec_certificates.specs.Narrow as narrow;
 ghost use Rattle.hyd_spec_certificates.specs.Decided.{nowhere};
-ghost use Rattle.hyd_period_facts.specs.FactsOfPeriod.{levels_of};
 ghost use Rattle.hyd_sim.specs.NarrowRecordsAndStops.{AreNarrow};
 
 use hyd_spec_certificates::LevelSpan;

@@ -16,14 +16,14 @@ fn numbers_below(alloc: Global, count: u32) -> Result<Vec<u32>, OutOfMemory> {
 
 /// Where the nodes' numbers stand while they are being swapped.
 #[derive(Drop)]
-struct Standing {
+struct SwappedNumbers {
     /// For each node, the place where its number stands.
     places: Vec<u32>,
     /// For each place, the node whose number stands there.
     nodes: Vec<u32>,
 }
 
-impl Standing {
+impl SwappedNumbers {
     /// The place of a node's number, which is swapped with the number at another place.
     fn swap_to(&mut self, place: u32, node: u32) -> u32 {
         let from = self.places.get(node as usize).copied().unwrap_or(place);
@@ -46,14 +46,14 @@ pub(crate) fn make_swaps(
 ) -> Result<Vec<u32>, OutOfMemory>
     ensures { IfOk result (λ swaps. All (λ place. place < size) swaps.items) }
 {
-    let mut standing = Standing {
+    let mut swapped = SwappedNumbers {
         places: numbers_below(alloc, size)?,
         nodes: numbers_below(alloc, size)?,
     };
     let mut swaps = Vec::with_capacity(alloc, size as usize)?;
     for place in 0..size {
         let from = match order.get(place as usize) {
-            Some(eliminated) => standing.swap_to(place, eliminated.node),
+            Some(eliminated) => swapped.swap_to(place, eliminated.node),
             None => place,
         };
         swaps.push(if from < size { from } else { place })?;

@@ -30,9 +30,9 @@ tank_heads S (tank ∷ tanks) (level ∷ levels) = (at_scale S tank.bottom +ℤ 
 
 -- The heads of all nodes in order of their numbers: junctions, reservoirs, tanks.
 abbrev pub node_heads : Project → ℕ → ℕ → List ℤ → List ℤ → List ℤ
-node_heads network S time levels heads =
-    heads ++ (map (λ r. at_scale S (reservoir_head network time r)) network.reservoirs.list
-    ++ tank_heads S network.tanks.list levels)
+node_heads project S time levels heads =
+    heads ++ (map (λ r. at_scale S (reservoir_head project time r)) project.reservoirs.list
+    ++ tank_heads S project.tanks.list levels)
 
 -- The head of a node.
 abbrev pub head_at : List ℤ → ℕ → ℤ
@@ -64,34 +64,34 @@ IsBalanced S outflow demand emitter = IsWithinTolerance S (pos 0) ((outflow +ℤ
 
 -- Each link's flow and the head difference between its ends follow its law, in its state and between
 -- its tanks.
-pub data LinksFollow (network : Project) (tanks : List TankState) (S : ℕ) (heads : List ℤ) : List Link
+pub data LinksFollow (project : Project) (tanks : List TankState) (S : ℕ) (heads : List ℤ) : List Link
     → List LinkState → List ℤ → Type 0 where
-  none : LinksFollow network tanks S heads [] [] []
+  none : LinksFollow project tanks S heads [] [] []
   more : {link : Link} {links : List Link} {state : LinkState} {states : List LinkState} {q : ℤ} {flows : List ℤ}
-      → Follows (law_of network tanks link state) S (head_at heads link.from -ℤ head_at heads link.to) q
-      → LinksFollow network tanks S heads links states flows
-      → LinksFollow network tanks S heads (link ∷ links) (state ∷ states) (q ∷ flows)
+      → Follows (law_of project tanks link state) S (head_at heads link.from -ℤ head_at heads link.to) q
+      → LinksFollow project tanks S heads links states flows
+      → LinksFollow project tanks S heads (link ∷ links) (state ∷ states) (q ∷ flows)
 
 -- Junction number j: its demand and its emitter follow its pressure, and it balances.
-pub record JunctionObeys (network : Project) (time S : ℕ) (assignment : Assignment) (j : ℕ)
+pub record JunctionObeys (project : Project) (time S : ℕ) (assignment : Assignment) (j : ℕ)
     (junction : Junction) : Type 0 where
-  pub demand : FollowsDemand network time junction S
+  pub demand : FollowsDemand project time junction S
       (head_at assignment.heads j -ℤ at_scale S junction.elevation) (flow_at assignment.demands j)
   pub emitter : FollowsEmitter junction S
       (head_at assignment.heads j -ℤ at_scale S junction.elevation) (flow_at assignment.emitters j)
-  pub balance : IsBalanced S (net_outflow j network.links.list assignment.flows)
+  pub balance : IsBalanced S (net_outflow j project.links.list assignment.flows)
       (flow_at assignment.demands j) (flow_at assignment.emitters j)
 
 -- An assignment, at a scale S of at least 1, of a period that begins at `time` with these levels (S-th parts of a head
 -- tick) and tank states, one for each tank, and link states.
-pub record IsAssignment (network : Project) (S time : ℕ) (levels : List ℤ) (tanks : List TankState)
+pub record IsAssignment (project : Project) (S time : ℕ) (levels : List ℤ) (tanks : List TankState)
     (links : List LinkState) (assignment : Assignment) : Type 0 where
   pub scale : 1 ≤ S
-  pub level_each : length levels ≡ tank_count network
-  pub tank_each : length tanks ≡ tank_count network
-  pub head_each : length assignment.heads ≡ junction_count network
-  pub demand_each : length assignment.demands ≡ junction_count network
-  pub emitter_each : length assignment.emitters ≡ junction_count network
-  pub links_follow : LinksFollow network tanks S (node_heads network S time levels assignment.heads)
-      network.links.list links assignment.flows
-  pub junctions_obey : Each network.junctions.list (JunctionObeys network time S assignment)
+  pub level_each : length levels ≡ tank_count project
+  pub tank_each : length tanks ≡ tank_count project
+  pub head_each : length assignment.heads ≡ junction_count project
+  pub demand_each : length assignment.demands ≡ junction_count project
+  pub emitter_each : length assignment.emitters ≡ junction_count project
+  pub links_follow : LinksFollow project tanks S (node_heads project S time levels assignment.heads)
+      project.links.list links assignment.flows
+  pub junctions_obey : Each project.junctions.list (JunctionObeys project time S assignment)

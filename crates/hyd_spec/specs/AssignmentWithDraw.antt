@@ -12,26 +12,26 @@ use Rattle.hyd_spec.specs.Assignment.{net_outflow}
 
 -- Junction number j, at which q is drawn: its demand and its emitter follow its pressure, and it balances with q
 -- besides.
-pub record JunctionObeysDrawing (network : Project) (time S : ℕ) (assignment : Assignment) (q : ℤ) (j : ℕ)
+pub record JunctionObeysDrawing (project : Project) (time S : ℕ) (assignment : Assignment) (q : ℤ) (j : ℕ)
     (junction : Junction) : Type 0 where
-  pub demand : FollowsDemand network time junction S
+  pub demand : FollowsDemand project time junction S
       (head_at assignment.heads j -ℤ at_scale S junction.elevation) (flow_at assignment.demands j)
   pub emitter : FollowsEmitter junction S
       (head_at assignment.heads j -ℤ at_scale S junction.elevation) (flow_at assignment.emitters j)
-  pub balance : IsBalanced S (net_outflow j network.links.list assignment.flows +ℤ q)
+  pub balance : IsBalanced S (net_outflow j project.links.list assignment.flows +ℤ q)
       (flow_at assignment.demands j) (flow_at assignment.emitters j)
 
 -- An assignment, as of a period without a draw, but that q S-th parts of a flow tick are drawn at junction number
 -- `place`.
-pub record IsAssignmentDrawing (network : Project) (S time : ℕ) (levels : List ℤ) (tanks : List TankState)
+pub record IsAssignmentDrawing (project : Project) (S time : ℕ) (levels : List ℤ) (tanks : List TankState)
     (links : List LinkState) (place : ℕ) (q : ℤ) (assignment : Assignment) : Type 0 where
   pub scale : 1 ≤ S
-  pub level_each : length levels ≡ tank_count network
-  pub tank_each : length tanks ≡ tank_count network
-  pub head_each : length assignment.heads ≡ junction_count network
-  pub demand_each : length assignment.demands ≡ junction_count network
-  pub emitter_each : length assignment.emitters ≡ junction_count network
-  pub links_follow : LinksFollow network tanks S (node_heads network S time levels assignment.heads)
-      network.links.list links assignment.flows
-  pub junctions_obey : Each network.junctions.list (λ j junction.
-      JunctionObeysDrawing network time S assignment (where_so (j == place) q) j junction)
+  pub level_each : length levels ≡ tank_count project
+  pub tank_each : length tanks ≡ tank_count project
+  pub head_each : length assignment.heads ≡ junction_count project
+  pub demand_each : length assignment.demands ≡ junction_count project
+  pub emitter_each : length assignment.emitters ≡ junction_count project
+  pub links_follow : LinksFollow project tanks S (node_heads project S time levels assignment.heads)
+      project.links.list links assignment.flows
+  pub junctions_obey : Each project.junctions.list (λ j junction.
+      JunctionObeysDrawing project time S assignment (where_so (j == place) q) j junction)

@@ -17,21 +17,21 @@ use Rattle.hyd_spec.specs.Scale.{cut, total}
 
 -- The numbers of the file are in feet, inches and psi (else in metres and millimetres).
 abbrev pub is_us : Project → Bool
-is_us network = is_us_unit network.options.unit
+is_us project = is_us_unit project.options.unit
 
 -- ---- patterns
 
 -- The multipliers of a pattern, in nano; none where there is no such pattern.
 abbrev pub multipliers_of : Project → ℕ → List ℤ
-multipliers_of network pattern =
-    option_map_or (λ p. p.multipliers.list) (slice_get network.patterns.list pattern) []
+multipliers_of project pattern =
+    option_map_or (λ p. p.multipliers.list) (slice_get project.patterns.list pattern) []
 
 -- The multiplier of a pattern at a time, in nano. The pattern's steps are counted from 0 at
 -- time 0 less the pattern start, and the pattern is repeated.
 abbrev pub multiplier_at : Project → ℕ → ℕ → ℤ
-multiplier_at network pattern time =
-    let multipliers = multipliers_of network pattern in
-    let step = (time + network.times.pattern_start) / network.times.pattern in
+multiplier_at project pattern time =
+    let multipliers = multipliers_of project pattern in
+    let step = (time + project.times.pattern_start) / project.times.pattern in
     slice_index_or multipliers (step % length multipliers) (pos 0)
 
 -- ---- demands and reservoir heads
@@ -39,26 +39,26 @@ multiplier_at network pattern time =
 -- The multiplier of a demand category, in nano: that of its own pattern, else of the default
 -- pattern, else 1.
 abbrev pub category_multiplier : Project → ℕ → Demand → ℤ
-category_multiplier network time category =
-    option_map_or (λ pattern. multiplier_at network pattern time)
-    (option_or category.pattern network.options.default_pattern) (pos (10 ^ 9))
+category_multiplier project time category =
+    option_map_or (λ pattern. multiplier_at project pattern time)
+    (option_or category.pattern project.options.default_pattern) (pos (10 ^ 9))
 
 -- The demand of a category in flow ticks: its base times the product of its multiplier and the
 -- demand multiplier, that product cut after nine decimals, the result cut to whole ticks.
 abbrev pub category_demand : Project → ℕ → Demand → ℤ
-category_demand network time category =
-    let factor = cut (category_multiplier network time category *ℤ network.options.multiplier.nano) (10 ^ 9) in
+category_demand project time category =
+    let factor = cut (category_multiplier project time category *ℤ project.options.multiplier.nano) (10 ^ 9) in
     cut (category.base *ℤ factor) (10 ^ 9)
 
 -- The demand of a junction at a time, in flow ticks: the sum over its categories.
 abbrev pub demand_of : Project → ℕ → Junction → ℤ
-demand_of network time junction = total (map (category_demand network time) junction.demands.list)
+demand_of project time junction = total (map (category_demand project time) junction.demands.list)
 
 -- The head of a reservoir at a time, in head ticks: its base head, times its pattern's multiplier
 -- where it has a pattern, cut to whole ticks.
 abbrev pub reservoir_head : Project → ℕ → Reservoir → ℤ
-reservoir_head network time reservoir =
-    option_map_or (λ pattern. cut (reservoir.head *ℤ multiplier_at network pattern time) (10 ^ 9))
+reservoir_head project time reservoir =
+    option_map_or (λ pattern. cut (reservoir.head *ℤ multiplier_at project pattern time) (10 ^ 9))
     reservoir.pattern reservoir.head
 
 -- ---- pumps and pressures
@@ -101,8 +101,8 @@ pressure_value us pressure = record { num = pressure_numerator us pressure.nano;
 
 -- The minimum pressure, in head ticks: up to it a pressure-driven demand gets nothing.
 abbrev pub minimum_pressure : Project → Rational
-minimum_pressure network = pressure_value (is_us network) network.options.p0
+minimum_pressure project = pressure_value (is_us project) project.options.p0
 
 -- The required pressure, in head ticks: from it on a pressure-driven demand gets all.
 abbrev pub required_pressure : Project → Rational
-required_pressure network = pressure_value (is_us network) network.options.pf
+required_pressure project = pressure_value (is_us project) project.options.pf

@@ -71,39 +71,39 @@ is_empty Empty = true
 
 -- The node is a full tank.
 abbrev pub is_full_tank : Project → List TankState → ℕ → Bool
-is_full_tank network tanks node =
-    is_tank network node && option_map_or is_full (slice_get tanks (tank_number network node)) false
+is_full_tank project tanks node =
+    is_tank project node && option_map_or is_full (slice_get tanks (tank_number project node)) false
 
 -- The node is an empty tank.
 abbrev pub is_empty_tank : Project → List TankState → ℕ → Bool
-is_empty_tank network tanks node =
-    is_tank network node && option_map_or is_empty (slice_get tanks (tank_number network node)) false
+is_empty_tank project tanks node =
+    is_tank project node && option_map_or is_empty (slice_get tanks (tank_number project node)) false
 
 -- The node is a tank that overflows: where it is full it takes further inflow, which is spilled.
 abbrev pub overflows : Project → ℕ → Bool
-overflows network node =
-    is_tank network node
-    && option_map_or (λ (tank : Tank). tank.overflow) (slice_get network.tanks.list (tank_number network node)) false
+overflows project node =
+    is_tank project node
+    && option_map_or (λ (tank : Tank). tank.overflow) (slice_get project.tanks.list (tank_number project node)) false
 
 -- Nothing flows into the node: it is a full tank that doesn't overflow.
 abbrev pub takes_nothing : Project → List TankState → ℕ → Bool
-takes_nothing network tanks node = is_full_tank network tanks node && not (overflows network node)
+takes_nothing project tanks node = is_full_tank project tanks node && not (overflows project node)
 
 -- Nothing flows from the first node of the link to the second: into a full tank that doesn't overflow, or out of an
 -- empty one.
 abbrev pub forbids_forward : Project → List TankState → Link → Bool
-forbids_forward network tanks link =
-    takes_nothing network tanks link.to || is_empty_tank network tanks link.from
+forbids_forward project tanks link =
+    takes_nothing project tanks link.to || is_empty_tank project tanks link.from
 
 -- Nothing flows from the second node of the link to the first.
 abbrev pub forbids_reverse : Project → List TankState → Link → Bool
-forbids_reverse network tanks link =
-    takes_nothing network tanks link.from || is_empty_tank network tanks link.to
+forbids_reverse project tanks link =
+    takes_nothing project tanks link.from || is_empty_tank project tanks link.to
 
 -- The law of a link in its state, between the tanks in theirs: where its own flow would go a forbidden
 -- way, it is 0.
 abbrev pub law_of : Project → List TankState → Link → LinkState → Law
-law_of network tanks link state =
-    let own = own_law (is_us network) network.bends.list link.kind state in
-    let one_way = (if forbids_forward network tanks link then ReverseOnly own else own) in
-    if forbids_reverse network tanks link then ForwardOnly one_way else one_way
+law_of project tanks link state =
+    let own = own_law (is_us project) project.bends.list link.kind state in
+    let one_way = (if forbids_forward project tanks link then ReverseOnly own else own) in
+    if forbids_reverse project tanks link then ForwardOnly one_way else one_way

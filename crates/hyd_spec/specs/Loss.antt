@@ -10,18 +10,20 @@
 -- (minor losses).
 use Rattle.std.specs.Prelude.{ℕ, ◌*◌, ◌^◌, ◌≤◌, Bool}
 use Rattle.hyd_num.specs.Fraction.{Fraction, AtMost, times, minus, over, power}
-use Rattle.hyd_num.specs.FileQuantity.{billionths, ordinary, feet, feet_across}
+use Rattle.hyd_num.specs.FileQuantity.{billionths, ordinary, feet, feet_across, flow_factor}
+use Rattle.hyd_num.specs.FileQuantity.{ten_thousandths_of_metre_in_foot}
+use Rattle.hyd_num.specs.declared.flow_units.FlowUnit.TheVariants.{Cfs}
 use Rattle.hyd_spec.specs.ProgramTypes.{Decimal}
 
 -- ---- units of the formulas
 
--- Head in feet: one foot is 3048 * 10^9 head ticks.
+-- Head in feet: one foot is 0.3048 m, and one metre 10^13 head ticks.
 abbrev pub head_in_feet : ℕ → ℕ → Fraction
-head_in_feet S y = record { num = y; den = S * (3048 * 10 ^ 9) }
+head_in_feet S y = record { num = y; den = S * (ten_thousandths_of_metre_in_foot * 10 ^ 9) }
 
--- Flow in cubic feet a second: one is 24465755455488 / 1000 flow ticks.
+-- Flow in cubic feet a second: one is the numerator of its factor in thousandths of a flow tick.
 abbrev pub flow_in_cfs : ℕ → ℕ → Fraction
-flow_in_cfs S q = record { num = 1000 * q; den = S * 24465755455488 }
+flow_in_cfs S q = record { num = 1000 * q; den = S * (flow_factor Cfs).num }
 
 -- ---- the two summands
 

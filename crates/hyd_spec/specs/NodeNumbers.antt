@@ -6,28 +6,28 @@ use Rattle.hyd_spec.specs.ProgramTypes.{Project}
 
 -- The number of junctions.
 abbrev pub junction_count : Project → ℕ
-junction_count network = length network.junctions.list
+junction_count project = length project.junctions.list
 
 -- The number of reservoirs.
 abbrev pub reservoir_count : Project → ℕ
-reservoir_count network = length network.reservoirs.list
+reservoir_count project = length project.reservoirs.list
 
 -- The number of tanks.
 abbrev pub tank_count : Project → ℕ
-tank_count network = length network.tanks.list
+tank_count project = length project.tanks.list
 
 -- The number of nodes before the first tank.
 abbrev pub nodes_before_tanks : Project → ℕ
-nodes_before_tanks network = junction_count network + reservoir_count network
+nodes_before_tanks project = junction_count project + reservoir_count project
 
 -- The node of tank number `tank`.
 abbrev pub tank_node : Project → ℕ → ℕ
-tank_node network tank = nodes_before_tanks network + tank
+tank_node project tank = nodes_before_tanks project + tank
 
 -- The node is a tank.
 abbrev pub is_tank : Project → ℕ → Bool
-is_tank network node = nat_le (nodes_before_tanks network) node
+is_tank project node = nat_le (nodes_before_tanks project) node
 
 -- The tank's number of a node that is a tank.
 abbrev pub tank_number : Project → ℕ → ℕ
-tank_number network node = node - nodes_before_tanks network
+tank_number project node = node - nodes_before_tanks project

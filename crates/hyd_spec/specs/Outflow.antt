@@ -22,41 +22,41 @@ pressure_at S p = record { num = p; den = S }
 
 -- The demand at the junction depends on the pressure: pressure-driven analysis, and a demand above 0.
 abbrev pub is_pressure_driven : Project → ℤ → Bool
-is_pressure_driven network demand = if int_le demand (pos 0) then false else network.options.pda
+is_pressure_driven project demand = if int_le demand (pos 0) then false else project.options.pda
 
 -- The flow between the two pressures is at least a number: of a demand D it is v with v^2 (Pf - P0) = D^2 (p - P0), v
 -- at least 0, the square root law of the pressure above the minimum.
 abbrev pub part_at_least : Project → ℤ → Relation
-part_at_least network demand =
-    let resistance = pressure_resistance demand network.options.p0 network.options.pf (is_us network) in
-    lifted (negated (minimum_pressure network))
+part_at_least project demand =
+    let resistance = pressure_resistance demand project.options.p0 project.options.pf (is_us project) in
+    lifted (negated (minimum_pressure project))
     (odd_at_least (SquareLossAtMost resistance) (SquareLossAtLeast resistance))
 
 -- The flow between the two pressures is at most a number.
 abbrev pub part_at_most : Project → ℤ → Relation
-part_at_most network demand =
-    let resistance = pressure_resistance demand network.options.p0 network.options.pf (is_us network) in
-    lifted (negated (minimum_pressure network))
+part_at_most project demand =
+    let resistance = pressure_resistance demand project.options.p0 project.options.pf (is_us project) in
+    lifted (negated (minimum_pressure project))
     (odd_at_most (SquareLossAtMost resistance) (SquareLossAtLeast resistance))
 
 -- Between the two pressures the square root law's flow is within the tolerance of q.
-pub record FollowsPart (network : Project) (demand : ℤ) (S : ℕ) (p q : ℤ) : Type 0 where
-  pub at_least : part_at_least network demand S p (q -ℤ tolerance S)
-  pub at_most : part_at_most network demand S p (q +ℤ tolerance S)
+pub record FollowsPart (project : Project) (demand : ℤ) (S : ℕ) (p q : ℤ) : Type 0 where
+  pub at_least : part_at_least project demand S p (q -ℤ tolerance S)
+  pub at_most : part_at_most project demand S p (q +ℤ tolerance S)
 
 -- The flow q (S-th parts) of a pressure-driven demand (whole flow ticks) at pressure p: within the tolerance of nothing
 -- up to the minimum pressure, of the whole demand from the required one on, of the square root law between.
 abbrev pub FollowsPressure : Project → ℤ → ℕ → ℤ → ℤ → Type 0
-FollowsPressure network demand S p q =
-    MatchBool (is_at_most (pressure_at S p) (minimum_pressure network)) (IsWithinTolerance S q (pos 0))
-    (MatchBool (is_at_most (required_pressure network) (pressure_at S p)) (IsWithinTolerance S q (at_scale S demand))
-    (FollowsPart network demand S p q))
+FollowsPressure project demand S p q =
+    MatchBool (is_at_most (pressure_at S p) (minimum_pressure project)) (IsWithinTolerance S q (pos 0))
+    (MatchBool (is_at_most (required_pressure project) (pressure_at S p)) (IsWithinTolerance S q (at_scale S demand))
+    (FollowsPart project demand S p q))
 
 -- The demand flow q of a junction at a time and pressure p.
 abbrev pub FollowsDemand : Project → ℕ → Junction → ℕ → ℤ → ℤ → Type 0
-FollowsDemand network time junction S p q =
-    let demand = demand_of network time junction in
-    MatchBool (is_pressure_driven network demand) (FollowsPressure network demand S p q)
+FollowsDemand project time junction S p q =
+    let demand = demand_of project time junction in
+    MatchBool (is_pressure_driven project demand) (FollowsPressure project demand S p q)
     (IsWithinTolerance S q (at_scale S demand))
 
 -- The emitter flow q of a junction at pressure p: within the tolerance of C p^0.5, in reverse at a

@@ -18,7 +18,7 @@ day = 86400
 
 -- What the clock shows at a time.
 abbrev pub clock_at : Project → ℕ → ℕ
-clock_at network time = (time + network.times.start_clock) % day
+clock_at project time = (time + project.times.start_clock) % day
 
 -- ---- pump patterns
 
@@ -28,16 +28,16 @@ speed_state speed = if int_le speed (pos 0) then Closed else Speed speed
 
 -- Pumps take their pattern's multiplier at time 0 and where a step of the patterns begins.
 abbrev pub is_pattern_boundary : Project → ℕ → Bool
-is_pattern_boundary network time =
-    (time == 0) || ((time + network.times.pattern_start) % network.times.pattern == 0)
+is_pattern_boundary project time =
+    (time == 0) || ((time + project.times.pattern_start) % project.times.pattern == 0)
 
 -- The state of a link at time 0 or where a step of the patterns begins: a pump with a pattern takes its multiplier as
 -- speed.
 abbrev pub patterned_state : Project → ℕ → Link → LinkState → LinkState
-patterned_state network time link state = by_kind link.kind
+patterned_state project time link state = by_kind link.kind
   where
     by_pattern : Option ℕ → LinkState
-    by_pattern (Some pattern) = speed_state (multiplier_at network pattern time)
+    by_pattern (Some pattern) = speed_state (multiplier_at project pattern time)
     by_pattern None = state
 
     by_kind : LinkKind → LinkState
@@ -51,34 +51,34 @@ patterned_state network time link state = by_kind link.kind
 
 -- The states of all links at such a time.
 abbrev pub after_patterns : Project → ℕ → List Link → List LinkState → List LinkState
-after_patterns network time [] states = states
-after_patterns network time (link ∷ links) [] = []
-after_patterns network time (link ∷ links) (state ∷ states) =
-    patterned_state network time link state ∷ after_patterns network time links states
+after_patterns project time [] states = states
+after_patterns project time (link ∷ links) [] = []
+after_patterns project time (link ∷ links) (state ∷ states) =
+    patterned_state project time link state ∷ after_patterns project time links states
 
 -- The states of all links after pump patterns at the start of a period.
 abbrev pub patterned : Project → ℕ → List LinkState → List LinkState
-patterned network time states =
-    if is_pattern_boundary network time then after_patterns network time network.links.list states else states
+patterned project time states =
+    if is_pattern_boundary project time then after_patterns project time project.links.list states else states
 
 -- ---- simple controls
 
 -- A control acts at a time, where `acts` says whether a level control does.
 abbrev pub control_acts : Project → ℕ → (ℕ → Bool → ℤ → Bool) → When → Bool
-control_acts network time acts (AtLevel tank above ticks) = acts tank above ticks
-control_acts network time acts (AtTime at) = at == time
-control_acts network time acts (AtClock at) = at == clock_at network time
+control_acts project time acts (AtLevel tank above ticks) = acts tank above ticks
+control_acts project time acts (AtTime at) = at == time
+control_acts project time acts (AtClock at) = at == clock_at project time
 
 -- The link states after the controls, carried out in order, a later one overriding.
 abbrev pub controlled : Project → ℕ → (ℕ → Bool → ℤ → Bool) → List LinkState → List LinkState
-controlled network time acts states =
-    fold (λ links control. if control_acts network time acts control.when then slice_set links control.link control.to
+controlled project time acts states =
+    fold (λ links control. if control_acts project time acts control.when then slice_set links control.link control.to
     else links)
-    states network.controls.list
+    states project.controls.list
 
 -- The link states of a period that starts at `time`, from those commanded before.
 abbrev pub started : Project → ℕ → (ℕ → Bool → ℤ → Bool) → List LinkState → List LinkState
-started network time acts states = controlled network time acts (patterned network time states)
+started project time acts states = controlled project time acts (patterned project time states)
 
 -- Whether a level control acts at the levels of a history (S-th parts of a tick): ABOVE means at least, BELOW at
 -- most.

@@ -75,11 +75,11 @@ pub record Readings : Type 0 where
 
 -- The elevation of a junction (head ticks).
 abbrev pub elevation_of : Project → ℕ → ℤ
-elevation_of network node = option_map_or (λ j. j.elevation) (slice_get network.junctions.list node) (pos 0)
+elevation_of project node = option_map_or (λ j. j.elevation) (slice_get project.junctions.list node) (pos 0)
 
 -- The bottom of a tank (head ticks).
 abbrev pub bottom_of : Project → ℕ → ℤ
-bottom_of network tank = option_map_or (λ t. t.bottom) (slice_get network.tanks.list tank) (pos 0)
+bottom_of project tank = option_map_or (λ t. t.bottom) (slice_get project.tanks.list tank) (pos 0)
 
 -- The carried level of a tank, in S-th parts of a tick.
 abbrev pub level_of : Readings → ℕ → Rational
@@ -87,18 +87,18 @@ level_of readings tank = slice_index_or readings.levels tank (whole (pos 0))
 
 -- The head of a node: a tank's follows from its carried level.
 abbrev pub head_of : Project → ℕ → Readings → ℕ → Rational
-head_of network S readings node =
-    if is_tank network node
-    then total_of (level_of readings (tank_number network node))
-    (whole (at_scale S (bottom_of network (tank_number network node))))
+head_of project S readings node =
+    if is_tank project node
+    then total_of (level_of readings (tank_number project node))
+    (whole (at_scale S (bottom_of project (tank_number project node))))
     else whole (slice_index_or readings.heads node (pos 0))
 
 -- The pressure of a node: a junction's head above its elevation, a tank's above its bottom.
 abbrev pub pressure_of : Project → ℕ → Readings → ℕ → Rational
-pressure_of network S readings node =
-    if is_tank network node
-    then level_of readings (tank_number network node)
-    else whole (slice_index_or readings.heads node (pos 0) -ℤ at_scale S (elevation_of network node))
+pressure_of project S readings node =
+    if is_tank project node
+    then level_of readings (tank_number project node)
+    else whole (slice_index_or readings.heads node (pos 0) -ℤ at_scale S (elevation_of project node))
 
 -- A value in S-th parts, as a value in ticks.
 abbrev pub in_ticks : ℕ → Rational → Rational
@@ -106,19 +106,19 @@ in_ticks S x = record { num = x.num; den = x.den * S }
 
 -- What a clause measures, in ticks; a setting in nano.
 abbrev pub measured : Project → ℕ → Readings → What → Rational
-measured network S readings (Head node) = in_ticks S (head_of network S readings node)
-measured network S readings (Pressure node) = in_ticks S (pressure_of network S readings node)
-measured network S readings (Level tank) = in_ticks S (level_of readings tank)
-measured network S readings (Flow link) = in_ticks S (whole (pos (slice_index_or readings.flows link 0)))
-measured network S readings (Setting link) = whole (setting_of (state_of_link readings.links link))
-measured network S readings what = whole (pos 0)
+measured project S readings (Head node) = in_ticks S (head_of project S readings node)
+measured project S readings (Pressure node) = in_ticks S (pressure_of project S readings node)
+measured project S readings (Level tank) = in_ticks S (level_of readings tank)
+measured project S readings (Flow link) = in_ticks S (whole (pos (slice_index_or readings.flows link 0)))
+measured project S readings (Setting link) = whole (setting_of (state_of_link readings.links link))
+measured project S readings what = whole (pos 0)
 
 -- The amount that a clause compares with, in ticks or nano. A pressure in psi need not be a whole number of
 -- ticks; every other amount is, or was cut to one.
 abbrev pub amount : Project → What → Value → Rational
-amount network (Pressure node) (Amount span number) = pressure_value (is_us network) number
-amount network what (Amount span number) = whole span.lo
-amount network what value = whole (pos 0)
+amount project (Pressure node) (Amount span number) = pressure_value (is_us project) number
+amount project what (Amount span number) = whole span.lo
+amount project what value = whole (pos 0)
 
 -- ---- clauses
 
@@ -158,28 +158,28 @@ seconds_of value = 0
 
 -- The time v has come within the last rule step at the second s: s less the rule step is below v, and v is at most s.
 abbrev pub has_come : Project → ℕ → ℕ → Bool
-has_come network time at = nat_le at time && nat_lt time (at + network.times.rule)
+has_come project time at = nat_le at time && nat_lt time (at + project.times.rule)
 
 -- The same of a time of day, modulo a day, where the clock shows `now`.
 abbrev pub has_come_today : Project → ℕ → ℕ → Bool
-has_come_today network now at = nat_lt ((now + day - at % day) % day) network.times.rule
+has_come_today project now at = nat_lt ((now + day - at % day) % day) project.times.rule
 
 -- A clause on this subject holds at an instant.
 abbrev pub holds_on : Project → ℕ → ℕ → Readings → What → Relation → Value → Bool
-holds_on network S time readings (Status link) relation value =
+holds_on project S time readings (Status link) relation value =
     status_holds relation (state_word (state_of_link readings.links link)) value
-holds_on network S time readings Time relation value =
-    time_holds relation time (seconds_of value) (has_come network time (seconds_of value))
-holds_on network S time readings Clock relation value =
-    time_holds relation (clock_at network time) (seconds_of value) (has_come_today network (clock_at network time)
+holds_on project S time readings Time relation value =
+    time_holds relation time (seconds_of value) (has_come project time (seconds_of value))
+holds_on project S time readings Clock relation value =
+    time_holds relation (clock_at project time) (seconds_of value) (has_come_today project (clock_at project time)
     (seconds_of value))
-holds_on network S time readings what relation value =
-    compares relation (measured network S readings what) (amount network what value)
+holds_on project S time readings what relation value =
+    compares relation (measured project S readings what) (amount project what value)
 
 -- A clause holds at an instant.
 abbrev pub clause_holds : Project → ℕ → ℕ → Readings → Clause → Bool
-clause_holds network S time readings clause =
-    holds_on network S time readings clause.what clause.relation clause.value
+clause_holds project S time readings clause =
+    holds_on project S time readings clause.what clause.relation clause.value
 
 -- ---- premises
 
@@ -208,12 +208,12 @@ groups_of rule = groups_in (parts_of rule.clauses.list)
 
 -- A rule is true where each of its groups has a clause that holds.
 abbrev pub rule_holds : Project → ℕ → ℕ → Readings → Rule → Bool
-rule_holds network S time readings rule =
-    list_all (list_any (clause_holds network S time readings)) (groups_of rule)
+rule_holds project S time readings rule =
+    list_all (list_any (clause_holds project S time readings)) (groups_of rule)
 
 -- The values of all rules, in order.
 abbrev pub rule_values : Project → ℕ → ℕ → Readings → List Bool
-rule_values network S time readings = map (rule_holds network S time readings) network.rules.list
+rule_values project S time readings = map (rule_holds project S time readings) project.rules.list
 
 -- ---- actions
 
@@ -266,14 +266,14 @@ change_by state offer =
 
 -- What the rules change of a link: its state becomes that of the offer of highest rank to it.
 abbrev pub change_of : Project → List Bool → ℕ → LinkState → Option Change
-change_of network values link state =
-    option_and_then (change_by state) (best_offer link (offers_from 0 network.rules.list values))
+change_of project values link state =
+    option_and_then (change_by state) (best_offer link (offers_from 0 project.rules.list values))
 
 -- What the rules change, in order of the links.
 abbrev pub rule_changes : Project → List Bool → List LinkState → List Change
-rule_changes network values links = present (map_from (change_of network values) 0 links)
+rule_changes project values links = present (map_from (change_of project values) 0 links)
 
 -- The link states after the rules' actions.
 abbrev pub acted : Project → List Bool → List LinkState → List LinkState
-acted network values links =
-    map_from (λ link state. option_map_or (λ change. change.to) (change_of network values link state) state) 0 links
+acted project values links =
+    map_from (λ link state. option_map_or (λ change. change.to) (change_of project values link state) state) 0 links

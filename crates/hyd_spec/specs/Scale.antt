@@ -7,9 +7,17 @@ use Rattle.std.specs.Prelude.{ℕ, ℤ, pos, ◌+ℤ◌, ◌*ℤ◌, int_div, in
 abbrev pub at_scale : ℕ → ℤ → ℤ
 at_scale S ticks = pos S *ℤ ticks
 
--- What flows, demands and balances may miss: ten flow ticks, in S-th parts of a tick.
+-- What flows, demands and balances may miss, in flow ticks.
+abbrev pub missed_flow_ticks : ℕ
+missed_flow_ticks = 10
+
+-- What the level or the volume of a next stock may miss, in level or volume ticks.
+abbrev pub missed_stock_ticks : ℕ
+missed_stock_ticks = 10
+
+-- What flows, demands and balances may miss, in S-th parts of a flow tick.
 abbrev pub tolerance : ℕ → ℤ
-tolerance S = at_scale S (pos 10)
+tolerance S = at_scale S (pos missed_flow_ticks)
 
 -- The sum of a list.
 abbrev pub total : List ℤ → ℤ

@@ -9,7 +9,7 @@ use Rattle.std.specs.Option.{option_map_or}
 use Rattle.hyd_net.specs.Curves.{Knot, value_at, volume_at}
 use Rattle.hyd_spec.specs.ProgramTypes.{Project, Tank, VolumePoint, TankState, Full, Between, Empty}
 use Rattle.hyd_num.specs.Rational.{Rational, is_at_most, whole}
-use Rattle.hyd_spec.specs.Scale.{at_scale, is_same_number}
+use Rattle.hyd_spec.specs.Scale.{at_scale, missed_stock_ticks, is_same_number}
 use Rattle.hyd_spec.specs.Assignment.{net_outflow}
 use Rattle.hyd_spec.specs.NodeNumbers.{tank_node}
 
@@ -29,12 +29,12 @@ pub data Walls : Type 0 where
 
 -- The points of a volume curve of the network; none where there is no such curve.
 abbrev pub shape_points : Project → ℕ → List VolumePoint
-shape_points network shape = option_map_or (λ points. points.list) (slice_get network.shapes.list shape) []
+shape_points project shape = option_map_or (λ points. points.list) (slice_get project.shapes.list shape) []
 
 -- The walls of a tank.
 abbrev pub walls_of : Project → Tank → Walls
-walls_of network tank =
-    option_map_or (λ shape. Curve (shape_points network shape)) tank.shape (Cylinder (unsigned_abs tank.area))
+walls_of project tank =
+    option_map_or (λ shape. Curve (shape_points project shape)) tank.shape (Cylinder (unsigned_abs tank.area))
 
 -- ---- content
 
@@ -155,8 +155,8 @@ has_reached S (Curve points) tank stock inflow above target seconds =
 
 -- `next` lies within ten ticks of the value x, and within its bounds.
 pub record IsNear (S : ℕ) (range : Bounds) (x : Rational) (next : ℤ) : Type 0 where
-  pub near_below : (x.num -ℤ (pos x.den *ℤ at_scale S (pos 10))) ≤ℤ (pos x.den *ℤ next)
-  pub near_above : (pos x.den *ℤ next) ≤ℤ (x.num +ℤ (pos x.den *ℤ at_scale S (pos 10)))
+  pub near_below : (x.num -ℤ (pos x.den *ℤ at_scale S (pos missed_stock_ticks))) ≤ℤ (pos x.den *ℤ next)
+  pub near_above : (pos x.den *ℤ next) ≤ℤ (x.num +ℤ (pos x.den *ℤ at_scale S (pos missed_stock_ticks)))
   pub above_least : at_scale S range.least ≤ℤ next
   pub below_most : next ≤ℤ at_scale S range.most
 
@@ -210,4 +210,4 @@ tank_state S tank level =
 
 -- The inflow of a tank: the sum of the flows of its links toward it.
 abbrev pub tank_inflow : Project → ℕ → List ℤ → ℤ
-tank_inflow network tank flows = neg_ℤ (net_outflow (tank_node network tank) network.links.list flows)
+tank_inflow project tank flows = neg_ℤ (net_outflow (tank_node project tank) project.links.list flows)

@@ -4,6 +4,13 @@
 
 use hyd_net::LinkState;
 
+/// What a flow, a demand or a balance may miss, in flow ticks of 10^-7 cubic metres a day.
+pub const MISSED_FLOW_TICKS: i64 = 10;
+
+/// What the level or the volume of a tank's next stock may miss, in level ticks of 10^-13 m or volume ticks of 10^-9
+/// cubic metres.
+pub const MISSED_STOCK_TICKS: i64 = 10;
+
 /// How full a tank is at the start of a period (EPANET 2.2 User Manual, chapter 3, tanks).
 #[derive(Debug, Clone, Copy, PartialEq, Eq, Drop)]
 pub enum TankState {

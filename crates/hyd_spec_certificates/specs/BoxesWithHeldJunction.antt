@@ -2,6 +2,7 @@
 -- Flows are in flow ticks, heads in head ticks.
 -- Source: this program's, from the bounds of heads (Rheinboldt 1970).
 use Rattle.std.specs.Prelude.{ℕ, ℤ, pos, neg_ℤ, ◌+ℤ◌, ◌-ℤ◌, List}
+use Rattle.hyd_spec.specs.Scale.{missed_flow_ticks}
 use Rattle.hyd_spec.specs.Assignment.{head_at}
 use Rattle.hyd_spec_certificates.specs.declared.Problem.TheVariants.{Main}
 use Rattle.hyd_spec_certificates.specs.declared.Side.{Side}
@@ -20,7 +21,7 @@ held_in u junction = record { junction = junction; head = head_at u junction }
 -- the LOWER head of the certificates with none held, to the high flow under the LOWER vector, in which it stands at
 -- their UPPER head; widened by the tolerance.
 abbrev pub held_flow_box : GridLink → List ℤ → List ℤ → Interval
-held_flow_box link held_below held_above = widened (pos 10) (record {
+held_flow_box link held_below held_above = widened (pos missed_flow_ticks) (record {
   lo = low link.law (head_at held_above link.from -ℤ head_at held_above link.to);
   hi = high link.law (head_at held_below link.from -ℤ head_at held_below link.to);
 })

@@ -46,8 +46,8 @@ flow_boxes grid row = map (λ link. flow_box link (heads_below grid row) (heads_
 
 -- The inflow box of each tank, from the vectors with it pinned.
 abbrev pub inflow_boxes : Project → Grid → Record → List Interval
-inflow_boxes network grid row =
-    map_from (λ k vectors. inflow_box grid k (tank_node network k) vectors.lower vectors.upper) 0 row.pinned
+inflow_boxes project grid row =
+    map_from (λ k vectors. inflow_box grid k (tank_node project k) vectors.lower vectors.upper) 0 row.pinned
 
 -- What stands for the interval of a tank that isn't there.
 abbrev pub nowhere : Interval
@@ -66,7 +66,7 @@ stocks_of_tank standing k = record {
 
 -- The inflow interval (flow ticks) of tank number k.
 abbrev pub inflow_of_tank : Project → Grid → Record → ℕ → Interval
-inflow_of_tank network grid row k = slice_index_or (inflow_boxes network grid row) k nowhere
+inflow_of_tank project grid row k = slice_index_or (inflow_boxes project grid row) k nowhere
 
 -- ---- level controls
 
@@ -81,7 +81,7 @@ acts_on levels tank above ticks = is_yes (control_truth (slice_index_or levels t
 
 -- The link states of the period that begins at a standing.
 abbrev pub links_at : Project → Standing → List LinkState
-links_at network standing = started network standing.time (acts_on standing.levels) standing.commanded
+links_at project standing = started project standing.time (acts_on standing.levels) standing.commanded
 
 -- ---- events
 
@@ -113,42 +113,42 @@ watch_of levels control = by_when control.when
 
 -- All levels that are watched during the period: bounds of tanks, then levels of controls.
 abbrev pub watches : Project → Standing → List Watch
-watches network standing =
-    tank_watches 0 network.tanks.list standing.tanks
-    ++ present (map (watch_of standing.levels) network.controls.list)
+watches project standing =
+    tank_watches 0 project.tanks.list standing.tanks
+    ++ present (map (watch_of standing.levels) project.controls.list)
 
 -- A watched level reaches its target some seconds after the start, by a test of its tank's walls, of the tank, of its
 -- stocks and inflow, of the target and its direction, and of the seconds.
 pub record SomeReaches (test : Walls → Tank → Stocks → Interval → ℤ → Bool → ℕ → Bool)
-    (network : Project) (grid : Grid) (standing : Standing) (row : Record) (seconds : ℕ) : Type 0 where
+    (project : Project) (grid : Grid) (standing : Standing) (row : Record) (seconds : ℕ) : Type 0 where
   pub watch : Watch
-  pub is_watched : Contains (watches network standing) watch
+  pub is_watched : Contains (watches project standing) watch
   pub tank : Tank
-  pub is_tank : slice_get network.tanks.list watch.tank ≡ Some tank
-  pub reached : IsTrue (test (walls_of network tank) tank (stocks_of_tank standing watch.tank)
-      (inflow_of_tank network grid row watch.tank) watch.target watch.rising seconds)
+  pub is_tank : slice_get project.tanks.list watch.tank ≡ Some tank
+  pub reached : IsTrue (test (walls_of project tank) tank (stocks_of_tank standing watch.tank)
+      (inflow_of_tank project grid row watch.tank) watch.target watch.rising seconds)
 
 -- A watched level may have reached its target some seconds after the start.
 abbrev pub SomeMayReach : Project → Grid → Standing → Record → ℕ → Type 0
-SomeMayReach network grid standing row seconds = SomeReaches may_reach network grid standing row seconds
+SomeMayReach project grid standing row seconds = SomeReaches may_reach project grid standing row seconds
 
 -- A watched level must have reached its target some seconds after the start.
 abbrev pub SomeMustReach : Project → Grid → Standing → Record → ℕ → Type 0
-SomeMustReach network grid standing row seconds = SomeReaches must_reach network grid standing row seconds
+SomeMustReach project grid standing row seconds = SomeReaches must_reach project grid standing row seconds
 
 -- The length that the clock allows a period.
 abbrev pub IsClockLength : Project → ℕ → ℕ → Type 0
-IsClockLength network time cap = IsLeast (EndsByClock network time) (time + cap)
+IsClockLength project time cap = IsLeast (EndsByClock project time) (time + cap)
 
 -- The earliest second after the start at which the clock or an event may end the period.
 abbrev pub IsEarliestEnd : Project → Grid → Standing → Record → ℕ → Type 0
-IsEarliestEnd network grid standing row second =
-    IsLeast (λ s. IsClockLength network standing.time s ⊎ ((1 ≤ s) × SomeMayReach network grid standing row s)) second
+IsEarliestEnd project grid standing row second =
+    IsLeast (λ s. IsClockLength project standing.time s ⊎ ((1 ≤ s) × SomeMayReach project grid standing row s)) second
 
 -- The first second after the start by which the clock or an event must have ended the period: its latest end.
 abbrev pub IsLatestEnd : Project → Grid → Standing → Record → ℕ → Type 0
-IsLatestEnd network grid standing row second =
-    IsLeast (λ s. IsClockLength network standing.time s ⊎ ((1 ≤ s) × SomeMustReach network grid standing row s)) second
+IsLatestEnd project grid standing row second =
+    IsLeast (λ s. IsClockLength project standing.time s ⊎ ((1 ≤ s) × SomeMustReach project grid standing row s)) second
 
 -- ---- rules
 
@@ -165,91 +165,91 @@ greatest_magnitude x = unsigned_abs (int_max x.hi (neg_ℤ x.lo))
 
 -- The carried level intervals some seconds after the start.
 abbrev pub carried_at : Project → Grid → Standing → Record → ℕ → List Interval
-carried_at network grid standing row seconds =
-    map_from (λ k tank. carried_levels (walls_of network tank) tank (stocks_of_tank standing k)
-    (inflow_of_tank network grid row k) seconds) 0 network.tanks.list
+carried_at project grid standing row seconds =
+    map_from (λ k tank. carried_levels (walls_of project tank) tank (stocks_of_tank standing k)
+    (inflow_of_tank project grid row k) seconds) 0 project.tanks.list
 
 -- What the rules look at, from below.
 abbrev pub readings_below : Project → Grid → Standing → Record → ℕ → Readings
-readings_below network grid standing row seconds = record {
+readings_below project grid standing row seconds = record {
   heads = heads_below grid row;
-  levels = map (λ level. whole level.lo) (carried_at network grid standing row seconds);
+  levels = map (λ level. whole level.lo) (carried_at project grid standing row seconds);
   flows = map least_magnitude (flow_boxes grid row);
-  links = links_at network standing;
+  links = links_at project standing;
 }
 
 -- What the rules look at, from above.
 abbrev pub readings_above : Project → Grid → Standing → Record → ℕ → Readings
-readings_above network grid standing row seconds = record {
+readings_above project grid standing row seconds = record {
   heads = heads_above grid row;
-  levels = map (λ level. whole level.hi) (carried_at network grid standing row seconds);
+  levels = map (λ level. whole level.hi) (carried_at project grid standing row seconds);
   flows = map greatest_magnitude (flow_boxes grid row);
-  links = links_at network standing;
+  links = links_at project standing;
 }
 
 -- A clause at a time, where what the rules look at lies between two readings. A comparison goes one way, so that both
 -- ends decide; `=` and `<>` compare times and status words alone, which are the same in both readings.
 abbrev pub clause_between : Project → ℕ → Readings → Readings → Clause → Verdict
-clause_between network time below above clause =
-    at_both_ends (clause_holds network 1 time below clause) (clause_holds network 1 time above clause)
+clause_between project time below above clause =
+    at_both_ends (clause_holds project 1 time below clause) (clause_holds project 1 time above clause)
 
 -- A rule there, by three-valued logic over its groups.
 abbrev pub rule_between : Project → ℕ → Readings → Readings → Rule → Verdict
-rule_between network time below above rule =
-    all_hold (map (λ group. some_holds (map (clause_between network time below above) group)) (groups_of rule))
+rule_between project time below above rule =
+    all_hold (map (λ group. some_holds (map (clause_between project time below above) group)) (groups_of rule))
 
 -- The clause of a rule that is open there, the first by itself, and what it measures from below and above, in head or
 -- flow ticks, of a flow its magnitude, rounded outward to whole ticks.
-pub record IsOpenClause (network : Project) (time : ℕ) (below above : Readings) (rule : Rule) (clause : ℕ)
+pub record IsOpenClause (project : Project) (time : ℕ) (below above : Readings) (rule : Rule) (clause : ℕ)
     (lo hi : ℤ) : Type 0 where
-  pub first_clause : position (λ each. is_unknown (clause_between network time below above each.clause))
+  pub first_clause : position (λ each. is_unknown (clause_between project time below above each.clause))
       rule.clauses.list
       ≡ Some clause
   pub each : RuleClause
   pub is_clause : slice_get rule.clauses.list clause ≡ Some each
-  pub lo_is : lo ≡ floor (measured network 1 below each.clause.what)
-  pub hi_is : hi ≡ ceiling (measured network 1 above each.clause.what)
+  pub lo_is : lo ≡ floor (measured project 1 below each.clause.what)
+  pub hi_is : hi ≡ ceiling (measured project 1 above each.clause.what)
 
 -- What is known of a rule there: it is true, it is false, or it is open by a clause.
 abbrev pub IsTruthBetween : Project → ℕ → Readings → Readings → Rule → Truth → Type 0
-IsTruthBetween network time below above rule True = rule_between network time below above rule ≡ Yes
-IsTruthBetween network time below above rule False = rule_between network time below above rule ≡ No
-IsTruthBetween network time below above rule (Open clause lo hi) =
-    (rule_between network time below above rule ≡ Unknown) × IsOpenClause network time below above rule clause lo hi
+IsTruthBetween project time below above rule True = rule_between project time below above rule ≡ Yes
+IsTruthBetween project time below above rule False = rule_between project time below above rule ≡ No
+IsTruthBetween project time below above rule (Open clause lo hi) =
+    (rule_between project time below above rule ≡ Unknown) × IsOpenClause project time below above rule clause lo hi
 
 -- A clause at an instant, `seconds` after the start.
 abbrev pub clause_truth : Project → Grid → Standing → Record → ℕ → Clause → Verdict
-clause_truth network grid standing row seconds clause =
-    clause_between network (standing.time + seconds) (readings_below network grid standing row seconds)
-    (readings_above network grid standing row seconds) clause
+clause_truth project grid standing row seconds clause =
+    clause_between project (standing.time + seconds) (readings_below project grid standing row seconds)
+    (readings_above project grid standing row seconds) clause
 
 -- A rule some seconds after the start.
 abbrev pub rule_truth : Project → Grid → Standing → Record → ℕ → Rule → Verdict
-rule_truth network grid standing row seconds rule =
-    rule_between network (standing.time + seconds) (readings_below network grid standing row seconds)
-    (readings_above network grid standing row seconds) rule
+rule_truth project grid standing row seconds rule =
+    rule_between project (standing.time + seconds) (readings_below project grid standing row seconds)
+    (readings_above project grid standing row seconds) rule
 
 -- The truths of all rules, in order.
 abbrev pub rule_truths : Project → Grid → Standing → Record → ℕ → List Verdict
-rule_truths network grid standing row seconds =
-    map (rule_truth network grid standing row seconds) network.rules.list
+rule_truths project grid standing row seconds =
+    map (rule_truth project grid standing row seconds) project.rules.list
 
 -- What the rules change at an instant at which all of them are decided.
 abbrev pub decided_changes : Project → Grid → Standing → Record → ℕ → List Change
-decided_changes network grid standing row seconds =
-    rule_changes network (map is_yes (rule_truths network grid standing row seconds)) (links_at network standing)
+decided_changes project grid standing row seconds =
+    rule_changes project (map is_yes (rule_truths project grid standing row seconds)) (links_at project standing)
 
 -- The rules are tried some seconds after the start: at a multiple of the rule step.
-pub record IsTried (network : Project) (standing : Standing) (seconds : ℕ) : Type 0 where
+pub record IsTried (project : Project) (standing : Standing) (seconds : ℕ) : Type 0 where
   pub later : 0 < seconds
-  pub is_multiple : (standing.time + seconds) % network.times.rule ≡ 0
+  pub is_multiple : (standing.time + seconds) % project.times.rule ≡ 0
 
 -- The rules matter there: one is open, or they change a link.
-pub record RulesMatter (network : Project) (grid : Grid) (standing : Standing) (row : Record) (seconds : ℕ) : Type 0
+pub record RulesMatter (project : Project) (grid : Grid) (standing : Standing) (row : Record) (seconds : ℕ) : Type 0
   where
-    pub tried : IsTried network standing seconds
-    pub matters : IsTrue (list_any is_unknown (rule_truths network grid standing row seconds))
-        ⊎ (decided_changes network grid standing row seconds ≢ [])
+    pub tried : IsTried project standing seconds
+    pub matters : IsTrue (list_any is_unknown (rule_truths project grid standing row seconds))
+        ⊎ (decided_changes project grid standing row seconds ≢ [])
 
 -- ---- the end of a period
 
@@ -262,13 +262,13 @@ pub record OpenRule : Type 0 where
   pub hi : ℤ
 
 -- Some seconds after the start this is the open rule.
-pub record IsOpenRule (network : Project) (grid : Grid) (standing : Standing) (row : Record) (seconds : ℕ)
+pub record IsOpenRule (project : Project) (grid : Grid) (standing : Standing) (row : Record) (seconds : ℕ)
     (open_rule : OpenRule) : Type 0 where
-  pub first_rule : position is_unknown (rule_truths network grid standing row seconds) ≡ Some open_rule.rule
+  pub first_rule : position is_unknown (rule_truths project grid standing row seconds) ≡ Some open_rule.rule
   pub rule : Rule
-  pub is_rule : slice_get network.rules.list open_rule.rule ≡ Some rule
-  pub clause_is : IsOpenClause network (standing.time + seconds) (readings_below network grid standing row seconds)
-      (readings_above network grid standing row seconds) rule open_rule.clause open_rule.lo open_rule.hi
+  pub is_rule : slice_get project.rules.list open_rule.rule ≡ Some rule
+  pub clause_is : IsOpenClause project (standing.time + seconds) (readings_below project grid standing row seconds)
+      (readings_above project grid standing row seconds) rule open_rule.clause open_rule.lo open_rule.hi
 
 -- How a period that doesn't begin at the end of the run ends: after so many seconds, by the rules or without them;
 -- or it is open by a rule, or between two seconds.
@@ -280,34 +280,34 @@ pub data End : Type 0 where
 
 -- The first instant at which the rules matter, up to the earliest end, of a period that doesn't begin at the end of the
 -- run.
-pub record IsFirstMatter (network : Project) (grid : Grid) (standing : Standing) (row : Record) (seconds : ℕ) : Type 0
+pub record IsFirstMatter (project : Project) (grid : Grid) (standing : Standing) (row : Record) (seconds : ℕ) : Type 0
   where
-    pub not_last : standing.time ≢ network.times.duration
+    pub not_last : standing.time ≢ project.times.duration
     pub earliest : ℕ
-    pub is_earliest : IsEarliestEnd network grid standing row earliest
+    pub is_earliest : IsEarliestEnd project grid standing row earliest
     pub in_time : seconds ≤ earliest
-    pub first : IsLeast (RulesMatter network grid standing row) seconds
+    pub first : IsLeast (RulesMatter project grid standing row) seconds
 
 -- The rules matter at no instant up to the earliest end, in such a period.
-pub record NoRuleMatters (network : Project) (grid : Grid) (standing : Standing) (row : Record) (earliest : ℕ) : Type
+pub record NoRuleMatters (project : Project) (grid : Grid) (standing : Standing) (row : Record) (earliest : ℕ) : Type
     0 where
-  pub not_last : standing.time ≢ network.times.duration
-  pub is_earliest : IsEarliestEnd network grid standing row earliest
-  pub none : (seconds : ℕ) → RulesMatter network grid standing row seconds → earliest < seconds
+  pub not_last : standing.time ≢ project.times.duration
+  pub is_earliest : IsEarliestEnd project grid standing row earliest
+  pub none : (seconds : ℕ) → RulesMatter project grid standing row seconds → earliest < seconds
 
 -- The certificates of the record decide the end so. Where a rule is open at the first instant at which the rules
 -- matter, the end is open by it; where they only change links there, it goes to that instant; where they
 -- matter at no instant up to the earliest end, it is decided exactly where the latest end is the same.
-pub data EndsBy (network : Project) (grid : Grid) (standing : Standing) (row : Record) : End → Type 0 where
-  by_rules : {seconds : ℕ} → IsFirstMatter network grid standing row seconds
-      → IsFalse (list_any is_unknown (rule_truths network grid standing row seconds))
-      → EndsBy network grid standing row (ByRules seconds)
-  rule_is_open : {seconds : ℕ} {open_rule : OpenRule} → IsFirstMatter network grid standing row seconds
-      → IsOpenRule network grid standing row seconds open_rule
-      → EndsBy network grid standing row (RuleIsOpen open_rule)
-  by_clock : {second : ℕ} → NoRuleMatters network grid standing row second
-      → IsLatestEnd network grid standing row second
-      → EndsBy network grid standing row (WithoutRules second)
-  event_is_open : {earliest latest : ℕ} → NoRuleMatters network grid standing row earliest
-      → IsLatestEnd network grid standing row latest → earliest ≢ latest
-      → EndsBy network grid standing row (EventIsOpen earliest latest)
+pub data EndsBy (project : Project) (grid : Grid) (standing : Standing) (row : Record) : End → Type 0 where
+  by_rules : {seconds : ℕ} → IsFirstMatter project grid standing row seconds
+      → IsFalse (list_any is_unknown (rule_truths project grid standing row seconds))
+      → EndsBy project grid standing row (ByRules seconds)
+  rule_is_open : {seconds : ℕ} {open_rule : OpenRule} → IsFirstMatter project grid standing row seconds
+      → IsOpenRule project grid standing row seconds open_rule
+      → EndsBy project grid standing row (RuleIsOpen open_rule)
+  by_clock : {second : ℕ} → NoRuleMatters project grid standing row second
+      → IsLatestEnd project grid standing row second
+      → EndsBy project grid standing row (WithoutRules second)
+  event_is_open : {earliest latest : ℕ} → NoRuleMatters project grid standing row earliest
+      → IsLatestEnd project grid standing row latest → earliest ≢ latest
+      → EndsBy project grid standing row (EventIsOpen earliest latest)

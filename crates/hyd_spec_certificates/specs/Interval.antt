@@ -15,9 +15,9 @@ exactly z = record { lo = z; hi = z }
 abbrev pub width : Interval → ℤ
 width x = x.hi -ℤ x.lo
 
--- Both ends moved outward by a margin.
+-- Both ends moved outward by so many ticks.
 abbrev pub widened : ℤ → Interval → Interval
-widened margin x = record { lo = x.lo -ℤ margin; hi = x.hi +ℤ margin }
+widened ticks x = record { lo = x.lo -ℤ ticks; hi = x.hi +ℤ ticks }
 
 -- Both ends moved by the same amount.
 abbrev pub shifted : ℤ → Interval → Interval

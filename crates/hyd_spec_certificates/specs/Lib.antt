@@ -1,4 +1,5 @@
 pub mod Interval
+pub mod Spans
 pub mod EnclosingFunctions
 pub mod PeriodNetwork
 pub mod NetOutflow

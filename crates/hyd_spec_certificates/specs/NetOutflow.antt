@@ -4,6 +4,7 @@
 use Rattle.std.specs.Prelude.{ℕ, ◌+◌, ◌*◌, ℤ, pos, ◌+ℤ◌, ◌-ℤ◌, Bool, true, false, List, [], ◌∷◌, ◌==◌}
 use Rattle.hyd_spec_certificates.specs.declared.Problem.{Problem}
 use Rattle.hyd_spec_certificates.specs.declared.Side.TheVariants.{Upper, Lower}
+use Rattle.hyd_spec.specs.Scale.{missed_flow_ticks}
 use Rattle.hyd_spec.specs.Assignment.{head_at, where_so}
 use Rattle.hyd_spec.specs.Law.{Law}
 use Rattle.hyd_spec_certificates.specs.EnclosingFunctions.{low, high, demand_low, demand_high, emitter_low}
@@ -52,4 +53,4 @@ link_ends node (link ∷ links) = (one_if (link.from == node) + one_if (link.to 
 -- The margin of a junction, in flow ticks: all that its links, its demand, its emitter and its
 -- balance may miss, ten ticks each.
 abbrev pub margin : Grid → ℕ → ℤ
-margin grid i = pos ((link_ends i grid.links + 3) * 10)
+margin grid i = pos ((link_ends i grid.links + 3) * missed_flow_ticks)

@@ -41,30 +41,30 @@ pub record Grid : Type 0 where
 -- ---- the grid of a project
 
 -- The capacity of a pressure-driven demand is the one that is made of the demand and the two pressures.
-pub record IsDriven (network : Project) (demand : ℤ) (law : DemandLaw) : Type 0 where
+pub record IsDriven (project : Project) (demand : ℤ) (law : DemandLaw) : Type 0 where
   pub capacity : Capacity
-  pub origin : capacity.origin ≡ PressureDemand demand network.options.p0 network.options.pf (is_us network)
+  pub origin : capacity.origin ≡ PressureDemand demand project.options.p0 project.options.pf (is_us project)
   pub made : IsMade capacity
-  pub is_law : law ≡ Driven demand capacity (minimum_pressure network) (required_pressure network)
+  pub is_law : law ≡ Driven demand capacity (minimum_pressure project) (required_pressure project)
 
 -- The law of a demand (flow ticks): driven by pressure where it depends on that, else fixed.
 abbrev pub IsDemandLaw : Project → ℤ → DemandLaw → Type 0
-IsDemandLaw network demand law =
-    MatchBool (is_pressure_driven network demand) (IsDriven network demand law) (law ≡ Fixed demand)
+IsDemandLaw project demand law =
+    MatchBool (is_pressure_driven project demand) (IsDriven project demand law) (law ≡ Fixed demand)
 
 -- This is the junction of the grid at a time: its elevation, the law of its demand then, and its emitter.
-pub record IsJunctionOf (network : Project) (time : ℕ) (junction : Junction) (here : GridJunction) : Type 0 where
+pub record IsJunctionOf (project : Project) (time : ℕ) (junction : Junction) (here : GridJunction) : Type 0 where
   pub elevation : here.elevation ≡ junction.elevation
-  pub demand : IsDemandLaw network (demand_of network time junction) here.demand
+  pub demand : IsDemandLaw project (demand_of project time junction) here.demand
   pub emitter : here.emitter ≡ junction.emitter
 
 -- The links with their nodes and their laws, in their states and between tanks in theirs.
 abbrev pub grid_links : Project → List TankState → List Link → List LinkState → List GridLink
-grid_links network tanks [] states = []
-grid_links network tanks (link ∷ links) [] = []
-grid_links network tanks (link ∷ links) (state ∷ states) =
-    record { from = link.from; to = link.to; law = law_of network tanks link state }
-    ∷ grid_links network tanks links states
+grid_links project tanks [] states = []
+grid_links project tanks (link ∷ links) [] = []
+grid_links project tanks (link ∷ links) (state ∷ states) =
+    record { from = link.from; to = link.to; law = law_of project tanks link state }
+    ∷ grid_links project tanks links states
 
 -- The head interval of a tank: its bottom plus its level.
 abbrev pub tank_intervals : List Tank → List Interval → List Interval
@@ -73,12 +73,12 @@ tank_intervals (tank ∷ tanks) [] = []
 tank_intervals (tank ∷ tanks) (level ∷ levels) = shifted tank.bottom level ∷ tank_intervals tanks levels
 
 -- The grid of a period that begins at `time` with level intervals, tank states and link states.
-pub record IsGrid (network : Project) (time : ℕ) (levels : List Interval) (tanks : List TankState)
+pub record IsGrid (project : Project) (time : ℕ) (levels : List Interval) (tanks : List TankState)
     (links : List LinkState) (grid : Grid) : Type 0 where
-  pub junctions : AllZip (IsJunctionOf network time) network.junctions.list grid.junctions
-  pub reservoirs : grid.reservoirs ≡ map (reservoir_head network time) network.reservoirs.list
-  pub tank_heads : grid.tanks ≡ tank_intervals network.tanks.list levels
-  pub links_are : grid.links ≡ grid_links network tanks network.links.list links
+  pub junctions : AllZip (IsJunctionOf project time) project.junctions.list grid.junctions
+  pub reservoirs : grid.reservoirs ≡ map (reservoir_head project time) project.reservoirs.list
+  pub tank_heads : grid.tanks ≡ tank_intervals project.tanks.list levels
+  pub links_are : grid.links ≡ grid_links project tanks project.links.list links
 
 -- ---- fixed heads
 

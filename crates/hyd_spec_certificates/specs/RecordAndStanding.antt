@@ -56,12 +56,12 @@ pub record Standing : Type 0 where
 
 -- What is known at the start of the run.
 abbrev pub initial_standing : Project → Standing
-initial_standing network = record {
+initial_standing project = record {
   number = 0;
   time = 0;
-  levels = map (λ tank. exactly tank.initial) network.tanks.list;
-  volumes = map (λ (tank : Tank). exactly (kept_volume (walls_of network tank) tank.initial)) network.tanks.list;
-  tanks = map (λ tank. tank_state 1 tank tank.initial) network.tanks.list;
-  commanded = map (λ link. link.start) network.links.list;
+  levels = map (λ tank. exactly tank.initial) project.tanks.list;
+  volumes = map (λ (tank : Tank). exactly (kept_volume (walls_of project tank) tank.initial)) project.tanks.list;
+  tanks = map (λ tank. tank_state 1 tank tank.initial) project.tanks.list;
+  commanded = map (λ link. link.start) project.links.list;
   finished = false;
 }

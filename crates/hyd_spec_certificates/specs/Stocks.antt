@@ -3,6 +3,7 @@
 -- Source: EPANET 2.2 User Manual, chapter 3 (tanks; curves), over intervals.
 use Rattle.std.specs.Prelude.{ℕ, ℤ, pos, ◌+ℤ◌, ◌-ℤ◌, Bool, true, false, List, Option, Some, None, if◌then◌else◌}
 use Rattle.std.specs.Int.{int_max, int_min}
+use Rattle.hyd_spec.specs.Scale.{missed_stock_ticks}
 use Rattle.hyd_spec.specs.ProgramTypes.{Tank, VolumePoint}
 use Rattle.hyd_spec.specs.declared.TankState.{TankState}
 use Rattle.hyd_spec.specs.declared.TankState.TheVariants.{Full, Between, Empty}
@@ -95,8 +96,8 @@ carried_stocks (Curve points) tank stocks inflow seconds = record {
 -- is the level at it, rounded and then moved outward by ten ticks, but not beyond a bound.
 abbrev pub levels_at : List VolumePoint → Tank → Interval → Interval
 levels_at points tank volume = record {
-  lo = lower_level (Curve points) tank (whole volume.lo) (pos 10);
-  hi = upper_level (Curve points) tank (whole volume.hi) (pos 10);
+  lo = lower_level (Curve points) tank (whole volume.lo) (pos missed_stock_ticks);
+  hi = upper_level (Curve points) tank (whole volume.hi) (pos missed_stock_ticks);
 }
 
 -- The stocks with which the next period begins: each end of the content rounded and then moved outward by ten ticks,
@@ -104,11 +105,11 @@ levels_at points tank volume = record {
 -- the volumes.
 abbrev pub next_stocks : Walls → Tank → Stocks → Interval → ℕ → Stocks
 next_stocks (Cylinder area) tank stocks inflow seconds = record {
-  level = contents_after (pos 10) (Cylinder area) tank stocks inflow seconds;
+  level = contents_after (pos missed_stock_ticks) (Cylinder area) tank stocks inflow seconds;
   volume = exactly (pos 0);
 }
 next_stocks (Curve points) tank stocks inflow seconds =
-    let volume = contents_after (pos 10) (Curve points) tank stocks inflow seconds in
+    let volume = contents_after (pos missed_stock_ticks) (Curve points) tank stocks inflow seconds in
     record { level = levels_at points tank volume; volume = volume }
 
 -- ---- states

@@ -2,6 +2,9 @@
 //! valid. No function here has a body.
 #![tactic(auto)]
 
+/// The end of the box in which heads are sought, either way, in head ticks: 100 km.
+pub const BOX_LIMIT: i64 = 1_000_000_000_000_000_000;
+
 /// Which heads the tanks have in a comparison.
 #[derive(Debug, Clone, Copy, PartialEq, Eq, Drop)]
 pub enum Problem {

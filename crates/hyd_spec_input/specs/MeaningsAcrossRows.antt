@@ -115,8 +115,8 @@ abbrev pub emitter_of : List Row → Row → ℤ
 emitter_of rows row = coefficient (last_naming (own_id row) (rows_of Emitters rows))
 
 -- the row of STATUS that a link starts by
-abbrev pub status_of : List Row → Row → Option Row
-status_of rows row = last_naming (own_id row) (rows_of Status rows)
+abbrev pub status_row_of : List Row → Row → Option Row
+status_row_of rows row = last_naming (own_id row) (rows_of Status rows)
 
 -- ---- rules
 

@@ -30,7 +30,7 @@ use Rattle.hyd_spec_input.specs.Curves.{Drop, drop_of, is_bent, head_points, vol
 use Rattle.hyd_spec_input.specs.RowsTogether.{us}
 use Rattle.hyd_spec_input.specs.MeaningsAcrossRows.{node_ids, tank_ids, link_ids, number_in, pattern_ids}
 use Rattle.hyd_spec_input.specs.MeaningsAcrossRows.{pattern_number}
-use Rattle.hyd_spec_input.specs.MeaningsAcrossRows.{shape_names, bend_names, demands_of, emitter_of, status_of}
+use Rattle.hyd_spec_input.specs.MeaningsAcrossRows.{shape_names, bend_names, demands_of, emitter_of, status_row_of}
 use Rattle.hyd_spec_input.specs.MeaningsAcrossRows.{rule_groups}
 use Rattle.hyd_spec_input.specs.MeaningsAcrossRows.{clause_lines, then_lines, else_lines, rule_id, priority_of}
 use Rattle.hyd_spec_input.specs.declared.ObjectWord.{ObjectWord}
@@ -283,7 +283,7 @@ IsKind rows row kind =
 pub record IsLink (rows : List Row) (row : Row) (l : Link) : Type 0 where
   pub ends : HasEnds rows row l
   pub kind : IsKind rows row l.kind
-  pub start : IsStart rows row (status_of rows row) l.start
+  pub start : IsStart rows row (status_row_of rows row) l.start
 
 -- ---- patterns and curves
 

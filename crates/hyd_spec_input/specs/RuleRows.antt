@@ -180,8 +180,8 @@ words_about (Some If) acting words = clause words
 words_about (Some Or) acting words = clause words
 
 -- the words of a line, whatever stands before it
-abbrev pub line_words : Bool → List (List ℕ) → Option Cause
-line_words acting words = words_about (begins_with words) acting words
+abbrev pub words_of_rule_line : Bool → List (List ℕ) → Option Cause
+words_of_rule_line acting words = words_about (begins_with words) acting words
 
 -- the first word may follow
 abbrev pub in_order : Stage → Option RuleWord → Option Cause
@@ -214,5 +214,6 @@ gets_then words later = if is_rule (begins_with words) then some_then (until_rul
 -- first word
 abbrev pub rule_line : List (List (List ℕ)) → List (List ℕ) → List (List (List ℕ)) → Option Cause
 rule_line earlier words later =
-    first (in_order (stage_after earlier) (begins_with words) ∷ line_words (is_acting (stage_after earlier)) words
+    first (in_order (stage_after earlier) (begins_with words) ∷ words_of_rule_line (is_acting (stage_after earlier))
+    words
     ∷ unless (gets_then words later) Syntax ∷ [])

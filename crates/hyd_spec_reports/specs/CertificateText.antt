@@ -23,8 +23,8 @@ line parts = words parts ++ (10 ∷ [])
 
 -- The version of a network's certificates: 2 where a tank has a volume curve or overflows, else 1.
 abbrev pub version_of : Project → ℕ
-version_of network =
-    if list_any (λ (tank : Tank). is_some tank.shape || tank.overflow) network.tanks.list then 2 else 1
+version_of project =
+    if list_any (λ (tank : Tank). is_some tank.shape || tank.overflow) project.tanks.list then 2 else 1
 
 -- `HYDCERT v n k`: the version, and the counts of junctions and tanks.
 abbrev pub header_line : ℕ → ℕ → ℕ → List ℕ

@@ -44,52 +44,52 @@ at_part S quantity parts = record { num = (quantity parts).num; den = (quantity 
 
 -- A head or level (S-th parts of a head tick) lies between the printed ends, in feet or metres.
 abbrev pub HeadLies : Project → ℕ → Interval → ℤ → Type 0
-HeadLies network S ends h = LiesBetween ends (at_part S (head_quantity (is_us network)) h)
+HeadLies project S ends h = LiesBetween ends (at_part S (head_quantity (is_us project)) h)
 
 -- A pressure (S-th parts of a head tick) lies between the printed ends, in psi or metres.
 abbrev pub PressureLies : Project → ℕ → Interval → ℤ → Type 0
-PressureLies network S ends p = LiesBetween ends (at_part S (pressure_quantity (is_us network)) p)
+PressureLies project S ends p = LiesBetween ends (at_part S (pressure_quantity (is_us project)) p)
 
 -- A flow (S-th parts of a flow tick) lies between the printed ends, in the file's flow unit.
 abbrev pub FlowLies : Project → ℕ → Interval → ℤ → Type 0
-FlowLies network S ends q = LiesBetween ends (at_part S (flow_quantity network.options.unit) q)
+FlowLies project S ends q = LiesBetween ends (at_part S (flow_quantity project.options.unit) q)
 
 -- ---- nodes
 
 -- Junction number j: its head, its pressure and its outflow (demand and emitter together) lie between the printed
 -- ends.
-pub record JunctionLies (network : Project) (S : ℕ) (period : Period) (j : ℕ)
+pub record JunctionLies (project : Project) (S : ℕ) (period : Period) (j : ℕ)
     (head pressure outflow : Interval) : Type 0 where
   pub junction : Junction
-  pub is_junction : slice_get network.junctions.list j ≡ Some junction
-  pub head_lies : HeadLies network S head (head_at period.assignment.heads j)
-  pub pressure_lies : PressureLies network S pressure (head_at period.assignment.heads j
+  pub is_junction : slice_get project.junctions.list j ≡ Some junction
+  pub head_lies : HeadLies project S head (head_at period.assignment.heads j)
+  pub pressure_lies : PressureLies project S pressure (head_at period.assignment.heads j
       -ℤ at_scale S junction.elevation)
-  pub outflow_lies : FlowLies network S outflow (flow_at period.assignment.demands j
+  pub outflow_lies : FlowLies project S outflow (flow_at period.assignment.demands j
       +ℤ flow_at period.assignment.emitters j)
 
 -- Reservoir number r: its head at the start of the period lies between the printed ends.
-pub record ReservoirLies (network : Project) (S : ℕ) (period : Period) (r : ℕ) (head : Interval) : Type 0 where
+pub record ReservoirLies (project : Project) (S : ℕ) (period : Period) (r : ℕ) (head : Interval) : Type 0 where
   pub reservoir : Reservoir
-  pub is_reservoir : slice_get network.reservoirs.list r ≡ Some reservoir
-  pub head_lies : HeadLies network S head (at_scale S (reservoir_head network period.time reservoir))
+  pub is_reservoir : slice_get project.reservoirs.list r ≡ Some reservoir
+  pub head_lies : HeadLies project S head (at_scale S (reservoir_head project period.time reservoir))
 
 -- Tank number k: its head, its level and its inflow lie between the printed ends, and its state is the printed one.
-pub record TankLies (network : Project) (S : ℕ) (period : Period) (k : ℕ) (head level inflow : Interval)
+pub record TankLies (project : Project) (S : ℕ) (period : Period) (k : ℕ) (head level inflow : Interval)
     (state : TankState) : Type 0 where
   pub tank : Tank
-  pub is_tank : slice_get network.tanks.list k ≡ Some tank
-  pub head_lies : HeadLies network S head (at_scale S tank.bottom +ℤ level_at_start period k)
-  pub level_lies : HeadLies network S level (level_at_start period k)
-  pub inflow_lies : FlowLies network S inflow (tank_inflow network k period.assignment.flows)
+  pub is_tank : slice_get project.tanks.list k ≡ Some tank
+  pub head_lies : HeadLies project S head (at_scale S tank.bottom +ℤ level_at_start period k)
+  pub level_lies : HeadLies project S level (level_at_start period k)
+  pub inflow_lies : FlowLies project S inflow (tank_inflow project k period.assignment.flows)
   pub state_is : slice_get period.tanks k ≡ Some state
 
 -- ---- links
 
 -- The head difference along a link.
 abbrev pub difference_along : Project → ℕ → Period → Link → ℤ
-difference_along network S period link =
-    let heads = node_heads network S period.time period.levels period.assignment.heads in
+difference_along project S period link =
+    let heads = node_heads project S period.time period.levels period.assignment.heads in
     head_at heads link.from -ℤ head_at heads link.to
 
 -- The driving difference of a running pump: the head difference and its lift (S-th parts of a head tick), multiplied by
@@ -161,78 +161,78 @@ StatusHolds us bends word (Gpv bend) Closed S x = StateIs word Closed
 StatusHolds us bends word (Gpv bend) other S x = StateIs word other
 
 -- Link number l: its flow lies between the printed ends, and its status word holds.
-pub record LinkLies (network : Project) (S : ℕ) (period : Period) (l : ℕ) (flow : Interval) (word : StatusWord) : Type
+pub record LinkLies (project : Project) (S : ℕ) (period : Period) (l : ℕ) (flow : Interval) (word : StatusWord) : Type
     0 where
   pub link : Link
-  pub is_link : slice_get network.links.list l ≡ Some link
+  pub is_link : slice_get project.links.list l ≡ Some link
   pub state : LinkState
   pub is_state : slice_get period.links l ≡ Some state
-  pub flow_lies : FlowLies network S flow (flow_at period.assignment.flows l)
-  pub status_holds : StatusHolds (is_us network) network.bends.list word link.kind state S
-      (difference_along network S period link)
+  pub flow_lies : FlowLies project S flow (flow_at period.assignment.flows l)
+  pub status_holds : StatusHolds (is_us project) project.bends.list word link.kind state S
+      (difference_along project S period link)
 
 -- ---- events, controls, rules
 
 -- At the second of the period's end the tank's level, the exact one of a cylinder and the carried one of a tank with a
 -- curve, is at or beyond a target.
-pub record ReachesAtEnd (network : Project) (S : ℕ) (period : Period) (time k : ℕ) (above : Bool) (target : ℤ) : Type
+pub record ReachesAtEnd (project : Project) (S : ℕ) (period : Period) (time k : ℕ) (above : Bool) (target : ℤ) : Type
     0 where
   pub at_end : time ≡ period.time + period.length
   pub tank : Tank
-  pub is_tank : slice_get network.tanks.list k ≡ Some tank
-  pub reached : IsTrue (reaches S above target (watched_after network S period k tank period.length))
+  pub is_tank : slice_get project.tanks.list k ≡ Some tank
+  pub reached : IsTrue (reaches S above target (watched_after project S period k tank period.length))
 
 -- The tank, which wasn't full at the start, reaches its maximum.
-pub record Fills (network : Project) (S : ℕ) (period : Period) (time k : ℕ) : Type 0 where
+pub record Fills (project : Project) (S : ℕ) (period : Period) (time k : ℕ) : Type 0 where
   pub tank : Tank
-  pub is_tank : slice_get network.tanks.list k ≡ Some tank
+  pub is_tank : slice_get project.tanks.list k ≡ Some tank
   pub before : slice_get period.tanks k ≢ Some Full
-  pub reaches_it : ReachesAtEnd network S period time k true tank.maximum
+  pub reaches_it : ReachesAtEnd project S period time k true tank.maximum
 
 -- The tank, which wasn't empty at the start, reaches its minimum.
-pub record Empties (network : Project) (S : ℕ) (period : Period) (time k : ℕ) : Type 0 where
+pub record Empties (project : Project) (S : ℕ) (period : Period) (time k : ℕ) : Type 0 where
   pub tank : Tank
-  pub is_tank : slice_get network.tanks.list k ≡ Some tank
+  pub is_tank : slice_get project.tanks.list k ≡ Some tank
   pub before : slice_get period.tanks k ≢ Some Empty
-  pub reaches_it : ReachesAtEnd network S period time k false tank.minimum
+  pub reaches_it : ReachesAtEnd project S period time k false tank.minimum
 
 -- The tank reaches the level of a control, which didn't hold at the start.
-pub record ReachesControl (network : Project) (S : ℕ) (period : Period) (time k number : ℕ) : Type 0 where
+pub record ReachesControl (project : Project) (S : ℕ) (period : Period) (time k number : ℕ) : Type 0 where
   pub control : Control
-  pub is_control : slice_get network.controls.list number ≡ Some control
+  pub is_control : slice_get project.controls.list number ≡ Some control
   pub above : Bool
   pub ticks : ℤ
   pub is_level : control.when ≡ AtLevel k above ticks
   pub before : IsFalse (reaches S above ticks (whole (level_at_start period k)))
-  pub reaches_it : ReachesAtEnd network S period time k above ticks
+  pub reaches_it : ReachesAtEnd project S period time k above ticks
 
 -- At the start of the period, from the states commanded before, the control changes the link to the state.
-pub record IsStartChange (network : Project) (S : ℕ) (commanded : List LinkState) (period : Period) (time : ℕ)
+pub record IsStartChange (project : Project) (S : ℕ) (commanded : List LinkState) (period : Period) (time : ℕ)
     (change : Change) : Type 0 where
   pub at_start : time ≡ period.time
-  pub is_change : Contains (start_changes network period.time (acts_at S period.levels) commanded) change
+  pub is_change : Contains (start_changes project period.time (acts_at S period.levels) commanded) change
 
 -- At the end of the period, an instant at which the rules are tried, the rule changes the link to the state.
-pub record IsEndChange (network : Project) (S : ℕ) (period : Period) (time : ℕ) (change : Change) : Type 0 where
+pub record IsEndChange (project : Project) (S : ℕ) (period : Period) (time : ℕ) (change : Change) : Type 0 where
   pub at_end : time ≡ period.time + period.length
-  pub is_tried : time % network.times.rule ≡ 0
-  pub is_change : Contains (rule_changes network (values_at network S period time) period.links) change
+  pub is_tried : time % project.times.rule ≡ 0
+  pub is_change : Contains (rule_changes project (values_at project S period time) period.links) change
 
 -- ---- a line
 
 -- The line holds of a period of a history at scale S, before which the links were commanded so.
 abbrev pub LineHolds : Project → ℕ → List LinkState → Period → ReportLine → Type 0
-LineHolds network S commanded period (ControlLine time number link state) =
-    IsStartChange network S commanded period time (record { source = ByControl number; link = link; to = state })
-LineHolds network S commanded period (TimeLine time) = period.time ≡ time
-LineHolds network S commanded period (JunctionLine j head pressure outflow) = JunctionLies network S period j head
+LineHolds project S commanded period (ControlLine time number link state) =
+    IsStartChange project S commanded period time (record { source = ByControl number; link = link; to = state })
+LineHolds project S commanded period (TimeLine time) = period.time ≡ time
+LineHolds project S commanded period (JunctionLine j head pressure outflow) = JunctionLies project S period j head
     pressure outflow
-LineHolds network S commanded period (ReservoirLine r head) = ReservoirLies network S period r head
-LineHolds network S commanded period (TankLine k head level inflow state) = TankLies network S period k head level
+LineHolds project S commanded period (ReservoirLine r head) = ReservoirLies project S period r head
+LineHolds project S commanded period (TankLine k head level inflow state) = TankLies project S period k head level
     inflow state
-LineHolds network S commanded period (LinkLine l flow word) = LinkLies network S period l flow word
-LineHolds network S commanded period (FilledLine time k) = Fills network S period time k
-LineHolds network S commanded period (EmptiedLine time k) = Empties network S period time k
-LineHolds network S commanded period (ReachedLine time k number) = ReachesControl network S period time k number
-LineHolds network S commanded period (RuleLine time rule link state) =
-    IsEndChange network S period time (record { source = ByRule rule; link = link; to = state })
+LineHolds project S commanded period (LinkLine l flow word) = LinkLies project S period l flow word
+LineHolds project S commanded period (FilledLine time k) = Fills project S period time k
+LineHolds project S commanded period (EmptiedLine time k) = Empties project S period time k
+LineHolds project S commanded period (ReachedLine time k number) = ReachesControl project S period time k number
+LineHolds project S commanded period (RuleLine time rule link state) =
+    IsEndChange project S period time (record { source = ByRule rule; link = link; to = state })

@@ -25,34 +25,34 @@ pub record IsDue (standing : Standing) (row : Record) : Type 0 where
 
 -- The first vector of the record that isn't a certificate, in the order of problems and sides, and the junction at
 -- which it fails first.
-pub record IsFirstToFail (network : Project) (grid : Grid) (row : Record) (problem : Problem) (side : Side)
+pub record IsFirstToFail (project : Project) (grid : Grid) (row : Record) (problem : Problem) (side : Side)
     (junction : ℕ)
     : Type 0 where
-  pub is_problem : IsProblem network problem
-  pub earlier : (before : Problem) (other : Side) → IsProblem network before → turn before other < turn problem side
+  pub is_problem : IsProblem project problem
+  pub earlier : (before : Problem) (other : Side) → IsProblem project before → turn before other < turn problem side
       → IsCertificate grid before other (vector_of row before other)
   pub fails : FailsFirst None grid problem side (vector_of row problem side) junction
 
 -- The certificates of the record leave a matter of the period open: its end, or at a decided end a tank's state or a
 -- level control. (The period at the end of the run has no matters.)
-pub data LeavesOpen (network : Project) (grid : Grid) (standing : Standing) (row : Record) : Type 0 where
-  rule : (open_rule : OpenRule) → EndsBy network grid standing row (RuleIsOpen open_rule)
-      → LeavesOpen network grid standing row
-  event : (earliest latest : ℕ) → EndsBy network grid standing row (EventIsOpen earliest latest)
-      → LeavesOpen network grid standing row
-  tank : (seconds : ℕ) (links : List LinkState) (number : ℕ) → LeavesLinks network grid standing row seconds links
+pub data LeavesOpen (project : Project) (grid : Grid) (standing : Standing) (row : Record) : Type 0 where
+  rule : (open_rule : OpenRule) → EndsBy project grid standing row (RuleIsOpen open_rule)
+      → LeavesOpen project grid standing row
+  event : (earliest latest : ℕ) → EndsBy project grid standing row (EventIsOpen earliest latest)
+      → LeavesOpen project grid standing row
+  tank : (seconds : ℕ) (links : List LinkState) (number : ℕ) → LeavesLinks project grid standing row seconds links
       → position (λ is_open. is_open)
-      (open_states network (levels_next network grid standing row seconds)) ≡ Some number
-      → LeavesOpen network grid standing row
-  control : (seconds : ℕ) (links : List LinkState) (number : ℕ) → LeavesLinks network grid standing row seconds links
-      → position (is_open_control (levels_next network grid standing row seconds)) network.controls.list ≡ Some number
-      → LeavesOpen network grid standing row
+      (open_states project (levels_next project grid standing row seconds)) ≡ Some number
+      → LeavesOpen project grid standing row
+  control : (seconds : ℕ) (links : List LinkState) (number : ℕ) → LeavesLinks project grid standing row seconds links
+      → position (is_open_control (levels_next project grid standing row seconds)) project.controls.list ≡ Some number
+      → LeavesOpen project grid standing row
 
 -- The length of the record isn't the decided one: at the end of the run 0, else that of the period.
-pub data HasOtherLength (network : Project) (grid : Grid) (standing : Standing) (row : Record) : Type 0 where
-  at_end : standing.time ≡ network.times.duration → row.length ≢ 0 → HasOtherLength network grid standing row
-  before_end : (seconds : ℕ) (links : List LinkState) → LeavesLinks network grid standing row seconds links
-      → row.length ≢ seconds → HasOtherLength network grid standing row
+pub data HasOtherLength (project : Project) (grid : Grid) (standing : Standing) (row : Record) : Type 0 where
+  at_end : standing.time ≡ project.times.duration → row.length ≢ 0 → HasOtherLength project grid standing row
+  before_end : (seconds : ℕ) (links : List LinkState) → LeavesLinks project grid standing row seconds links
+      → row.length ≢ seconds → HasOtherLength project grid standing row
 
 -- ---- what is right where a cause comes later in order
 
@@ -62,35 +62,35 @@ pub record IsInPlace (standing : Standing) (row : Record) : Type 0 where
   pub due : IsDue standing row
 
 -- And the demands of its period are in range, and this is the grid of the period.
-pub record HasItsGrid (network : Project) (standing : Standing) (grid : Grid) (row : Record) : Type 0 where
+pub record HasItsGrid (project : Project) (standing : Standing) (grid : Grid) (row : Record) : Type 0 where
   pub in_place : IsInPlace standing row
-  pub in_range : DemandsAreInRange network standing.time
-  pub is_grid : IsGridAt network standing grid
+  pub in_range : DemandsAreInRange project standing.time
+  pub is_grid : IsGridAt project standing grid
 
 -- And its vectors are certificates.
-pub record IsCertified (network : Project) (standing : Standing) (grid : Grid) (row : Record) : Type 0 where
-  pub has_grid : HasItsGrid network standing grid row
-  pub certificates : AreCertificates network grid row
+pub record IsCertified (project : Project) (standing : Standing) (grid : Grid) (row : Record) : Type 0 where
+  pub has_grid : HasItsGrid project standing grid row
+  pub certificates : AreCertificates project grid row
 
 -- ---- the cause
 
 -- What a cause says of a record at a standing. Those before it in the order (after the end, place, demands, vectors,
 -- matters, length) don't hold.
 abbrev pub IsRefusedBy : Project → Standing → Record → CertRefused → Type 0
-IsRefusedBy network standing row (After period) = standing.finished ≡ true
-IsRefusedBy network standing row (Place period) = (standing.finished ≡ false) × (IsDue standing row → ⊥)
-IsRefusedBy network standing row (Demand period) =
-    IsInPlace standing row × (DemandsAreInRange network standing.time → ⊥)
-IsRefusedBy network standing row (Fails period problem side junction) =
-    (grid : Grid) × (HasItsGrid network standing grid row × IsFirstToFail network grid row problem side junction)
-IsRefusedBy network standing row (MatterOpen period) =
-    (grid : Grid) × (IsCertified network standing grid row × LeavesOpen network grid standing row)
-IsRefusedBy network standing row (Length period) =
-    (grid : Grid) × (IsCertified network standing grid row
-    × ((LeavesOpen network grid standing row → ⊥) × HasOtherLength network grid standing row))
+IsRefusedBy project standing row (After period) = standing.finished ≡ true
+IsRefusedBy project standing row (Place period) = (standing.finished ≡ false) × (IsDue standing row → ⊥)
+IsRefusedBy project standing row (Demand period) =
+    IsInPlace standing row × (DemandsAreInRange project standing.time → ⊥)
+IsRefusedBy project standing row (Fails period problem side junction) =
+    (grid : Grid) × (HasItsGrid project standing grid row × IsFirstToFail project grid row problem side junction)
+IsRefusedBy project standing row (MatterOpen period) =
+    (grid : Grid) × (IsCertified project standing grid row × LeavesOpen project grid standing row)
+IsRefusedBy project standing row (Length period) =
+    (grid : Grid) × (IsCertified project standing grid row
+    × ((LeavesOpen project grid standing row → ⊥) × HasOtherLength project grid standing row))
 
 -- A record is refused at a standing by this cause, which names the period that was due. (This is asked of records
 -- with the network's counts of junctions and tanks.)
-pub record IsRefused (network : Project) (standing : Standing) (row : Record) (cause : CertRefused) : Type 0 where
+pub record IsRefused (project : Project) (standing : Standing) (row : Record) (cause : CertRefused) : Type 0 where
   pub period_is : refused_period cause ≡ standing.number
-  pub refused_by : IsRefusedBy network standing row cause
+  pub refused_by : IsRefusedBy project standing row cause

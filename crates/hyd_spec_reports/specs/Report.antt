@@ -53,18 +53,18 @@ pub record Prints (quantity : ℤ → Rational) (ticks ends : Interval) : Type 0
 -- What controls change, from number k on, from the states as they are: each control that acts and whose state
 -- differs from the link's at that moment.
 abbrev pub control_changes : Project → ℕ → (ℕ → Bool → ℤ → Bool) → ℕ → List Control → List LinkState → List Change
-control_changes network time acts k [] links = []
-control_changes network time acts k (control ∷ rest) links =
-    if control_acts network time acts control.when
+control_changes project time acts k [] links = []
+control_changes project time acts k (control ∷ rest) links =
+    if control_acts project time acts control.when
     then (if is_same_state (state_of_link links control.link) control.to then []
     else record { source = ByControl k; link = control.link; to = control.to } ∷ [])
-    ++ control_changes network time acts (suc k) rest (slice_set links control.link control.to)
-    else control_changes network time acts (suc k) rest links
+    ++ control_changes project time acts (suc k) rest (slice_set links control.link control.to)
+    else control_changes project time acts (suc k) rest links
 
 -- What the controls change at the start of a period, from the states commanded before.
 abbrev pub start_changes : Project → ℕ → (ℕ → Bool → ℤ → Bool) → List LinkState → List Change
-start_changes network time acts commanded =
-    control_changes network time acts 0 network.controls.list (patterned network time commanded)
+start_changes project time acts commanded =
+    control_changes project time acts 0 project.controls.list (patterned project time commanded)
 
 -- The line of a change at a time.
 abbrev pub change_line : ℕ → Change → ReportLine
@@ -76,18 +76,18 @@ change_line time change = by_source change.source
 
 -- What the controls change at the start of the period that begins at a standing.
 abbrev pub changes_at : Project → Standing → List Change
-changes_at network standing = start_changes network standing.time (acts_on standing.levels) standing.commanded
+changes_at project standing = start_changes project standing.time (acts_on standing.levels) standing.commanded
 
 -- One line for each change by a control at the start of a period, in order of the controls.
 abbrev pub control_lines : Project → Standing → List ReportLine
-control_lines network standing = map (change_line standing.time) (changes_at network standing)
+control_lines project standing = map (change_line standing.time) (changes_at project standing)
 
 -- ---- nodes and links at a report time
 
 -- The report start plus a multiple of the report step.
 abbrev pub is_report_time : Project → ℕ → Bool
-is_report_time network time =
-    nat_le network.times.report_start time && ((time - network.times.report_start) % network.times.report == 0)
+is_report_time project time =
+    nat_le project.times.report_start time && ((time - project.times.report_start) % project.times.report == 0)
 
 -- There is one line for each item of a list, in order: P holds of the item's number, the item and its line. The first
 -- item has the number k.
@@ -98,7 +98,7 @@ LineEach P k [] (l ∷ ls) = ⊥
 LineEach P k (x ∷ xs) [] = ⊥
 
 -- The line of junction number j: its head by the record, its pressure above the elevation, its outflow box.
-pub record IsJunctionLine (network : Project) (grid : Grid) (row : Record) (j : ℕ) (junction : GridJunction)
+pub record IsJunctionLine (project : Project) (grid : Grid) (row : Record) (j : ℕ) (junction : GridJunction)
     (each : ReportLine) : Type 0 where
   pub heads : Interval
   pub heads_are : heads ≡ record { lo = head_at row.main.lower j; hi = head_at row.main.upper j }
@@ -106,28 +106,28 @@ pub record IsJunctionLine (network : Project) (grid : Grid) (row : Record) (j : 
   pub pressure : Interval
   pub outflow : Interval
   pub is_line : each ≡ JunctionLine j head pressure outflow
-  pub head_is : Prints (head_quantity (is_us network)) heads head
-  pub pressure_is : Prints (pressure_quantity (is_us network))
+  pub head_is : Prints (head_quantity (is_us project)) heads head
+  pub pressure_is : Prints (pressure_quantity (is_us project))
       (record { lo = heads.lo -ℤ junction.elevation; hi = heads.hi -ℤ junction.elevation }) pressure
-  pub outflow_is : Prints (flow_quantity network.options.unit) (out_box junction heads.lo heads.hi) outflow
+  pub outflow_is : Prints (flow_quantity project.options.unit) (out_box junction heads.lo heads.hi) outflow
 
 -- The line of reservoir number r: its head at the time.
-pub record IsReservoirLine (network : Project) (r : ℕ) (height : ℤ) (each : ReportLine) : Type 0 where
+pub record IsReservoirLine (project : Project) (r : ℕ) (height : ℤ) (each : ReportLine) : Type 0 where
   pub head : Interval
   pub is_line : each ≡ ReservoirLine r head
-  pub head_is : Prints (head_quantity (is_us network)) (exactly height) head
+  pub head_is : Prints (head_quantity (is_us project)) (exactly height) head
 
 -- The line of tank number k: its level interval at the start, its head by it, its inflow and its state.
-pub record IsTankLine (network : Project) (grid : Grid) (standing : Standing) (row : Record) (k : ℕ) (tank : Tank)
+pub record IsTankLine (project : Project) (grid : Grid) (standing : Standing) (row : Record) (k : ℕ) (tank : Tank)
     (each : ReportLine) : Type 0 where
   pub head : Interval
   pub level : Interval
   pub inflow : Interval
   pub state : TankState
   pub is_line : each ≡ TankLine k head level inflow state
-  pub head_is : Prints (head_quantity (is_us network)) (shifted tank.bottom (level_of_tank standing k)) head
-  pub level_is : Prints (head_quantity (is_us network)) (level_of_tank standing k) level
-  pub inflow_is : Prints (flow_quantity network.options.unit) (inflow_of_tank network grid row k) inflow
+  pub head_is : Prints (head_quantity (is_us project)) (shifted tank.bottom (level_of_tank standing k)) head
+  pub level_is : Prints (head_quantity (is_us project)) (level_of_tank standing k) level
+  pub inflow_is : Prints (flow_quantity project.options.unit) (inflow_of_tank project grid row k) inflow
   pub state_is : slice_get standing.tanks k ≡ Some state
 
 -- The status of a check valve pipe or a running pump, by its driving difference.
@@ -178,29 +178,29 @@ status_of us bends (Gpv bend) Closed d = WordClosed
 status_of us bends (Gpv bend) other d = WordUnsure
 
 -- The line of link number l: its flow box and its status word.
-pub record IsLinkLine (network : Project) (grid : Grid) (standing : Standing) (row : Record) (l : ℕ) (link : Link)
+pub record IsLinkLine (project : Project) (grid : Grid) (standing : Standing) (row : Record) (l : ℕ) (link : Link)
     (each : ReportLine) : Type 0 where
   pub place : GridLink
   pub place_is : slice_get grid.links l ≡ Some place
   pub box : Interval
   pub box_is : slice_get (flow_boxes grid row) l ≡ Some box
   pub flow : Interval
-  pub flow_is : Prints (flow_quantity network.options.unit) box flow
+  pub flow_is : Prints (flow_quantity project.options.unit) box flow
   pub is_line : each ≡ LinkLine l flow
-      (status_of (is_us network) network.bends.list link.kind (state_of_link (links_at network standing) l)
+      (status_of (is_us project) project.bends.list link.kind (state_of_link (links_at project standing) l)
       (difference place (heads_below grid row) (heads_above grid row)))
 
 -- The lines of a report time: the time, junctions, reservoirs, tanks and links in order.
-pub record AreStateLines (network : Project) (grid : Grid) (standing : Standing) (row : Record)
+pub record AreStateLines (project : Project) (grid : Grid) (standing : Standing) (row : Record)
     (lines : List ReportLine) : Type 0 where
   pub junctions : List ReportLine
   pub reservoirs : List ReportLine
   pub tanks : List ReportLine
   pub links : List ReportLine
-  pub junctions_are : LineEach (IsJunctionLine network grid row) 0 grid.junctions junctions
-  pub reservoirs_are : LineEach (IsReservoirLine network) 0 grid.reservoirs reservoirs
-  pub tanks_are : LineEach (IsTankLine network grid standing row) 0 network.tanks.list tanks
-  pub links_are : LineEach (IsLinkLine network grid standing row) 0 network.links.list links
+  pub junctions_are : LineEach (IsJunctionLine project grid row) 0 grid.junctions junctions
+  pub reservoirs_are : LineEach (IsReservoirLine project) 0 grid.reservoirs reservoirs
+  pub tanks_are : LineEach (IsTankLine project grid standing row) 0 project.tanks.list tanks
+  pub links_are : LineEach (IsLinkLine project grid standing row) 0 project.links.list links
   pub lines_are : lines ≡ TimeLine standing.time ∷ (junctions ++ (reservoirs ++ (tanks ++ links)))
 
 -- ---- events and rules at the end
@@ -232,21 +232,21 @@ control_event before carried number control = by_when control.when
 
 -- The events at the end of a period: those of tanks in order, then those of level controls in order.
 abbrev pub events_of : Project → Grid → Standing → Record → List Event
-events_of network grid standing row =
-    let carried = carried_at network grid standing row row.length in
-    tank_events 0 network.tanks.list standing.tanks carried
-    ++ present (map_from (control_event standing.levels carried) 0 network.controls.list)
+events_of project grid standing row =
+    let carried = carried_at project grid standing row row.length in
+    tank_events 0 project.tanks.list standing.tanks carried
+    ++ present (map_from (control_event standing.levels carried) 0 project.controls.list)
 
 -- What a period's end brings: its events, and what rules change there. The period at the end of the run brings nothing,
 -- one that the clock or an event ends no changes.
-pub data EndBrings (network : Project) (grid : Grid) (standing : Standing) (row : Record) : List Event → List Change
+pub data EndBrings (project : Project) (grid : Grid) (standing : Standing) (row : Record) : List Event → List Change
     → Type 0 where
-  at_end : standing.time ≡ network.times.duration → EndBrings network grid standing row [] []
-  by_rules : EndsBy network grid standing row (ByRules row.length)
-      → EndBrings network grid standing row (events_of network grid standing row)
-      (decided_changes network grid standing row row.length)
-  by_clock : EndsBy network grid standing row (WithoutRules row.length)
-      → EndBrings network grid standing row (events_of network grid standing row) []
+  at_end : standing.time ≡ project.times.duration → EndBrings project grid standing row [] []
+  by_rules : EndsBy project grid standing row (ByRules row.length)
+      → EndBrings project grid standing row (events_of project grid standing row)
+      (decided_changes project grid standing row row.length)
+  by_clock : EndsBy project grid standing row (WithoutRules row.length)
+      → EndBrings project grid standing row (events_of project grid standing row) []
 
 -- The line of an event at a time.
 abbrev pub event_line : ℕ → Event → ReportLine
@@ -258,22 +258,22 @@ event_line time event = by_kind event.what
     by_kind (ReachesLevel control) = ReachedLine time event.tank control
 
 -- The lines of a period's end: one for each event, then one for each change by a rule, in order of the links.
-pub record AreEndLines (network : Project) (grid : Grid) (standing : Standing) (row : Record)
+pub record AreEndLines (project : Project) (grid : Grid) (standing : Standing) (row : Record)
     (lines : List ReportLine) : Type 0 where
   pub events : List Event
   pub changes : List Change
-  pub brings : EndBrings network grid standing row events changes
+  pub brings : EndBrings project grid standing row events changes
   pub lines_are : lines ≡ map (event_line (standing.time + row.length)) events
       ++ map (change_line (standing.time + row.length)) changes
 
 -- ---- a period's lines
 
 -- The lines of a period: changes by controls, the state where it is a report time, then what its end brings.
-pub record IsReport (network : Project) (grid : Grid) (standing : Standing) (row : Record)
+pub record IsReport (project : Project) (grid : Grid) (standing : Standing) (row : Record)
     (lines : List ReportLine) : Type 0 where
   pub state : List ReportLine
-  pub state_are : MatchBool (is_report_time network standing.time) (AreStateLines network grid standing row state)
+  pub state_are : MatchBool (is_report_time project standing.time) (AreStateLines project grid standing row state)
       (state ≡ [])
   pub at_end : List ReportLine
-  pub at_end_are : AreEndLines network grid standing row at_end
-  pub lines_are : lines ≡ control_lines network standing ++ (state ++ at_end)
+  pub at_end_are : AreEndLines project grid standing row at_end
+  pub lines_are : lines ≡ control_lines project standing ++ (state ++ at_end)

@@ -60,23 +60,23 @@ clock_text time =
 
 -- The ID of a node.
 abbrev pub node_id : Project → ℕ → List ℕ
-node_id network node = slice_index_or network.node_ids node []
+node_id project node = slice_index_or project.node_ids node []
 
 -- The ID of tank number `tank`.
 abbrev pub tank_id : Project → ℕ → List ℕ
-tank_id network tank = node_id network (tank_node network tank)
+tank_id project tank = node_id project (tank_node project tank)
 
 -- The ID of reservoir number `reservoir`.
 abbrev pub reservoir_id : Project → ℕ → List ℕ
-reservoir_id network reservoir = node_id network (junction_count network + reservoir)
+reservoir_id project reservoir = node_id project (junction_count project + reservoir)
 
 -- The ID of a link.
 abbrev pub link_id : Project → ℕ → List ℕ
-link_id network link = slice_index_or network.link_ids link []
+link_id project link = slice_index_or project.link_ids link []
 
 -- The ID of a rule.
 abbrev pub rule_id : Project → ℕ → List ℕ
-rule_id network rule = slice_index_or (map (λ r. r.id.list) network.rules.list) rule []
+rule_id project rule = slice_index_or (map (λ r. r.id.list) project.rules.list) rule []
 
 -- A state that a control or a rule gave: every one with a number by its setting.
 abbrev pub state_words : LinkState → List (List ℕ)
@@ -137,30 +137,30 @@ link_words id flow status = codes "LINK" ∷ (id ∷ with_ends (codes "flow") fl
 
 -- The words of a line.
 abbrev pub line_words : Project → ReportLine → List (List ℕ)
-line_words network (ControlLine time number link state) =
-    codes "CONTROL" ∷ (decimal (number + 1) ∷ (clock_text time ∷ given_words (link_id network link) state))
-line_words network (TimeLine time) = codes "TIME" ∷ (clock_text time ∷ [])
-line_words network (JunctionLine j head pressure outflow) = junction_words (node_id network j) head pressure outflow
-line_words network (ReservoirLine r head) = reservoir_words (reservoir_id network r) head
-line_words network (TankLine k head level inflow state) = tank_words (tank_id network k) head level inflow state
-line_words network (LinkLine l flow status) = link_words (link_id network l) flow status
-line_words network (FilledLine time tank) = event_words (tank_id network tank) time (codes "FULL" ∷ [])
-line_words network (EmptiedLine time tank) = event_words (tank_id network tank) time (codes "EMPTY" ∷ [])
-line_words network (ReachedLine time tank control) =
-    event_words (tank_id network tank) time (codes "CONTROL" ∷ (decimal (control + 1) ∷ []))
-line_words network (RuleLine time rule link state) =
-    codes "RULE" ∷ (rule_id network rule ∷ (clock_text time ∷ given_words (link_id network link) state))
+line_words project (ControlLine time number link state) =
+    codes "CONTROL" ∷ (decimal (number + 1) ∷ (clock_text time ∷ given_words (link_id project link) state))
+line_words project (TimeLine time) = codes "TIME" ∷ (clock_text time ∷ [])
+line_words project (JunctionLine j head pressure outflow) = junction_words (node_id project j) head pressure outflow
+line_words project (ReservoirLine r head) = reservoir_words (reservoir_id project r) head
+line_words project (TankLine k head level inflow state) = tank_words (tank_id project k) head level inflow state
+line_words project (LinkLine l flow status) = link_words (link_id project l) flow status
+line_words project (FilledLine time tank) = event_words (tank_id project tank) time (codes "FULL" ∷ [])
+line_words project (EmptiedLine time tank) = event_words (tank_id project tank) time (codes "EMPTY" ∷ [])
+line_words project (ReachedLine time tank control) =
+    event_words (tank_id project tank) time (codes "CONTROL" ∷ (decimal (control + 1) ∷ []))
+line_words project (RuleLine time rule link state) =
+    codes "RULE" ∷ (rule_id project rule ∷ (clock_text time ∷ given_words (link_id project link) state))
 
 -- The bytes of a line.
 abbrev pub line_text : Project → ReportLine → List ℕ
-line_text network each = line (line_words network each)
+line_text project each = line (line_words project each)
 
 -- ---- the last line
 
 -- The words of a problem, a pinned tank by its ID.
 abbrev pub problem_words : Project → Problem → List (List ℕ)
-problem_words network Main = codes "MAIN" ∷ []
-problem_words network (Pinned tank) = codes "PINNED" ∷ (tank_id network tank ∷ [])
+problem_words project Main = codes "MAIN" ∷ []
+problem_words project (Pinned tank) = codes "PINNED" ∷ (tank_id project tank ∷ [])
 
 -- The word of a side.
 abbrev pub side_word : Side → List ℕ
@@ -169,27 +169,27 @@ side_word Lower = codes "LOWER"
 
 -- The words of a stop's cause; clauses and controls are counted from 1 in print.
 abbrev pub cause_words : Project → StopCause → List (List ℕ)
-cause_words network (NoCertificate period problem side junction) =
-    codes "NOCERT" ∷ (problem_words network problem ++ (side_word side
-    ∷ (codes "JUNCTION" ∷ (node_id network junction ∷ []))))
-cause_words network (TankOpen period tank lo hi) =
-    codes "TANK" ∷ (tank_id network tank ∷ (signed_decimal lo ∷ (signed_decimal hi ∷ [])))
-cause_words network (RuleOpen period rule clause lo hi) =
-    codes "RULE" ∷ (rule_id network rule ∷ (codes "CLAUSE" ∷ (decimal (clause + 1) ∷
+cause_words project (NoCertificate period problem side junction) =
+    codes "NOCERT" ∷ (problem_words project problem ++ (side_word side
+    ∷ (codes "JUNCTION" ∷ (node_id project junction ∷ []))))
+cause_words project (TankOpen period tank lo hi) =
+    codes "TANK" ∷ (tank_id project tank ∷ (signed_decimal lo ∷ (signed_decimal hi ∷ [])))
+cause_words project (RuleOpen period rule clause lo hi) =
+    codes "RULE" ∷ (rule_id project rule ∷ (codes "CLAUSE" ∷ (decimal (clause + 1) ∷
     (signed_decimal lo ∷ (signed_decimal hi ∷ [])))))
-cause_words network (ControlOpen period control lo hi) =
+cause_words project (ControlOpen period control lo hi) =
     codes "CONTROL" ∷ (decimal (control + 1) ∷ (signed_decimal lo ∷ (signed_decimal hi ∷ [])))
-cause_words network (EventOpen period earliest latest) = codes "EVENT" ∷ (decimal earliest ∷ (decimal latest ∷ []))
-cause_words network (RoundsSpent period problem side rounds) =
-    codes "ROUNDS" ∷ (problem_words network problem ++ (side_word side ∷ (decimal rounds ∷ [])))
-cause_words network (DemandOutOfRange period junction demand) =
-    codes "DEMAND" ∷ (node_id network junction ∷ (signed_decimal demand ∷ []))
+cause_words project (EventOpen period earliest latest) = codes "EVENT" ∷ (decimal earliest ∷ (decimal latest ∷ []))
+cause_words project (RoundsSpent period problem side rounds) =
+    codes "ROUNDS" ∷ (problem_words project problem ++ (side_word side ∷ (decimal rounds ∷ [])))
+cause_words project (DemandOutOfRange period junction demand) =
+    codes "DEMAND" ∷ (node_id project junction ∷ (signed_decimal demand ∷ []))
 
 -- `STOP period p time h:mm:ss` and the cause.
 abbrev pub stop_line : Project → ℕ → StopCause → List ℕ
-stop_line network time cause =
+stop_line project time cause =
     line (codes "STOP" ∷ (codes "period" ∷ (decimal (period_of cause)
-    ∷ (codes "time" ∷ (clock_text time ∷ cause_words network cause)))))
+    ∷ (codes "time" ∷ (clock_text time ∷ cause_words project cause)))))
 
 -- `DONE n` after a finished run; n counts the records.
 abbrev pub done_line : ℕ → List ℕ
@@ -210,19 +210,19 @@ refused_period (After period) = period
 
 -- The words of a refusal.
 abbrev pub refusal_words : Project → CertRefused → List (List ℕ)
-refusal_words network (Place period) = codes "PLACE" ∷ []
-refusal_words network (Demand period) = codes "DEMAND" ∷ []
-refusal_words network (Fails period problem side junction) =
-    codes "FAILS" ∷ (problem_words network problem ++ (side_word side ∷
-    (codes "JUNCTION" ∷ (node_id network junction ∷ []))))
-refusal_words network (MatterOpen period) = codes "OPEN" ∷ []
-refusal_words network (Length period) = codes "LENGTH" ∷ []
-refusal_words network (After period) = codes "AFTER" ∷ []
+refusal_words project (Place period) = codes "PLACE" ∷ []
+refusal_words project (Demand period) = codes "DEMAND" ∷ []
+refusal_words project (Fails period problem side junction) =
+    codes "FAILS" ∷ (problem_words project problem ++ (side_word side ∷
+    (codes "JUNCTION" ∷ (node_id project junction ∷ []))))
+refusal_words project (MatterOpen period) = codes "OPEN" ∷ []
+refusal_words project (Length period) = codes "LENGTH" ∷ []
+refusal_words project (After period) = codes "AFTER" ∷ []
 
 -- `BADCERT period p` and why the record was refused.
 abbrev pub refused_line : Project → CertRefused → List ℕ
-refused_line network cause =
-    line (codes "BADCERT" ∷ (codes "period" ∷ (decimal (refused_period cause) ∷ refusal_words network cause)))
+refused_line project cause =
+    line (codes "BADCERT" ∷ (codes "period" ∷ (decimal (refused_period cause) ∷ refusal_words project cause)))
 
 -- `BADCERT line N END` where the end line, the line of that number, counted from 1, says what isn't so.
 abbrev pub refused_end_line : ℕ → List ℕ
@@ -230,5 +230,5 @@ refused_end_line number = line (codes "BADCERT" ∷ (codes "line" ∷ (decimal n
 
 -- The report of some lines and a last one: it begins with the line `HYD 1`.
 abbrev pub report_text : Project → List ReportLine → List ℕ → List ℕ
-report_text network lines last =
-    line (codes "HYD" ∷ (decimal 1 ∷ [])) ++ (joined (map (line_text network) lines) ++ last)
+report_text project lines last =
+    line (codes "HYD" ∷ (decimal 1 ∷ [])) ++ (joined (map (line_text project) lines) ++ last)

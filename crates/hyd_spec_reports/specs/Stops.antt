@@ -27,13 +27,13 @@ use Rattle.hyd_spec_certificates.specs.Valid.{levels_next}
 -- ---- demands
 
 -- The first junction whose demand is out of range, and the demand.
-pub record IsFirstDemand (network : Project) (time j : ℕ) (demand : ℤ) : Type 0 where
+pub record IsFirstDemand (project : Project) (time j : ℕ) (demand : ℤ) : Type 0 where
   pub junction : Junction
-  pub is_junction : slice_get network.junctions.list j ≡ Some junction
-  pub is_demand : demand ≡ demand_of network time junction
+  pub is_junction : slice_get project.junctions.list j ≡ Some junction
+  pub is_demand : demand ≡ demand_of project time junction
   pub out_of_range : demand_limit < unsigned_abs demand
-  pub first : (earlier : ℕ) (before : Junction) → earlier < j → slice_get network.junctions.list earlier ≡ Some before
-      → unsigned_abs (demand_of network time before) ≤ demand_limit
+  pub first : (earlier : ℕ) (before : Junction) → earlier < j → slice_get project.junctions.list earlier ≡ Some before
+      → unsigned_abs (demand_of project time before) ≤ demand_limit
 
 -- ---- the order of problems and sides
 
@@ -46,8 +46,8 @@ turn (Pinned tank) Lower = 2 * tank + 3
 
 -- Every problem and side whose turn comes before has a certificate on the grid.
 abbrev pub EarlierHaveCertificates : Project → Grid → Problem → Side → Type 0
-EarlierHaveCertificates network grid problem side =
-    (earlier : Problem) (other : Side) → IsProblem network earlier → turn earlier other < turn problem side
+EarlierHaveCertificates project grid problem side =
+    (earlier : Problem) (other : Side) → IsProblem project earlier → turn earlier other < turn problem side
     → (u : List ℤ) × IsCertificate grid earlier other u
 
 -- ---- vectors
@@ -58,23 +58,23 @@ beginning Upper count = replicate count (neg_ℤ (pos box_limit))
 beginning Lower count = replicate count (pos box_limit)
 
 -- At a standing with demands in range no vector is a certificate of the problem and side, the first such.
-pub record HasNoCertificate (network : Project) (standing : Standing) (problem : Problem) (side : Side) : Type 0 where
-  pub in_range : DemandsAreInRange network standing.time
-  pub is_problem : IsProblem network problem
+pub record HasNoCertificate (project : Project) (standing : Standing) (problem : Problem) (side : Side) : Type 0 where
+  pub in_range : DemandsAreInRange project standing.time
+  pub is_problem : IsProblem project problem
   pub grid : Grid
-  pub is_grid : IsGridAt network standing grid
-  pub earlier : EarlierHaveCertificates network grid problem side
+  pub is_grid : IsGridAt project standing grid
+  pub earlier : EarlierHaveCertificates project grid problem side
   pub none : (u : List ℤ) → IsCertificate grid problem side u → ⊥
 
 -- At a standing with demands in range so many plain rounds from the beginning exist, and their result is no
 -- certificate; every problem and side before has one.
-pub record SpendsRounds (network : Project) (standing : Standing) (problem : Problem) (side : Side)
+pub record SpendsRounds (project : Project) (standing : Standing) (problem : Problem) (side : Side)
     (rounds : ℕ) : Type 0 where
-  pub in_range : DemandsAreInRange network standing.time
-  pub is_problem : IsProblem network problem
+  pub in_range : DemandsAreInRange project standing.time
+  pub is_problem : IsProblem project problem
   pub grid : Grid
-  pub is_grid : IsGridAt network standing grid
-  pub earlier : EarlierHaveCertificates network grid problem side
+  pub is_grid : IsGridAt project standing grid
+  pub earlier : EarlierHaveCertificates project grid problem side
   pub reached : List ℤ
   pub by_rounds : AreRounds grid problem side rounds (beginning side (length grid.junctions)) reached
   pub not_one : IsCertificate grid problem side reached → ⊥
@@ -82,47 +82,47 @@ pub record SpendsRounds (network : Project) (standing : Standing) (problem : Pro
 -- ---- matters under the tight vectors
 
 -- A record whose vectors are the tight ones at a standing with demands in range.
-pub record IsTightRow (network : Project) (standing : Standing) (grid : Grid) (row : Record) : Type 0 where
-  pub in_range : DemandsAreInRange network standing.time
-  pub is_grid : IsGridAt network standing grid
-  pub one_each : length row.pinned ≡ length network.tanks.list
-  pub each : (problem : Problem) (side : Side) → IsProblem network problem
+pub record IsTightRow (project : Project) (standing : Standing) (grid : Grid) (row : Record) : Type 0 where
+  pub in_range : DemandsAreInRange project standing.time
+  pub is_grid : IsGridAt project standing grid
+  pub one_each : length row.pinned ≡ length project.tanks.list
+  pub each : (problem : Problem) (side : Side) → IsProblem project problem
       → IsTight grid problem side (vector_of row problem side)
 
 -- Under the tight vectors the end of the period is open by a rule.
-pub record LeavesRuleOpen (network : Project) (standing : Standing) (open_rule : OpenRule) : Type 0 where
+pub record LeavesRuleOpen (project : Project) (standing : Standing) (open_rule : OpenRule) : Type 0 where
   pub grid : Grid
   pub row : Record
-  pub tight : IsTightRow network standing grid row
-  pub is_open : EndsBy network grid standing row (RuleIsOpen open_rule)
+  pub tight : IsTightRow project standing grid row
+  pub is_open : EndsBy project grid standing row (RuleIsOpen open_rule)
 
 -- Under the tight vectors the end of the period is open between two seconds.
-pub record LeavesEventOpen (network : Project) (standing : Standing) (earliest latest : ℕ) : Type 0 where
+pub record LeavesEventOpen (project : Project) (standing : Standing) (earliest latest : ℕ) : Type 0 where
   pub grid : Grid
   pub row : Record
-  pub tight : IsTightRow network standing grid row
-  pub is_open : EndsBy network grid standing row (EventIsOpen earliest latest)
+  pub tight : IsTightRow project standing grid row
+  pub is_open : EndsBy project grid standing row (EventIsOpen earliest latest)
 
 -- Under the tight vectors the end is decided, and these are the level intervals there.
-pub record EndsAtLevels (network : Project) (standing : Standing) (levels : List Interval) : Type 0 where
+pub record EndsAtLevels (project : Project) (standing : Standing) (levels : List Interval) : Type 0 where
   pub grid : Grid
   pub row : Record
-  pub tight : IsTightRow network standing grid row
+  pub tight : IsTightRow project standing grid row
   pub seconds : ℕ
   pub links : List LinkState
-  pub ends : LeavesLinks network grid standing row seconds links
-  pub levels_are : levels ≡ levels_next network grid standing row seconds
+  pub ends : LeavesLinks project grid standing row seconds links
+  pub levels_are : levels ≡ levels_next project grid standing row seconds
 
 -- For each tank, whether its state is open at the level intervals.
 abbrev pub open_states : Project → List Interval → List Bool
-open_states network levels =
-    map_from (λ k tank. is_none (state_of tank (slice_index_or levels k nowhere))) 0 network.tanks.list
+open_states project levels =
+    map_from (λ k tank. is_none (state_of tank (slice_index_or levels k nowhere))) 0 project.tanks.list
 
 -- The first tank whose state is open at the level intervals of the decided end, and its interval.
-pub record LeavesTankOpen (network : Project) (standing : Standing) (tank : ℕ) (level : Interval) : Type 0 where
+pub record LeavesTankOpen (project : Project) (standing : Standing) (tank : ℕ) (level : Interval) : Type 0 where
   pub levels : List Interval
-  pub at_levels : EndsAtLevels network standing levels
-  pub first : position (λ is_open. is_open) (open_states network levels) ≡ Some tank
+  pub at_levels : EndsAtLevels project standing levels
+  pub first : position (λ is_open. is_open) (open_states project levels) ≡ Some tank
   pub level_is : slice_get levels tank ≡ Some level
 
 -- The control is a level control that is open at the level intervals.
@@ -134,16 +134,16 @@ is_open_control levels control = by_when control.when
     by_when when = false
 
 -- The first level control that is open there, all tank states being decided, and its tank's interval.
-pub record LeavesControlOpen (network : Project) (standing : Standing) (number : ℕ) (level : Interval) : Type 0 where
+pub record LeavesControlOpen (project : Project) (standing : Standing) (number : ℕ) (level : Interval) : Type 0 where
   pub levels : List Interval
-  pub at_levels : EndsAtLevels network standing levels
-  pub tanks_decided : position (λ is_open. is_open) (open_states network levels) ≡ None
-  pub first : position (is_open_control levels) network.controls.list ≡ Some number
+  pub at_levels : EndsAtLevels project standing levels
+  pub tanks_decided : position (λ is_open. is_open) (open_states project levels) ≡ None
+  pub first : position (is_open_control levels) project.controls.list ≡ Some number
   pub tank : ℕ
   pub above : Bool
   pub ticks : ℤ
   pub control : Control
-  pub is_control : slice_get network.controls.list number ≡ Some control
+  pub is_control : slice_get project.controls.list number ≡ Some control
   pub is_level : control.when ≡ AtLevel tank above ticks
   pub level_is : slice_get levels tank ≡ Some level
 
@@ -161,23 +161,23 @@ period_of (ControlOpen period control lo hi) = period
 
 -- What a cause says at a standing, for this number of rounds.
 abbrev pub HoldsAt : Project → Standing → ℕ → StopCause → Type 0
-HoldsAt network standing rounds (DemandOutOfRange period junction demand) =
-    IsFirstDemand network standing.time junction demand
-HoldsAt network standing rounds (NoCertificate period problem side junction) =
-    (junction < junction_count network) × HasNoCertificate network standing problem side
-HoldsAt network standing rounds (RoundsSpent period problem side spent) =
-    (spent ≡ rounds) × SpendsRounds network standing problem side rounds
-HoldsAt network standing rounds (RuleOpen period rule clause lo hi) =
-    LeavesRuleOpen network standing (record { rule = rule; clause = clause; lo = lo; hi = hi })
-HoldsAt network standing rounds (EventOpen period earliest latest) = LeavesEventOpen network standing earliest latest
-HoldsAt network standing rounds (TankOpen period tank lo hi) =
-    LeavesTankOpen network standing tank (record { lo = lo; hi = hi })
-HoldsAt network standing rounds (ControlOpen period control lo hi) =
-    LeavesControlOpen network standing control (record { lo = lo; hi = hi })
+HoldsAt project standing rounds (DemandOutOfRange period junction demand) =
+    IsFirstDemand project standing.time junction demand
+HoldsAt project standing rounds (NoCertificate period problem side junction) =
+    (junction < junction_count project) × HasNoCertificate project standing problem side
+HoldsAt project standing rounds (RoundsSpent period problem side spent) =
+    (spent ≡ rounds) × SpendsRounds project standing problem side rounds
+HoldsAt project standing rounds (RuleOpen period rule clause lo hi) =
+    LeavesRuleOpen project standing (record { rule = rule; clause = clause; lo = lo; hi = hi })
+HoldsAt project standing rounds (EventOpen period earliest latest) = LeavesEventOpen project standing earliest latest
+HoldsAt project standing rounds (TankOpen period tank lo hi) =
+    LeavesTankOpen project standing tank (record { lo = lo; hi = hi })
+HoldsAt project standing rounds (ControlOpen period control lo hi) =
+    LeavesControlOpen project standing control (record { lo = lo; hi = hi })
 
 -- The cause holds at a standing: it names the period that begins there, and what it says is so. Every problem and side
 -- before one that is named has a certificate; where a matter is named, all have tight vectors and it is the first open
 -- one (that so many rounds find them isn't said). Whether the run is over there is said elsewhere.
-pub record Stops (network : Project) (standing : Standing) (rounds : ℕ) (cause : StopCause) : Type 0 where
+pub record Stops (project : Project) (standing : Standing) (rounds : ℕ) (cause : StopCause) : Type 0 where
   pub period_is : period_of cause ≡ standing.number
-  pub holds : HoldsAt network standing rounds cause
+  pub holds : HoldsAt project standing rounds cause

@@ -38,34 +38,34 @@ summary_line junctions links periods events =
 
 -- The summary of what was found: its counts, and the last line of the run's report.
 abbrev pub summary_text : Project → Standing → List Found → Outcome → List ℕ
-summary_text network left founds outcome =
-    summary_line (junction_count network) (length network.links.list) (length founds) (event_count (lines_of founds))
-    ++ last_line network left (length founds) outcome
+summary_text project left founds outcome =
+    summary_line (junction_count project) (length project.links.list) (length founds) (event_count (lines_of founds))
+    ++ last_line project left (length founds) outcome
 
 -- ---- what a run with a summary promises
 
 -- What was written is the certificate of a run with some report, every history agrees with it, and what was printed
 -- is the summary of the run.
-pub record RunSums (network : Project) (rounds : ℕ) (sharpness : Sharpness) (outcome : Outcome)
+pub record RunSums (project : Project) (rounds : ℕ) (sharpness : Sharpness) (outcome : Outcome)
     (written printed : List ℕ) : Type 0 where
   pub report : List ℕ
-  pub run : RunWrites network rounds sharpness outcome written report
-  pub summary : printed ≡ summary_text network run.left run.founds outcome
+  pub run : RunWrites project rounds sharpness outcome written report
+  pub summary : printed ≡ summary_text project run.left run.founds outcome
 
 -- A fault of the outside ended the work: what was written is a front of the certificate of a run, as far as it went,
 -- what was printed is a front of its summary where the run's end is known, and nothing else; where something was
 -- printed, nothing of the certificate is unwritten; every history agrees with it.
-pub record SumsBreakOff (network : Project) (rounds : ℕ) (sharpness : Sharpness)
+pub record SumsBreakOff (project : Project) (rounds : ℕ) (sharpness : Sharpness)
     (written printed : List ℕ) : Type 0 where
   pub founds : List Found
   pub left : Standing
-  pub is_run : IsRun network founds left
-  pub sharp : AllByRecursion (IsSharpFound network sharpness) founds
+  pub is_run : IsRun project founds left
+  pub sharp : AllByRecursion (IsSharpFound project sharpness) founds
   pub last : Option Outcome
-  pub ends_so : MatchOption last ⊤ (EndsSo network left rounds)
+  pub ends_so : MatchOption last ⊤ (EndsSo project left rounds)
   pub unwritten : List ℕ
-  pub front_of_certificate : written ++ unwritten ≡ certificate_so_far network founds last
+  pub front_of_certificate : written ++ unwritten ≡ certificate_so_far project founds last
   pub unprinted : List ℕ
-  pub front_of_summary : printed ++ unprinted ≡ option_map_or (summary_text network left founds) last []
+  pub front_of_summary : printed ++ unprinted ≡ option_map_or (summary_text project left founds) last []
   pub in_order : printed ≢ [] → unwritten ≡ []
-  pub every_history : EveryHistoryAgrees network founds
+  pub every_history : EveryHistoryAgrees project founds

@@ -8,54 +8,54 @@ use Rattle.hyd_spec.specs.PeriodLength.{control_clock}
 use Rattle.hyd_spec_certificates.specs.Decided.{IsClockLength}
 use Rattle.hyd_step_by_clock.specs.Instants.{IsNextPattern, IsNextReport, ComesAt, IsFirstAmong}
 
-module _ (network : Project) (time pattern_at report_at alone e : ℕ) (patterns : IsNextPattern network time pattern_at)
-    (reports : IsNextReport network time report_at) (before : time < network.times.duration)
-    (some : 1 ≤ network.times.hydraulic)
-    (is : alone ≡ min (min (min (time + network.times.hydraulic) network.times.duration) pattern_at) report_at)
-    (among : IsFirstAmong network time alone network.controls.list e) where
-  one-of : (alone ≡ time + network.times.hydraulic) ⊎ ((alone ≡ network.times.duration) ⊎ ((alone ≡ pattern_at) ⊎
+module _ (project : Project) (time pattern_at report_at alone e : ℕ) (patterns : IsNextPattern project time pattern_at)
+    (reports : IsNextReport project time report_at) (before : time < project.times.duration)
+    (some : 1 ≤ project.times.hydraulic)
+    (is : alone ≡ min (min (min (time + project.times.hydraulic) project.times.duration) pattern_at) report_at)
+    (among : IsFirstAmong project time alone project.controls.list e) where
+  one-of : (alone ≡ time + project.times.hydraulic) ⊎ ((alone ≡ project.times.duration) ⊎ ((alone ≡ pattern_at) ⊎
       (alone ≡ report_at)))
-  one-of = elim (cases_lt (min (min (time + network.times.hydraulic) network.times.duration) pattern_at) report_at) [
+  one-of = elim (cases_lt (min (min (time + project.times.hydraulic) project.times.duration) pattern_at) report_at) [
     | inr more ↦ inr (inr (inr (omega (arith, is, more))))
-    | inl less ↦ elim (cases_lt (min (time + network.times.hydraulic) network.times.duration) pattern_at) [
+    | inl less ↦ elim (cases_lt (min (time + project.times.hydraulic) project.times.duration) pattern_at) [
       | inr more ↦ inr (inr (inl (omega (arith, is, less, more))))
-      | inl lesser ↦ elim (cases_lt (time + network.times.hydraulic) network.times.duration) [
+      | inl lesser ↦ elim (cases_lt (time + project.times.hydraulic) project.times.duration) [
         | inr more ↦ inr (inl (omega (arith, is, less, lesser, more)))
         | inl least ↦ inl (omega (arith, is, less, lesser, least))
       ]
     ]
   ]
 
-  alone-ends : EndsByClock network time alone
+  alone-ends : EndsByClock project time alone
   alone-ends = elim one-of [
     | inl a ↦ step (omega (arith, a, some)) a
     | inr b ↦ elim b [
       | inl a ↦ duration (omega (arith, a, before)) a
       | inr c ↦ elim c [
-        | inl a ↦ subst (EndsByClock network time) (sym a) (pattern patterns.holds.0 patterns.holds.1)
-        | inr a ↦ subst (EndsByClock network time) (sym a) (report reports.holds.0 reports.holds.1.0 reports.holds.1.1)
+        | inl a ↦ subst (EndsByClock project time) (sym a) (pattern patterns.holds.0 patterns.holds.1)
+        | inr a ↦ subst (EndsByClock project time) (sym a) (report reports.holds.0 reports.holds.1.0 reports.holds.1.1)
       ]
     ]
   ]
 
-  control-ends : (control : Control) (when : When) → Contains network.controls.list control → control.when ≡ when
-      → ComesAt network when e → EndsByClock network time e
+  control-ends : (control : Control) (when : When) → Contains project.controls.list control → control.when ≡ when
+      → ComesAt project when e → EndsByClock project time e
   control-ends control (AtLevel tank above ticks) there at comes = absurd comes
   control-ends control (AtTime at_time) there at comes =
       control_time control there (at ∙ ap AtTime (sym comes)) among.later
   control-ends control (AtClock at_clock) there at comes = control_clock control at_clock there at comes among.later
 
-  ends-so : EndsByClock network time e
+  ends-so : EndsByClock project time e
   ends-so = elim among.reached [
-    | inl at ↦ subst (EndsByClock network time) (sym at) alone-ends
+    | inl at ↦ subst (EndsByClock project time) (sym at) alone-ends
     | inr r ↦ control-ends r.0 (r.0).when r.1.0 refl r.1.1
   ]
 
-  comes-so : (k : ℕ) (control : Control) (when : When) → control.when ≡ when → ComesAt network when k
-      → ComesAt network control.when k
-  comes-so k control when at comes = subst (λ (w : When). ComesAt network w k) (sym at) comes
+  comes-so : (k : ℕ) (control : Control) (when : When) → control.when ≡ when → ComesAt project when k
+      → ComesAt project control.when k
+  comes-so k control when at comes = subst (λ (w : When). ComesAt project w k) (sym at) comes
 
-  first-so : (k : ℕ) → EndsByClock network time k → e ≤ k
+  first-so : (k : ℕ) → EndsByClock project time k → e ≤ k
   first-so k (step later at) = let w = among.within in omega (arith, at, w, is)
   first-so k (duration later at) = let w = among.within in omega (arith, at, w, is)
   first-so k (pattern later at) = let w = among.within in let l = patterns.least k (later, at) in omega
@@ -67,8 +67,8 @@ module _ (network : Project) (time pattern_at report_at alone e : ℕ) (patterns
   first-so k (control_clock control at_clock there at shows later) =
       among.none_before control k there later (comes-so k control (AtClock at_clock) at shows)
 
-  pub length-is : IsClockLength network time (e - time)
+  pub length-is : IsClockLength project time (e - time)
   length-is =
       let later = among.later in
       let same : time + (e - time) ≡ e = omega (arith, later) in
-      subst (IsLeast (EndsByClock network time)) (sym same) (record { holds = ends-so; least = first-so })
+      subst (IsLeast (EndsByClock project time)) (sym same) (record { holds = ends-so; least = first-so })

@@ -4,12 +4,12 @@ use Rattle.hyd_spec.specs.ProgramTypes.{Project}
 use Rattle.hyd_step_by_clock.specs.Instants.{IsToMultiple, IsNextReport}
 
 -- once report times have begun
-pub later-report : (network : Project) (time seconds : ℕ) → network.times.report_start ≤ time
-    → IsToMultiple (time - network.times.report_start) network.times.report seconds
-    → IsNextReport network time (time + seconds)
-later-report network time seconds from to =
-    let start = network.times.report_start in
-    let step = network.times.report in
+pub later-report : (project : Project) (time seconds : ℕ) → project.times.report_start ≤ time
+    → IsToMultiple (time - project.times.report_start) project.times.report seconds
+    → IsNextReport project time (time + seconds)
+later-report project time seconds from to =
+    let start = project.times.report_start in
+    let step = project.times.report in
     record {
       holds = (
         (let h = to.holds.0 in omega (arith, h)),

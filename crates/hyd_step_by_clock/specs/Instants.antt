@@ -11,35 +11,35 @@ IsToMultiple passed step seconds = IsLeast (λ s. (0 < s) × ((passed + s) % ste
 
 -- the next instant at which a step of the patterns begins
 abbrev pub IsNextPattern : Project → ℕ → ℕ → Type 0
-IsNextPattern network time instant =
-    IsLeast (λ e. (time < e) × ((e + network.times.pattern_start) % network.times.pattern ≡ 0)) instant
+IsNextPattern project time instant =
+    IsLeast (λ e. (time < e) × ((e + project.times.pattern_start) % project.times.pattern ≡ 0)) instant
 
 -- the next report time
 abbrev pub IsNextReport : Project → ℕ → ℕ → Type 0
-IsNextReport network time instant =
-    IsLeast (λ e. (time < e) × ((network.times.report_start ≤ e)
-    × ((e - network.times.report_start) % network.times.report ≡ 0)))
+IsNextReport project time instant =
+    IsLeast (λ e. (time < e) × ((project.times.report_start ≤ e)
+    × ((e - project.times.report_start) % project.times.report ≡ 0)))
     instant
 
 -- the least number of seconds, at least 1, until the clock shows a time of day
 abbrev pub IsToClock : Project → ℕ → ℕ → ℕ → Type 0
-IsToClock network time at seconds = IsLeast (λ s. (0 < s) × (clock_at network (time + s) ≡ at)) seconds
+IsToClock project time at seconds = IsLeast (λ s. (0 < s) × (clock_at project (time + s) ≡ at)) seconds
 
 -- a control acts by time or by clock at an instant
 abbrev pub ComesAt : Project → When → ℕ → Type 0
-ComesAt network (AtLevel tank above ticks) e = ⊥
-ComesAt network (AtTime at) e = e ≡ at
-ComesAt network (AtClock at) e = clock_at network e ≡ at
+ComesAt project (AtLevel tank above ticks) e = ⊥
+ComesAt project (AtTime at) e = e ≡ at
+ComesAt project (AtClock at) e = clock_at project e ≡ at
 
 -- the next instant after a time at which it does, or the cap where that comes first
 abbrev pub IsFirstComing : Project → ℕ → ℕ → When → ℕ → Type 0
-IsFirstComing network time cap when instant = IsLeast (λ e. (e ≡ cap) ⊎ ((time < e) × ComesAt network when e)) instant
+IsFirstComing project time cap when instant = IsLeast (λ e. (e ≡ cap) ⊎ ((time < e) × ComesAt project when e)) instant
 
 -- the next instant after a time at which one of some controls does, or the cap where that comes first
-pub record IsFirstAmong (network : Project) (time cap : ℕ) (controls : List Control) (instant : ℕ) : Type 0 where
+pub record IsFirstAmong (project : Project) (time cap : ℕ) (controls : List Control) (instant : ℕ) : Type 0 where
   pub later : time < instant
   pub within : instant ≤ cap
   pub reached : (instant ≡ cap) ⊎ ((control : Control) × (Contains controls control
-      × ComesAt network control.when instant))
-  pub none_before : (control : Control) (e : ℕ) → Contains controls control → time < e → ComesAt network control.when e
+      × ComesAt project control.when instant))
+  pub none_before : (control : Control) (e : ℕ) → Contains controls control → time < e → ComesAt project control.when e
       → instant ≤ e

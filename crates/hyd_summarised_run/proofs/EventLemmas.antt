@@ -74,30 +74,30 @@ events time (event ∷ list) =
 
 -- ---- a period
 
-states : (network : Project) (grid : Grid) (links : List LinkState) (row : Record) (facts : Facts)
-    → event_count (state_lines network grid links row facts) ≡ 0
-states network grid links row facts =
-    let junctions = map_from (junction_line network row.main.lower row.main.upper) 0 grid.junctions in
-    let reservoirs = map_from (reservoir_line network) 0 grid.reservoirs in
-    let tanks = map_from (tank_line network facts.levels.list facts.inflows.list facts.tanks.list) 0
-    network.tanks.list in
-    let pipes = map_from (link_line network grid (heads_below grid row) (heads_above grid row) links) 0
-    network.links.list in
+states : (project : Project) (grid : Grid) (links : List LinkState) (row : Record) (facts : Facts)
+    → event_count (state_lines project grid links row facts) ≡ 0
+states project grid links row facts =
+    let junctions = map_from (junction_line project row.main.lower row.main.upper) 0 grid.junctions in
+    let reservoirs = map_from (reservoir_line project) 0 grid.reservoirs in
+    let tanks = map_from (tank_line project facts.levels.list facts.inflows.list facts.tanks.list) 0
+    project.tanks.list in
+    let pipes = map_from (link_line project grid (heads_below grid row) (heads_above grid row) links) 0
+    project.links.list in
     with-none is_event (TimeLine facts.time) (junctions ++ (reservoirs ++ (tanks ++ pipes))) refl
     ∙ (none-then junctions (reservoirs ++ (tanks ++ pipes))
-    (no-events-from (junction_line network row.main.lower row.main.upper) (λ k x. refl) 0 grid.junctions)
+    (no-events-from (junction_line project row.main.lower row.main.upper) (λ k x. refl) 0 grid.junctions)
     ∙ (none-then reservoirs (tanks ++ pipes)
-    (no-events-from (reservoir_line network) (λ k x. refl) 0 grid.reservoirs)
+    (no-events-from (reservoir_line project) (λ k x. refl) 0 grid.reservoirs)
     ∙ (none-then tanks pipes
-    (no-events-from (tank_line network facts.levels.list facts.inflows.list facts.tanks.list) (λ k x. refl) 0
-    network.tanks.list)
-    ∙ no-events-from (link_line network grid (heads_below grid row) (heads_above grid row) links) (λ k x. refl) 0
-    network.links.list)))
+    (no-events-from (tank_line project facts.levels.list facts.inflows.list facts.tanks.list) (λ k x. refl) 0
+    project.tanks.list)
+    ∙ no-events-from (link_line project grid (heads_below grid row) (heads_above grid row) links) (λ k x. refl) 0
+    project.links.list)))
 
-middle : (network : Project) (grid : Grid) (links : List LinkState) (row : Record) (facts : Facts) (b : Bool)
-    → event_count (if b then state_lines network grid links row facts else []) ≡ 0
-middle network grid links row facts false = refl
-middle network grid links row facts true = states network grid links row facts
+middle : (project : Project) (grid : Grid) (links : List LinkState) (row : Record) (facts : Facts) (b : Bool)
+    → event_count (if b then state_lines project grid links row facts else []) ≡ 0
+middle project grid links row facts false = refl
+middle project grid links row facts true = states project grid links row facts
 
 last : (facts : Facts) → event_count (end_lines facts) ≡ length facts.events.list
 last facts =
@@ -107,10 +107,10 @@ last facts =
     ∙ (let e = events end facts.events.list in let c = changes end ruled in omega (arith, e, c))
 
 -- the events of a period are those of its facts
-pub period-events : (network : Project) (grid : Grid) (links : List LinkState) (row : Record) (facts : Facts)
-    → event_count (lines_of network grid links row facts) ≡ length facts.events.list
-period-events network grid links row facts =
-    none-then (start_lines facts) (middle_lines network grid links row facts ++ end_lines facts)
+pub period-events : (project : Project) (grid : Grid) (links : List LinkState) (row : Record) (facts : Facts)
+    → event_count (lines_of project grid links row facts) ≡ length facts.events.list
+period-events project grid links row facts =
+    none-then (start_lines facts) (middle_lines project grid links row facts ++ end_lines facts)
     (changes facts.time (take (before_rules facts.changes.list) facts.changes.list))
-    ∙ (none-then (middle_lines network grid links row facts) (end_lines facts)
-    (middle network grid links row facts (is_report_time network facts.time)) ∙ last facts)
+    ∙ (none-then (middle_lines project grid links row facts) (end_lines facts)
+    (middle project grid links row facts (is_report_time project facts.time)) ∙ last facts)

@@ -1,14 +1,13 @@
 -- What a step finds.
 use Rattle.std.proofs.Common.{◌≡◌, suc, ◌<◌, ◌^◌, [], length, refl, sym, ap, ◌∙◌, arith}
 use Rattle.std.proofs.lemmas.List.{length-map}
-use Rattle.hyd_spec_reports.specs.PromisesOfRunsAndChecks.{Found}
 use Rattle.hyd_cert.specs.RecordView.{row_of}
 use Rattle.hyd_cert.specs.declared.record.Record.{Record as Row}
 use Rattle.hyd_period_facts.specs.declared.facts.Facts.{Facts}
 use Rattle.hyd_period_network.specs.NetAsPeriodNetwork.{grid_of, states_of}
 use Rattle.hyd_period_network.specs.Periods.{ends_of}
-use Rattle.hyd_report.specs.PeriodLines.{lines_of}
-use Rattle.hyd_report.proofs.ReportLemmas.{length-links_of, lines_are_report}
+use Rattle.hyd_period_network.proofs.Counts.{links_count}
+use Rattle.hyd_report.proofs.ReportLemmas.{lines_are_report}
 use Rattle.hyd_spec_reports.specs.CertificateText.{record_text}
 use Rattle.hyd_io.specs.declared.output.OutFault.{OutFault}
 use Rattle.hyd_sim.specs.View.{SimView, IsSim, standing_of}
@@ -17,24 +16,15 @@ use Rattle.hyd_run.specs.Pens.{Moment, PutIn, IsCutOff}
 use Rattle.hyd_run.specs.Runs.{sharpness_of, IsStep, periods_left}
 use Rattle.hyd_run.proofs.PeriodLemmas.{tank-facts-of, few-periods, row-fits, grid-count, number-next, small-number}
 use Rattle.hyd_summarised_run.specs.SummarisedRuns.{SumsPeriod, LosesPeriod}
+use Rattle.hyd_run.proofs.StepLemmas.{found-of}
 use Rattle.hyd_summarised_run.proofs.EventLemmas.{period-events}
-
--- what a period found
-abbrev found-of : SimView → SimView → Found
-found-of before now = record {
-  standing = standing_of before;
-  grid = grid_of now.net;
-  row = row_of now.row;
-  lines = lines_of now.project (grid_of now.net) (states_of now.net) (row_of now.row) now.facts;
-  next = standing_of now;
-}
 
 module _ (before now : SimView) (is : IsSim now) (period : IsPeriod before now) where
   each-link : length (grid_of now.net).links ≡ length now.project.links.list
   each-link =
       let ends : length now.net.ends ≡ length now.project.links.list =
       ap length is.net.ends ∙ length-map now.project.links.list ends_of in
-      length-links_of now.net.ends now.net.settings now.net.own (is.net.each_setting ∙ sym ends) (is.net.each_own ∙
+      links_count now.net.ends now.net.settings now.net.own (is.net.each_setting ∙ sym ends) (is.net.each_own ∙
       sym ends) ∙ ends
 
   number-is : (standing_of now).number ≡ suc (standing_of before).number

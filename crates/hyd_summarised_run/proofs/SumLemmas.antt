@@ -1,32 +1,24 @@
 -- Runs as far as they have gone, and what is put out of them.
-use Rattle.std.proofs.Common.{◌≡◌, ℕ, ◌+◌, ◌<◌, ◌^◌, List, [], ◌∷◌, ◌++◌, length, length-append, map}
-use Rattle.std.proofs.Common.{Option, Some, None, refl, sym, ap, subst, ◌∙◌, arith, append-nil, append_assoc}
-use Rattle.std.proofs.Common.{Bool, true, false, ◌⊎◌, inl, inr}
-use Rattle.std.specs.Prelude.{All, if◌then◌else◌, ◌≤◌, Result, Ok, Err, IfOk, IfErr, OnOk}
-use Rattle.std.specs.List.{AllByRecursion}
-use Rattle.std.proofs.lemmas.List.Elements.{All-push}
+use Rattle.std.proofs.Common.{◌≡◌, ℕ, ◌+◌, ◌<◌, ◌^◌, List, [], ◌∷◌, ◌++◌, length, length-append, Some, None, refl, sym}
+use Rattle.std.proofs.Common.{ap, subst, ◌∙◌, arith, append-nil, ◌⊎◌, inl, inr}
+use Rattle.std.specs.Prelude.{Result, Ok, Err, IfOk, IfErr, OnOk}
 use Rattle.hyd_net.specs.Sound.{Sound}
 use Rattle.hyd_spec.specs.ProgramTypes.{Project}
-use Rattle.hyd_spec.specs.Lists.{joined}
 use Rattle.hyd_spec.specs.NodeNumbers.{junction_count, tank_count}
 use Rattle.hyd_spec_certificates.specs.RecordAndStanding.{Standing, initial_standing}
-use Rattle.hyd_spec_reports.specs.CertificateText.{IsRow, IsCertificateText, record_text, end_line, header_line}
-use Rattle.hyd_spec_reports.specs.CertificateText.{version_of}
-use Rattle.hyd_spec_reports.specs.PromisesOfRunsAndChecks.{Found, IsRun, IsRunFrom, Sharpness, IsSharpFound, Outcome}
-use Rattle.hyd_spec_reports.specs.PromisesOfRunsAndChecks.{EndsSo, rows_of, lines_of, last_line, report_so_far}
-use Rattle.hyd_spec_reports.specs.PromisesOfRunsAndChecks.{is_finished, certificate_so_far}
+use Rattle.hyd_spec_reports.specs.CertificateText.{end_line, header_line, version_of}
+use Rattle.hyd_spec_reports.specs.PromisesOfRunsAndChecks.{Found, IsRunFrom, Sharpness, IsSharpFound, Outcome, EndsSo}
+use Rattle.hyd_spec_reports.specs.PromisesOfRunsAndChecks.{lines_of, last_line, report_so_far, is_finished}
+use Rattle.hyd_spec_reports.specs.PromisesOfRunsAndChecks.{certificate_so_far}
 use Rattle.hyd_spec_summary.specs.Summary.{event_count, summary_line, summary_text}
-use Rattle.hyd_theorems_on_definitions.proofs.Appending.{run_more}
+use Rattle.hyd_lemmas.proofs.ListsAndOptions.{join-more, all-more}
 use Rattle.hyd_theorems_on_histories.proofs.Running.{every_history}
-use Rattle.hyd_cert.specs.Lines.{Header, header_words, header_text}
-use Rattle.hyd_cert.proofs.HeadLemmas.{header_is}
-use Rattle.hyd_cert.proofs.ReadingLemmas.{whole_reading}
-use Rattle.hyd_report.proofs.Joining.{map-append}
+use Rattle.hyd_cert.specs.Lines.{Header, header_text}
 use Rattle.hyd_io.specs.declared.output.OutFault.{OutFault}
 use Rattle.hyd_io.specs.declared.output.Channel.TheVariants.{Cert, Report}
 use Rattle.hyd_io.specs.Output.{PenState}
-use Rattle.hyd_io.specs.DeskBytes.{append_known, Moves, PutOut}
-use Rattle.hyd_io.proofs.ToldLemmas.{append_known-nil, moves_whole, put_out_more}
+use Rattle.hyd_io.specs.DeskBytes.{append_known, PutOut}
+use Rattle.hyd_io.proofs.ToldLemmas.{append_known-nil, put_out_more}
 use Rattle.hyd_sim.specs.View.{SimView, standing_of, header_for}
 use Rattle.hyd_sim.specs.declared.settings.Settings.{Settings}
 use Rattle.hyd_run.specs.Pens.{Moment, PutIn, IsCutOff, OneRose, LeavesRest}
@@ -34,52 +26,12 @@ use Rattle.hyd_run.specs.Runs.{sharpness_of, fresh, outcome_of, IsStep, IsOver}
 use Rattle.hyd_run.specs.declared.outcome.RunEnd.{RunEnd}
 use Rattle.hyd_run.proofs.PenLemmas.{put-then, cut-then}
 use Rattle.hyd_summarised_run.specs.SummarisedRuns.{IsSummed, IsSumBrokenOff, SumsSoFar, SumsWhole, SumsCutShort}
-use Rattle.hyd_summarised_run.specs.SummarisedRuns.{SumsPeriod}
-use Rattle.hyd_summarised_run.specs.SummarisedRuns.{LosesPeriod, summary_so_far, IsWritten, RunSumsIn}
+use Rattle.hyd_summarised_run.specs.SummarisedRuns.{SumsPeriod, LosesPeriod, summary_so_far, IsWritten, RunSumsIn}
+use Rattle.hyd_run.proofs.RunLemmas.{rows-with, moved-whole, put-as, certificate-more, run-with, certificate-last}
+use Rattle.hyd_run.proofs.RunLemmas.{certificate-is, out-whole, cut-as}
 use Rattle.hyd_summarised_run.proofs.EventLemmas.{events-append}
 
--- ---- texts
-
-join-append : {X : Type 0} (xs ys : List (List X)) → joined (xs ++ ys) ≡ joined xs ++ joined ys
-join-append [] ys = refl
-join-append (x ∷ xs) ys = ap (λ rest. x ++ rest) (join-append xs ys) ∙ sym (append_assoc x (joined xs) (joined ys))
-
-join-more : {X Y : Type 0} (f : X → List Y) (xs : List X) (x : X)
-    → joined (map f (xs ++ (x ∷ []))) ≡ joined (map f xs) ++ f x
-join-more f xs x =
-    ap joined (map-append f xs (x ∷ [])) ∙ (join-append (map f xs) (f x ∷ []) ∙ ap (λ ys. joined (map f xs) ++ ys)
-    (append-nil (f x)))
-
-certificate-last : (network : Project) (founds : List Found) (outcome : Outcome)
-    → certificate_so_far network founds None ++ end_line (length founds) (is_finished outcome)
-    ≡ certificate_so_far network founds (Some outcome)
-certificate-last network founds outcome =
-    let head = header_line (version_of network) (junction_count network) (tank_count network) in
-    let rows = joined (map record_text (rows_of founds)) in
-    ap (λ xs. (head ++ xs) ++ end_line (length founds) (is_finished outcome)) (append-nil rows)
-    ∙ append_assoc head rows (end_line (length founds) (is_finished outcome))
-
-certificate-more : (network : Project) (founds : List Found) (found : Found)
-    → certificate_so_far network founds None ++ record_text found.row
-    ≡ certificate_so_far network (founds ++ (found ∷ [])) None
-certificate-more network founds found =
-    let head = header_line (version_of network) (junction_count network) (tank_count network) in
-    let rows = joined (map record_text (rows_of founds)) in
-    ap (λ xs. (head ++ xs) ++ record_text found.row) (append-nil rows)
-    ∙ (append_assoc head rows (record_text found.row)
-    ∙ ap (λ xs. head ++ xs) (sym (append-nil (joined (map record_text (rows_of (founds ++ (found ∷ []))))
-    ) ∙ (ap (λ rs. joined (map record_text rs)) (map-append (λ (f : Found). f.row) founds (found ∷ []))
-    ∙ join-more record_text (rows_of founds) found.row))))
-
 -- ---- texts put in, in other words
-
-put-as : (a b a' b' : List ℕ) (m n : Moment) → a ≡ a' → b ≡ b' → PutIn a b m n → PutIn a' b' m n
-put-as a b a' b' m n e f put = subst (λ (x : List ℕ). PutIn x b' m n) e (subst (λ (y : List ℕ). PutIn a y m n) f put)
-
-cut-as : (why : OutFault) (a b a' b' : List ℕ) (m n : Moment) → a ≡ a' → b ≡ b' → IsCutOff why a b m n
-    → IsCutOff why a' b' m n
-cut-as why a b a' b' m n e f cut = subst (λ (x : List ℕ). IsCutOff why x b' m n) e (subst (λ (y : List ℕ). IsCutOff
-    why a y m n) f cut)
 
 nothing-before : (front held : List ℕ) → [] ≡ front ++ held → front ≡ []
 nothing-before [] held e = refl
@@ -112,27 +64,6 @@ cut-more why a b m n cut = record {
 
 -- ---- a run so far
 
-all-more : {X : Type 0} (P : X → Type 0) (xs : List X) (x : X) → AllByRecursion P xs → P x
-    → AllByRecursion P (xs ++ (x ∷ []))
-all-more P [] x all here = (here, tt)
-all-more P (y ∷ xs) x all here = (all.0, all-more P xs x all.1 here)
-
-run-with : (network : Project) (founds : List Found) (left next : Standing) (sharpness : Sharpness) (found : Found)
-    → IsStep network sharpness left next found → IsRun network founds left
-    → IsRun network (founds ++ (found ∷ [])) next
-run-with network founds left next sharpness found step run =
-    subst (λ (s : Standing). IsRun network (founds ++ (found ∷ [])) s) step.leaves
-    (run_more network founds left found run step.begins step.is_found)
-
-rows-with : (network : Project) (founds : List Found) (found : Found)
-    → All (IsRow (junction_count network) (tank_count network)) (rows_of founds)
-    → IsRow (junction_count network) (tank_count network) found.row
-    → All (IsRow (junction_count network) (tank_count network)) (rows_of (founds ++ (found ∷ [])))
-rows-with network founds found fit here =
-    subst (All (IsRow (junction_count network) (tank_count network))) (sym (map-append (λ (f : Found). f.row) founds
-    (found ∷ [])))
-    (All-push (IsRow (junction_count network) (tank_count network)) (rows_of founds) found.row fit here)
-
 events-with : (founds : List Found) (found : Found) (events more sum : ℕ) → event_count (lines_of founds) ≡ events
     → event_count found.lines ≡ more → events + more ≡ sum → event_count (lines_of (founds ++ (found ∷ []))) ≡ sum
 events-with founds found events more sum e f s =
@@ -140,10 +71,10 @@ events-with founds found events more sum e f s =
     ∙ (events-append (lines_of founds) found.lines ∙ (ap (λ (n : ℕ). n + event_count found.lines) e
     ∙ (ap (λ (n : ℕ). events + n) f ∙ s)))
 
-begins : (network : Project) (sharpness : Sharpness) (before now : Moment)
-    → PutIn (header_line (version_of network) (junction_count network) (tank_count network)) [] before now
-    → SumsSoFar network sharpness (initial_standing network) 0 before now
-begins network sharpness before now put = record {
+begins : (project : Project) (sharpness : Sharpness) (before now : Moment)
+    → PutIn (header_line (version_of project) (junction_count project) (tank_count project)) [] before now
+    → SumsSoFar project sharpness (initial_standing project) 0 before now
+begins project sharpness before now put = record {
   founds = [];
   is_run = IsRunFrom.none;
   sharp = tt;
@@ -151,24 +82,24 @@ begins network sharpness before now put = record {
   each = refl;
   counted = refl;
   put = put-as _ [] _ [] before now
-      (sym (append-nil (header_line (version_of network) (junction_count network) (tank_count network)))) refl put;
+      (sym (append-nil (header_line (version_of project) (junction_count project) (tank_count project)))) refl put;
 }
 
 -- the header was put in, or a fault cut it off
-pub begun : (network : Project) (settings : Settings) (left : Standing) (header : Header) (before now : Moment)
-    → header ≡ header_for network → left ≡ initial_standing network → PutIn (header_text header) [] before now
-    → SumsSoFar network (sharpness_of settings) left 0 before now
-begun network settings left header before now same start put =
-    subst (λ (s : Standing). SumsSoFar network (sharpness_of settings) s 0 before now) (sym start)
-    (begins network (sharpness_of settings) before now
+pub begun : (project : Project) (settings : Settings) (left : Standing) (header : Header) (before now : Moment)
+    → header ≡ header_for project → left ≡ initial_standing project → PutIn (header_text header) [] before now
+    → SumsSoFar project (sharpness_of settings) left 0 before now
+begun project settings left header before now same start put =
+    subst (λ (s : Standing). SumsSoFar project (sharpness_of settings) s 0 before now) (sym start)
+    (begins project (sharpness_of settings) before now
     (subst (λ (h : Header). PutIn (header_text h) [] before now) same put))
 
-pub begun-cut : (network : Project) (settings : Settings) (fault : OutFault) (header : Header) (before now : Moment)
-    → header ≡ header_for network → IsCutOff fault (header_text header) [] before now
-    → SumsCutShort network settings fault before now
-begun-cut network settings fault header before now same cut = record {
+pub begun-cut : (project : Project) (settings : Settings) (fault : OutFault) (header : Header) (before now : Moment)
+    → header ≡ header_for project → IsCutOff fault (header_text header) [] before now
+    → SumsCutShort project settings fault before now
+begun-cut project settings fault header before now same cut = record {
   founds = [];
-  left = initial_standing network;
+  left = initial_standing project;
   is_run = IsRunFrom.none;
   sharp = tt;
   last = None;
@@ -177,90 +108,84 @@ begun-cut network settings fault header before now same cut = record {
   in_order = inl off;
 }
   where
-    off : IsCutOff fault (certificate_so_far network [] None) [] before now
+    off : IsCutOff fault (certificate_so_far project [] None) [] before now
     off = cut-as fault _ [] _ [] before now
-        (sym (append-nil (header_line (version_of network) (junction_count network) (tank_count network)))) refl
+        (sym (append-nil (header_line (version_of project) (junction_count project) (tank_count project)))) refl
         (subst (λ (h : Header). IsCutOff fault (header_text h) [] before now) same cut)
 
 -- a period more, of the run that was begun
-pub more-done : (network : Project) (settings : Settings) (before now : SimView) (start m n : Moment)
-    (events more sum : ℕ) → now.project ≡ network → now.settings ≡ settings → events + more ≡ sum
+pub more-done : (project : Project) (settings : Settings) (before now : SimView) (start m n : Moment)
+    (events more sum : ℕ) → now.project ≡ project → now.settings ≡ settings → events + more ≡ sum
     → SumsPeriod more before now m n
-    → SumsSoFar network (sharpness_of settings) (standing_of before) events start m
-    → SumsSoFar network (sharpness_of settings) (standing_of now) sum start n
-more-done network settings before now start m n events more sum p s e did so_far = record {
+    → SumsSoFar project (sharpness_of settings) (standing_of before) events start m
+    → SumsSoFar project (sharpness_of settings) (standing_of now) sum start n
+more-done project settings before now start m n events more sum p s e did so_far = record {
   founds = so_far.founds ++ (did.found ∷ []);
-  is_run = run-with network so_far.founds (standing_of before) (standing_of now) (sharpness_of settings) did.found step
+  is_run = run-with project so_far.founds (standing_of before) (standing_of now) (sharpness_of settings) did.found step
       so_far.is_run;
-  sharp = all-more (IsSharpFound network (sharpness_of settings)) so_far.founds did.found so_far.sharp step.sharp;
-  fit = rows-with network so_far.founds did.found so_far.fit step.fits;
+  sharp = all-more (IsSharpFound project (sharpness_of settings)) so_far.founds did.found so_far.sharp step.sharp;
+  fit = rows-with project so_far.founds did.found so_far.fit step.fits;
   each = (let l = length-append so_far.founds (did.found ∷ []) in let c = so_far.each in let x = step.number in omega
       (arith, l, c, x));
   counted = events-with so_far.founds did.found events more sum so_far.counted did.counted e;
-  put = put-as _ [] _ [] start n (certificate-more network so_far.founds did.found) refl
+  put = put-as _ [] _ [] start n (certificate-more project so_far.founds did.found) refl
       (put-then _ [] _ [] start m n so_far.put did.put);
 }
   where
-    step : IsStep network (sharpness_of settings) (standing_of before) (standing_of now) did.found
+    step : IsStep project (sharpness_of settings) (standing_of before) (standing_of now) did.found
     step = rw (← p, ← s) did.step
 
-pub more-lost : (network : Project) (settings : Settings) (fault : OutFault) (before now : SimView) (start m n : Moment)
-    (events : ℕ) → now.project ≡ network → now.settings ≡ settings → LosesPeriod fault before now m n
-    → SumsSoFar network (sharpness_of settings) (standing_of before) events start m
-    → SumsCutShort network settings fault start n
-more-lost network settings fault before now start m n events p s lost so_far = record {
+pub more-lost : (project : Project) (settings : Settings) (fault : OutFault) (before now : SimView) (start m n : Moment)
+    (events : ℕ) → now.project ≡ project → now.settings ≡ settings → LosesPeriod fault before now m n
+    → SumsSoFar project (sharpness_of settings) (standing_of before) events start m
+    → SumsCutShort project settings fault start n
+more-lost project settings fault before now start m n events p s lost so_far = record {
   founds = so_far.founds ++ (lost.found ∷ []);
   left = standing_of now;
-  is_run = run-with network so_far.founds (standing_of before) (standing_of now) (sharpness_of settings) lost.found step
+  is_run = run-with project so_far.founds (standing_of before) (standing_of now) (sharpness_of settings) lost.found step
       so_far.is_run;
-  sharp = all-more (IsSharpFound network (sharpness_of settings)) so_far.founds lost.found so_far.sharp step.sharp;
+  sharp = all-more (IsSharpFound project (sharpness_of settings)) so_far.founds lost.found so_far.sharp step.sharp;
   last = None;
   ends_so = tt;
   cut = off;
   in_order = inl off;
 }
   where
-    step : IsStep network (sharpness_of settings) (standing_of before) (standing_of now) lost.found
+    step : IsStep project (sharpness_of settings) (standing_of before) (standing_of now) lost.found
     step = rw (← p, ← s) lost.step
 
-    off : IsCutOff fault (certificate_so_far network (so_far.founds ++ (lost.found ∷ [])) None) [] start n
-    off = cut-as fault _ [] _ [] start n (certificate-more network so_far.founds lost.found) refl
+    off : IsCutOff fault (certificate_so_far project (so_far.founds ++ (lost.found ∷ [])) None) [] start n
+    off = cut-as fault _ [] _ [] start n (certificate-more project so_far.founds lost.found) refl
         (cut-then fault _ [] _ [] start m n so_far.put lost.cut)
 
--- the end of a run
-pub over-ends : (network : Project) (settings : Settings) (outcome : Outcome) (before now : SimView) (m n : Moment)
-    → now.project ≡ network → now.settings ≡ settings → IsOver outcome before now m n
-    → EndsSo network (standing_of now) settings.rounds outcome
-over-ends network settings outcome before now m n p s over = rw (← p, ← s) over.ends_so
-
-pub over-stays : (network : Project) (settings : Settings) (outcome : Outcome) (before now : SimView) (events : ℕ)
+pub over-stays : (project : Project) (settings : Settings) (outcome : Outcome) (before now : SimView) (events : ℕ)
     (start m n : Moment) → IsOver outcome before now m n
-    → SumsSoFar network (sharpness_of settings) (standing_of before) events start m
-    → SumsSoFar network (sharpness_of settings) (standing_of now) events start n
-over-stays network settings outcome before now events start m n over so_far =
-    subst (λ (s : Standing). SumsSoFar network (sharpness_of settings) s events start n) (sym over.stays)
-    (subst (λ (x : Moment). SumsSoFar network (sharpness_of settings) (standing_of before) events start x)
+    → SumsSoFar project (sharpness_of settings) (standing_of before) events start m
+    → SumsSoFar project (sharpness_of settings) (standing_of now) events start n
+over-stays project settings outcome before now events start m n over so_far =
+    subst (λ (s : Standing). SumsSoFar project (sharpness_of settings) s events start n) (sym over.stays)
+    (subst (λ (x : Moment). SumsSoFar project (sharpness_of settings) (standing_of before) events start x)
     (sym over.nothing) so_far)
 
 -- ---- the last lines
 
-module _ (network : Project) (settings : Settings) (outcome : Outcome) (left : Standing) (events records : ℕ)
-    (start before : Moment) (counted : records ≡ left.number) (ends : EndsSo network left settings.rounds outcome)
-    (so_far : SumsSoFar network (sharpness_of settings) left events start before) where
+module _ (project : Project) (settings : Settings) (outcome : Outcome) (left : Standing) (events records : ℕ)
+    (start before : Moment) (counted : records ≡ left.number) (ends : EndsSo project left settings.rounds outcome)
+    (so_far : SumsSoFar project (sharpness_of settings) left events start before) where
   same : records ≡ length so_far.founds
   same = counted ∙ sym so_far.each
 
   -- the END line was put in
   closed : (now : Moment) → PutIn (end_line records (is_finished outcome)) [] before now
-      → PutIn (certificate_so_far network so_far.founds (Some outcome)) [] start now
-  closed now put = put-as _ [] _ [] start now (certificate-last network so_far.founds outcome) refl
+      → PutIn (certificate_so_far project so_far.founds (Some outcome)) [] start now
+  closed now put = put-as _ [] _ [] start now (certificate-last project so_far.founds outcome) refl
       (put-then _ [] _ [] start before now so_far.put
       (subst (λ (n : ℕ). PutIn (end_line n (is_finished outcome)) [] before now) same put))
 
   -- or cut off
   pub close-cut : (fault : OutFault) (now : Moment)
       → IsCutOff fault (end_line records (is_finished outcome)) [] before now
-      → SumsCutShort network settings fault start now
+      → SumsCutShort project settings fault start now
   close-cut fault now cut = record {
     founds = so_far.founds;
     left = left;
@@ -268,29 +193,29 @@ module _ (network : Project) (settings : Settings) (outcome : Outcome) (left : S
     sharp = so_far.sharp;
     last = Some outcome;
     ends_so = ends;
-    cut = cut-more fault _ (summary_text network left so_far.founds outcome) start now off;
+    cut = cut-more fault _ (summary_text project left so_far.founds outcome) start now off;
     in_order = inl off;
   }
     where
-      off : IsCutOff fault (certificate_so_far network so_far.founds (Some outcome)) [] start now
-      off = cut-as fault _ [] _ [] start now (certificate-last network so_far.founds outcome) refl
+      off : IsCutOff fault (certificate_so_far project so_far.founds (Some outcome)) [] start now
+      off = cut-as fault _ [] _ [] start now (certificate-last project so_far.founds outcome) refl
           (cut-then fault _ [] _ [] start before now so_far.put
           (subst (λ (n : ℕ). IsCutOff fault (end_line n (is_finished outcome)) [] before now) same cut))
 
   -- the summary in the words of what was found
-  text-is : summary_line (junction_count network) (length network.links.list) records events
-      ++ last_line network left records outcome ≡ summary_text network left so_far.founds outcome
+  text-is : summary_line (junction_count project) (length project.links.list) records events
+      ++ last_line project left records outcome ≡ summary_text project left so_far.founds outcome
   text-is =
-      ap (λ (n : ℕ). summary_line (junction_count network) (length network.links.list) n events
-      ++ last_line network left n outcome) same
-      ∙ ap (λ (e : ℕ). summary_line (junction_count network) (length network.links.list) (length so_far.founds) e
-      ++ last_line network left (length so_far.founds) outcome) (sym so_far.counted)
+      ap (λ (n : ℕ). summary_line (junction_count project) (length project.links.list) n events
+      ++ last_line project left n outcome) same
+      ∙ ap (λ (e : ℕ). summary_line (junction_count project) (length project.links.list) (length so_far.founds) e
+      ++ last_line project left (length so_far.founds) outcome) (sym so_far.counted)
 
   pub is-whole : (closed-at now : Moment) → records < 2 ^ 32
       → PutIn (end_line records (is_finished outcome)) [] before closed-at
-      → PutIn [] (summary_line (junction_count network) (length network.links.list) records events
-      ++ last_line network left records outcome) closed-at now
-      → SumsWhole network settings outcome start now
+      → PutIn [] (summary_line (junction_count project) (length project.links.list) records events
+      ++ last_line project left records outcome) closed-at now
+      → SumsWhole project settings outcome start now
   is-whole closed-at now few put summed = record {
     founds = so_far.founds;
     left = left;
@@ -299,16 +224,16 @@ module _ (network : Project) (settings : Settings) (outcome : Outcome) (left : S
     fit = so_far.fit;
     few = subst (λ (n : ℕ). n < 2 ^ 32) same few;
     ends_so = ends;
-    put = put-as _ _ _ _ start now (append-nil (certificate_so_far network so_far.founds (Some outcome))) text-is
-        (put-then (certificate_so_far network so_far.founds (Some outcome)) [] [] _ start closed-at now
+    put = put-as _ _ _ _ start now (append-nil (certificate_so_far project so_far.founds (Some outcome))) text-is
+        (put-then (certificate_so_far project so_far.founds (Some outcome)) [] [] _ start closed-at now
         (closed closed-at put) summed);
   }
 
   pub summary-cut : (fault : OutFault) (closed-at now : Moment)
       → PutIn (end_line records (is_finished outcome)) [] before closed-at → closed-at.certificate.held ≡ []
-      → IsCutOff fault [] (summary_line (junction_count network) (length network.links.list) records events
-      ++ last_line network left records outcome) closed-at now
-      → SumsCutShort network settings fault start now
+      → IsCutOff fault [] (summary_line (junction_count project) (length project.links.list) records events
+      ++ last_line project left records outcome) closed-at now
+      → SumsCutShort project settings fault start now
   summary-cut fault closed-at now put emptied cut = record {
     founds = so_far.founds;
     left = left;
@@ -316,65 +241,29 @@ module _ (network : Project) (settings : Settings) (outcome : Outcome) (left : S
     sharp = so_far.sharp;
     last = Some outcome;
     ends_so = ends;
-    cut = cut-as fault _ _ _ _ start now (append-nil (certificate_so_far network so_far.founds (Some outcome))) text-is
-        (cut-then fault (certificate_so_far network so_far.founds (Some outcome)) [] [] _ start closed-at now
+    cut = cut-as fault _ _ _ _ start now (append-nil (certificate_so_far project so_far.founds (Some outcome))) text-is
+        (cut-then fault (certificate_so_far project so_far.founds (Some outcome)) [] [] _ start closed-at now
         (closed closed-at put) cut);
-    in_order = inr (written-still (certificate_so_far network so_far.founds (Some outcome)) [] fault _ start closed-at
+    in_order = inr (written-still (certificate_so_far project so_far.founds (Some outcome)) [] fault _ start closed-at
         now (closed closed-at put) emptied cut);
   }
 
 -- what the last lines make of a run, as of the one that was begun
-pub ending-sums : (network p : Project) (settings s : Settings) (left : Standing) (events : ℕ) (outcome : Outcome)
-    (result : Result RunEnd OutFault) (start before now : Moment) → p ≡ network → s ≡ settings
+pub ending-sums : (project p : Project) (settings s : Settings) (left : Standing) (events : ℕ) (outcome : Outcome)
+    (result : Result RunEnd OutFault) (start before now : Moment) → p ≡ project → s ≡ settings
     → (EndsSo p left s.rounds outcome → (x : Moment) → SumsSoFar p (sharpness_of s) left events x before
     → RunSumsIn result p s x now)
-    → EndsSo network left settings.rounds outcome → SumsSoFar network (sharpness_of settings) left events start before
-    → RunSumsIn result network settings start now
-ending-sums network p settings s left events outcome result start before now e f puts ends so_far =
-    subst (λ (t : Settings). EndsSo network left t.rounds outcome → (x : Moment)
-    → SumsSoFar network (sharpness_of t) left events x before → RunSumsIn result network t x now) f
+    → EndsSo project left settings.rounds outcome → SumsSoFar project (sharpness_of settings) left events start before
+    → RunSumsIn result project settings start now
+ending-sums project p settings s left events outcome result start before now e f puts ends so_far =
+    subst (λ (t : Settings). EndsSo project left t.rounds outcome → (x : Moment)
+    → SumsSoFar project (sharpness_of t) left events x before → RunSumsIn result project t x now) f
     (subst (λ (q : Project). EndsSo q left s.rounds outcome → (x : Moment)
     → SumsSoFar q (sharpness_of s) left events x before → RunSumsIn result q s x now) e puts) ends start so_far
 
 -- ---- what is put out
 
-known : (network : Project) → (1 ≤ version_of network) × (version_of network ≤ 2)
-known network = (by _, most _)
-  where
-    by : (b : Bool) → 1 ≤ (if b then 2 else 1)
-    by true = omega arith
-    by false = omega arith
-
-    most : (b : Bool) → (if b then 2 else 1) ≤ 2
-    most true = omega arith
-    most false = omega arith
-
-certificate-is : (network : Project) → Sound network → (founds : List Found) (outcome : Outcome)
-    → All (IsRow (junction_count network) (tank_count network)) (rows_of founds) → length founds < 2 ^ 32
-    → IsCertificateText (certificate_so_far network founds (Some outcome)) (version_of network) (junction_count network)
-    (tank_count network) (rows_of founds) (length founds) (is_finished outcome)
-certificate-is network sound founds outcome fit few =
-    let header : Header = record {
-      version = version_of network;
-      junctions = junction_count network;
-      tanks = tank_count network;
-    } in
-    let v = known network in
-    let n : junction_count network < 2 ^ 32 = (let le = sound.counts.junctions in omega (arith, le)) in
-    let k : tank_count network < 2 ^ 32 = (let le = sound.counts.tanks in omega (arith, le)) in
-    whole_reading header (header_words header) (certificate_so_far network founds (Some outcome)) (rows_of founds)
-    (length founds) (is_finished outcome) (header_is header v.0 v.1 n k) fit few refl
-
-moved-whole : (w w' : Option (List ℕ)) (h a h' : List ℕ) → h ≡ [] → h' ≡ [] → Moves w w' (h ++ a) h'
-    → w' ≡ append_known w a
-moved-whole w w' h a h' e e' m =
-    moves_whole w w' a (subst (λ (x : List ℕ). Moves w w' (x ++ a) []) e (subst (λ (y : List ℕ). Moves w w' (h ++ a)
-    y) e' m))
-
-out-whole : (w w' : Option (List ℕ)) (h a : List ℕ) → h ≡ [] → PutOut w w' (h ++ a) → PutOut w w' a
-out-whole w w' h a e m = subst (λ (x : List ℕ). PutOut w w' (x ++ a)) e m
-
-module _ (network : Project) (settings : Settings) (start now : Moment) (sound : Sound network)
+module _ (project : Project) (settings : Settings) (start now : Moment) (sound : Sound project)
     (certificate : start.certificate ≡ fresh Cert) (report : start.report ≡ fresh Report) where
   c-held : start.certificate.held ≡ []
   c-held = ap (λ (p : PenState). p.held) certificate
@@ -383,24 +272,24 @@ module _ (network : Project) (settings : Settings) (start now : Moment) (sound :
   r-held = ap (λ (p : PenState). p.held) report
 
   put-out : (outcome : Outcome) → now.certificate.held ≡ [] → now.report.held ≡ []
-      → SumsWhole network settings outcome start now → IsSummed network settings outcome start.told now.told
+      → SumsWhole project settings outcome start now → IsSummed project settings outcome start.told now.told
   put-out outcome c r whole =
-      let a = certificate_so_far network whole.founds (Some outcome) in
-      let b = summary_text network whole.left whole.founds outcome in
+      let a = certificate_so_far project whole.founds (Some outcome) in
+      let b = summary_text project whole.left whole.founds outcome in
       record {
         certificate = a;
         summary = b;
         sums = record {
-          report = report_so_far network whole.left whole.founds (Some outcome);
+          report = report_so_far project whole.left whole.founds (Some outcome);
           run = record {
             founds = whole.founds;
             left = whole.left;
             is_run = whole.is_run;
             sharp = whole.sharp;
             ends_so = whole.ends_so;
-            certificate = certificate-is network sound whole.founds outcome whole.fit whole.few;
+            certificate = certificate-is project sound whole.founds outcome whole.fit whole.few;
             report = refl;
-            every_history = every_history network sound whole.founds whole.left whole.is_run;
+            every_history = every_history project sound whole.founds whole.left whole.is_run;
           };
           summary = refl;
         };
@@ -411,13 +300,13 @@ module _ (network : Project) (settings : Settings) (start now : Moment) (sound :
       }
 
   -- a fault before anything of the summary was put in
-  in-certificate : (fault : OutFault) (short : SumsCutShort network settings fault start now)
-      → IsCutOff fault (certificate_so_far network short.founds short.last) [] start now
-      → IsSumBrokenOff network settings start.told now.told
+  in-certificate : (fault : OutFault) (short : SumsCutShort project settings fault start now)
+      → IsCutOff fault (certificate_so_far project short.founds short.last) [] start now
+      → IsSumBrokenOff project settings start.told now.told
   in-certificate fault short off =
-      let summary = summary_so_far network short.left short.founds short.last in
+      let summary = summary_so_far project short.left short.founds short.last in
       let w = out-whole start.told.written now.told.written start.certificate.held
-      (certificate_so_far network short.founds short.last) c-held off.written in
+      (certificate_so_far project short.founds short.last) c-held off.written in
       let p = out-whole start.told.printed now.told.printed start.report.held [] r-held off.printed in
       let none : p.1.front ≡ [] = nothing-before p.1.front p.0 p.1.whole in
       record {
@@ -435,20 +324,20 @@ module _ (network : Project) (settings : Settings) (start now : Moment) (sound :
           unprinted = summary;
           front_of_summary = ap (λ f. f ++ summary) none;
           in_order = λ printed. absurd (printed none);
-          every_history = every_history network sound short.founds short.left short.is_run;
+          every_history = every_history project sound short.founds short.left short.is_run;
         };
         written = w.1.out;
         printed = p.1.out;
       }
 
   -- one when the certificate was written whole
-  in-summary : (fault : OutFault) (short : SumsCutShort network settings fault start now)
-      → IsWritten (certificate_so_far network short.founds short.last) start now
-      → IsSumBrokenOff network settings start.told now.told
+  in-summary : (fault : OutFault) (short : SumsCutShort project settings fault start now)
+      → IsWritten (certificate_so_far project short.founds short.last) start now
+      → IsSumBrokenOff project settings start.told now.told
   in-summary fault short whole =
-      let a = certificate_so_far network short.founds short.last in
+      let a = certificate_so_far project short.founds short.last in
       let p = out-whole start.told.printed now.told.printed start.report.held
-      (summary_so_far network short.left short.founds short.last) r-held short.cut.printed in
+      (summary_so_far project short.left short.founds short.last) r-held short.cut.printed in
       record {
         certificate = a;
         summary = p.1.front;
@@ -464,41 +353,41 @@ module _ (network : Project) (settings : Settings) (start now : Moment) (sound :
           unprinted = p.0;
           front_of_summary = sym p.1.whole;
           in_order = λ printed. refl;
-          every_history = every_history network sound short.founds short.left short.is_run;
+          every_history = every_history project sound short.founds short.left short.is_run;
         };
         written = moved-whole start.told.written now.told.written start.certificate.held a [] c-held refl whole;
         printed = p.1.out;
       }
 
-  broken-off : (fault : OutFault) (short : SumsCutShort network settings fault start now)
-      → IsCutOff fault (certificate_so_far network short.founds short.last) [] start now
-      ⊎ IsWritten (certificate_so_far network short.founds short.last) start now
-      → IsSumBrokenOff network settings start.told now.told
+  broken-off : (fault : OutFault) (short : SumsCutShort project settings fault start now)
+      → IsCutOff fault (certificate_so_far project short.founds short.last) [] start now
+      ⊎ IsWritten (certificate_so_far project short.founds short.last) start now
+      → IsSumBrokenOff project settings start.told now.told
   broken-off fault short (inl off) = in-certificate fault short off
   broken-off fault short (inr whole) = in-summary fault short whole
 
-  pub gives-whole : (result : Result RunEnd OutFault) → RunSumsIn result network settings start now
+  pub gives-whole : (result : Result RunEnd OutFault) → RunSumsIn result project settings start now
       → OnOk result (now.certificate.held ≡ []) → OnOk result (now.report.held ≡ [])
-      → IfOk result (λ end. IsSummed network settings (outcome_of end) start.told now.told)
+      → IfOk result (λ end. IsSummed project settings (outcome_of end) start.told now.told)
   gives-whole (Ok end) puts c r = put-out (outcome_of end) c r puts
   gives-whole (Err fault) puts c r = tt
 
-  pub gives-broken : (result : Result RunEnd OutFault) → RunSumsIn result network settings start now
-      → IfErr result (λ fault. IsSumBrokenOff network settings start.told now.told)
+  pub gives-broken : (result : Result RunEnd OutFault) → RunSumsIn result project settings start now
+      → IfErr result (λ fault. IsSumBrokenOff project settings start.told now.told)
   gives-broken (Ok end) puts = tt
   gives-broken (Err fault) puts = broken-off fault puts puts.in_order
 
-  pub gives-rose : (result : Result RunEnd OutFault) → RunSumsIn result network settings start now
+  pub gives-rose : (result : Result RunEnd OutFault) → RunSumsIn result project settings start now
       → IfErr result (λ fault. OneRose fault start.told.counts now.told.counts)
   gives-rose (Ok end) puts = tt
   gives-rose (Err fault) puts = puts.cut.rose
 
-  pub gives-steady : (result : Result RunEnd OutFault) → RunSumsIn result network settings start now
+  pub gives-steady : (result : Result RunEnd OutFault) → RunSumsIn result project settings start now
       → OnOk result (now.told.counts ≡ start.told.counts)
   gives-steady (Ok end) puts = puts.put.steady
   gives-steady (Err fault) puts = tt
 
-  pub gives-rest : (result : Result RunEnd OutFault) → RunSumsIn result network settings start now
+  pub gives-rest : (result : Result RunEnd OutFault) → RunSumsIn result project settings start now
       → LeavesRest start.told now.told
   gives-rest (Ok end) puts = puts.put.leaves
   gives-rest (Err fault) puts = puts.cut.leaves

@@ -33,19 +33,19 @@ aside certificate told = moment certificate (fresh Report) told
 -- ---- what was put out
 
 -- The whole certificate of a run was written and its summary printed.
-pub record IsSummed (network : Project) (settings : Settings) (outcome : Outcome) (before now : Told) : Type 0 where
+pub record IsSummed (project : Project) (settings : Settings) (outcome : Outcome) (before now : Told) : Type 0 where
   pub certificate : List ℕ
   pub summary : List ℕ
-  pub sums : RunSums network settings.rounds (sharpness_of settings) outcome certificate summary
+  pub sums : RunSums project settings.rounds (sharpness_of settings) outcome certificate summary
   pub written : now.written ≡ append_known before.written certificate
   pub printed : now.printed ≡ append_known before.printed summary
 
 -- A fault broke it off: what was written and printed are fronts of the certificate and of the summary of a run as far
 -- as it went.
-pub record IsSumBrokenOff (network : Project) (settings : Settings) (before now : Told) : Type 0 where
+pub record IsSumBrokenOff (project : Project) (settings : Settings) (before now : Told) : Type 0 where
   pub certificate : List ℕ
   pub summary : List ℕ
-  pub breaks_off : SumsBreakOff network settings.rounds (sharpness_of settings) certificate summary
+  pub breaks_off : SumsBreakOff project settings.rounds (sharpness_of settings) certificate summary
   pub written : now.written ≡ append_known before.written certificate
   pub printed : now.printed ≡ append_known before.printed summary
 
@@ -53,30 +53,30 @@ pub record IsSumBrokenOff (network : Project) (settings : Settings) (before now 
 
 -- What was found so far is a run that leaves a standing, as sharp as was asked for, with one record for each period
 -- that was done and so many events, and its certificate as far as it goes was put in at the pen.
-pub record SumsSoFar (network : Project) (sharpness : Sharpness) (left : Standing) (events : ℕ)
+pub record SumsSoFar (project : Project) (sharpness : Sharpness) (left : Standing) (events : ℕ)
     (before now : Moment) : Type 0 where
   pub founds : List Found
-  pub is_run : IsRun network founds left
-  pub sharp : AllByRecursion (IsSharpFound network sharpness) founds
-  pub fit : All (IsRow (junction_count network) (tank_count network)) (rows_of founds)
+  pub is_run : IsRun project founds left
+  pub sharp : AllByRecursion (IsSharpFound project sharpness) founds
+  pub fit : All (IsRow (junction_count project) (tank_count project)) (rows_of founds)
   pub each : length founds ≡ left.number
   pub counted : event_count (lines_of founds) ≡ events
-  pub put : PutIn (certificate_so_far network founds None) [] before now
+  pub put : PutIn (certificate_so_far project founds None) [] before now
 
 -- The summary where the run's end is known, and nothing before.
 abbrev pub summary_so_far : Project → Standing → List Found → Option Outcome → List ℕ
-summary_so_far network left founds last = option_map_or (summary_text network left founds) last []
+summary_so_far project left founds last = option_map_or (summary_text project left founds) last []
 
 -- So it is, the run's end is known, and its certificate was put in whole, and its summary too.
-pub record SumsWhole (network : Project) (settings : Settings) (outcome : Outcome) (before now : Moment) : Type 0 where
+pub record SumsWhole (project : Project) (settings : Settings) (outcome : Outcome) (before now : Moment) : Type 0 where
   pub founds : List Found
   pub left : Standing
-  pub is_run : IsRun network founds left
-  pub sharp : AllByRecursion (IsSharpFound network (sharpness_of settings)) founds
-  pub fit : All (IsRow (junction_count network) (tank_count network)) (rows_of founds)
+  pub is_run : IsRun project founds left
+  pub sharp : AllByRecursion (IsSharpFound project (sharpness_of settings)) founds
+  pub fit : All (IsRow (junction_count project) (tank_count project)) (rows_of founds)
   pub few : length founds < 2 ^ 32
-  pub ends_so : EndsSo network left settings.rounds outcome
-  pub put : PutIn (certificate_so_far network founds (Some outcome)) (summary_so_far network left founds (Some outcome))
+  pub ends_so : EndsSo project left settings.rounds outcome
+  pub put : PutIn (certificate_so_far project founds (Some outcome)) (summary_so_far project left founds (Some outcome))
       before now
 
 -- A text was written whole, and the pen of the certificate held none of it back.
@@ -85,17 +85,17 @@ IsWritten text before now = Moves before.told.written now.told.written (before.c
 
 -- A fault cut the run off, whose end is known or isn't: before anything of its summary was put in, or when its
 -- certificate was written whole.
-pub record SumsCutShort (network : Project) (settings : Settings) (fault : OutFault)
+pub record SumsCutShort (project : Project) (settings : Settings) (fault : OutFault)
     (before now : Moment) : Type 0 where
   pub founds : List Found
   pub left : Standing
-  pub is_run : IsRun network founds left
-  pub sharp : AllByRecursion (IsSharpFound network (sharpness_of settings)) founds
+  pub is_run : IsRun project founds left
+  pub sharp : AllByRecursion (IsSharpFound project (sharpness_of settings)) founds
   pub last : Option Outcome
-  pub ends_so : MatchOption last ⊤ (EndsSo network left settings.rounds)
-  pub cut : IsCutOff fault (certificate_so_far network founds last) (summary_so_far network left founds last) before now
-  pub in_order : IsCutOff fault (certificate_so_far network founds last) [] before now
-      ⊎ IsWritten (certificate_so_far network founds last) before now
+  pub ends_so : MatchOption last ⊤ (EndsSo project left settings.rounds)
+  pub cut : IsCutOff fault (certificate_so_far project founds last) (summary_so_far project left founds last) before now
+  pub in_order : IsCutOff fault (certificate_so_far project founds last) [] before now
+      ⊎ IsWritten (certificate_so_far project founds last) before now
 
 -- ---- a step
 
@@ -134,5 +134,5 @@ StepsSum (Err fault) sim now before after = (start : Moment)
 
 -- What a run does.
 abbrev pub RunSumsIn : Result RunEnd OutFault → Project → Settings → Moment → Moment → Type 0
-RunSumsIn (Ok end) network settings before after = SumsWhole network settings (outcome_of end) before after
-RunSumsIn (Err fault) network settings before after = SumsCutShort network settings fault before after
+RunSumsIn (Ok end) project settings before after = SumsWhole project settings (outcome_of end) before after
+RunSumsIn (Err fault) project settings before after = SumsCutShort project settings fault before after

@@ -2,7 +2,7 @@
 
 ghost use Rattle.std.specs.Prelude.{◌≡◌, ◌++◌, [], length, IsTrue, OnOk};
 ghost use Rattle.hyd_io.specs.Output.{OnCert};
-ghost use Rattle.hyd_report.specs.Putting.{Puts};
+ghost use Rattle.hyd_io.specs.Putting.{Puts};
 ghost use Rattle.hyd_io.specs.declared.output.Channel.TheVariants.{Report};
 ghost use Rattle.hyd_net.specs.Sound.{Sound};
 ghost use Rattle.hyd_spec_certificates.specs.RecordAndStanding.{Standing};
@@ -15,9 +15,10 @@ ghost use Rattle.hyd_run.specs.Pens.{Moment, told, moment, AreOpen, PutsIn};
 ghost use Rattle.hyd_run.specs.Runs.{fresh, outcome_of, sharpness_of};
 ghost use Rattle.hyd_summarised_run.specs.SummarisedRuns.{aside, SumsSoFar, RunSumsIn};
 
-use crate::pens::{empty, put_end_line};
+use crate::pens::empty;
 use crate::steps::Ended;
 use crate::summary::{Counts, put_counts, put_last_line};
+use hyd_cert::put_end;
 use hyd_io::{Desk, OutFault, Pen};
 use hyd_net::Project;
 use hyd_run::RunEnd;
@@ -48,7 +49,7 @@ fn close_certificate<D: Desk>(
         (told D.files D.rest D.written D.printed D.target D.ready D.counts D.openings desk.new)) }
     ensures empty { OnOk result (certificate.new.held ≡ []) }
 {
-    match put_end_line(records, finished, certificate, desk) {
+    match put_end(records, finished, certificate, desk) {
         Ok(()) => {}
         Err(fault) => return Err(fault),
     }

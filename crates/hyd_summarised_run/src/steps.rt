@@ -4,8 +4,7 @@ ghost use Rattle.std.specs.Prelude.{◌≡◌, ◌<◌, ◌^◌, OnOk};
 ghost use Rattle.hyd_run.specs.Pens.{told, AreOpen};
 ghost use Rattle.hyd_summarised_run.specs.SummarisedRuns.{aside, StepSums, StepsSum};
 
-use crate::pens::put_row;
-use hyd_cert::Record;
+use hyd_cert::{Record, put_record};
 use hyd_finders::Finder;
 use hyd_io::{Desk, OutFault, Pen};
 use hyd_run::RunEnd;
@@ -84,7 +83,7 @@ fn put_step<D: Desk, F: Finder>(
     let row = sim.row();
     has_small_numbers(row);
     let events = sim.facts().events.len();
-    match put_row(row, certificate, desk) {
+    match put_record(row, certificate, desk) {
         Ok(()) => Ok(Turn::Period(events)),
         Err(fault) => Err(fault),
     }

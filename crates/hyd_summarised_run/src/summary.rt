@@ -6,10 +6,10 @@ ghost use Rattle.hyd_net.specs.Sound.{Sound};
 ghost use Rattle.hyd_spec_certificates.specs.RecordAndStanding.{Standing};
 ghost use Rattle.hyd_spec_reports.specs.PromisesOfRunsAndChecks.{last_line};
 ghost use Rattle.hyd_spec_summary.specs.Summary.{summary_line};
-ghost use Rattle.hyd_report.specs.Putting.{Puts};
+ghost use Rattle.hyd_io.specs.Putting.{Puts};
 ghost use Rattle.hyd_run.specs.Runs.{outcome_of};
 
-use crate::pens::{put_number, put_text};
+use crate::pens::put_number;
 use hyd_io::{Desk, OutFault, Pen};
 use hyd_net::Project;
 use hyd_report::{put_done, put_stop};
@@ -26,7 +26,7 @@ fn put_counted<D: Desk>(
     ensures { Puts D.files D.rest D.written D.printed D.target D.ready D.counts D.openings
         (text.now ++ decimal number) result pen.old pen.new desk.old desk.new }
 {
-    match put_text(text, pen, desk) {
+    match pen.put(desk, text) {
         Ok(()) => {}
         Err(fault) => return Err(fault),
     }
@@ -76,7 +76,7 @@ fn put_run_counts<D: Desk>(
         Ok(()) => {}
         Err(fault) => return Err(fault),
     }
-    put_text(b"\n", pen, desk)
+    pen.put(desk, b"\n")
 }
 
 /// What the first line of a summary counts.

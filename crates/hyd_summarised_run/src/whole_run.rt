@@ -10,8 +10,8 @@ ghost use Rattle.hyd_run.specs.Runs.{fresh, outcome_of};
 ghost use Rattle.hyd_summarised_run.specs.SummarisedRuns.{IsSummed, IsSumBrokenOff, RunSumsIn};
 
 use crate::ending::put_ending;
-use crate::pens::put_header;
 use crate::steps::put_steps;
+use hyd_cert::put_head;
 use hyd_finders::Finder;
 use hyd_io::{Desk, OutFault, Pen};
 use hyd_run::RunEnd;
@@ -40,7 +40,7 @@ fn put_run<D: Desk, F: Finder>(
 {
     // The record stands under the header of the network.
     let _project = sim.project();
-    match put_header(sim.row(), certificate, desk) {
+    match put_head(sim.row(), certificate, desk) {
         Ok(()) => {}
         Err(fault) => return Err(fault),
     }

@@ -1,6 +1,6 @@
 -- Leaps in turn lead from a start to a start.
 use Rattle.std.proofs.Common.{◌≡◌, ℕ, zero, suc, ◌+◌, ◌<◌, ◌≤◌, ℤ, pos, ◌-ℤ◌, ◌≤ℤ◌, ◌<ℤ◌, Bool, true, false, refl, sym}
-use Rattle.std.proofs.Common.{ap, subst, ◌∙◌, arith, List, [], ◌∷◌, ◌==◌, length, inl, inr, ◌⊎◌}
+use Rattle.std.proofs.Common.{ap, subst, ◌∙◌, arith, List, [], ◌∷◌, ◌==◌, length, inl, inr}
 use Rattle.std.specs.Prelude.{Option, None, Some, MatchBool, slice_get, slice_set, if◌then◌else◌}
 use Rattle.std.proofs.lemmas.Int.{ints, by_lt_z}
 use Rattle.std.proofs.lemmas.Bool.{cases_eq, cases_lt}
@@ -15,6 +15,7 @@ use Rattle.hyd_spec_certificates.specs.Certificate.{Passes, IsBeyond, IsCertific
 use Rattle.hyd_spec_certificates.specs.SearchSteps.{IsStart, IsLeap, Fails}
 use Rattle.hyd_theorems_on_definitions.specs.TermsOfTheorems.{IsSteady}
 use Rattle.hyd_theorems_on_definitions.specs.Sides.{along}
+use Rattle.hyd_lemmas.proofs.Integers.{same-or-not}
 use Rattle.hyd_theorems_on_raises.proofs.Leading.{beyond-is, lead, IsLeading, passes-leading, fails-leading}
 use Rattle.hyd_theorems_on_raises.proofs.Raising.{beyond-self, by-beyond, set-here, set-there}
 use Rattle.hyd_theorems_on_raises.proofs.Sweeping.{one-vector, vector-self, vector-trans}
@@ -24,10 +25,6 @@ use Rattle.hyd_sweep.specs.Leaps.{nearer, IsTurn, IsLeapInTurn, LeadsOn}
 pub along-nearer : (side : Side) (h : ℤ) → along side (nearer side h) ≡ along side h -ℤ pos 1
 along-nearer Upper h = refl
 along-nearer Lower h = omega (arith, ints)
-
-same-or-not : (x y : ℤ) → (x ≡ y) ⊎ (x ≡ y → ⊥)
-same-or-not x y = by_lt_z x y (λ lt. inr (λ e. absurd (omega (arith, ints, lt, e))))
-    (λ ge. by_lt_z y x (λ lt. inr (λ e. absurd (omega (arith, ints, lt, e)))) (λ le. inl (omega (arith, ints, ge, le))))
 
 -- ---- the first place where a function is greatest
 

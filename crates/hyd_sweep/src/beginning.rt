@@ -9,8 +9,7 @@ ghost use Rattle.hyd_spec_certificates.specs.SearchSteps.{IsStart};
 ghost use Rattle.hyd_spec_reports.specs.Stops.{beginning};
 ghost use Rattle.hyd_sweep.specs.Sweeps.{near_end};
 
-use crate::heads_along_side::BOX_LIMIT;
-use hyd_spec_certificates::Side;
+use hyd_spec_certificates::{BOX_LIMIT, Side};
 
 fn near_end(side: Side) -> i64
     ensures { result ≡ near_end side }

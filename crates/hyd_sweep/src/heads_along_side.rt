@@ -7,10 +7,7 @@ ghost use Rattle.hyd_theorems_on_definitions.specs.Sides.{along};
 ghost use Rattle.hyd_sweep.specs.Sweeps.{further};
 ghost use Rattle.hyd_sweep.specs.Leaps.{nearer};
 
-use hyd_spec_certificates::Side;
-
-// The end of the box in which heads are sought, either way, in head ticks.
-pub(crate) const BOX_LIMIT: i64 = 1_000_000_000_000_000_000;
+use hyd_spec_certificates::{BOX_LIMIT, Side};
 
 /// How far a head is from the far end of the box.
 pub(crate) fn room(side: Side, head: i64) -> u64

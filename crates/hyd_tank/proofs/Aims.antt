@@ -6,9 +6,9 @@ use Rattle.std.specs.Int.{int_min, w128}
 use Rattle.std.proofs.Math.IntN.{*ℤ_comm}
 use Rattle.std.proofs.lemmas.Int.{ints, clamps, by_lt_z}
 use Rattle.hyd_spec.specs.Scale.{is_same_number}
-use Rattle.hyd_lemmas.proofs.Trials.{or-left, or-right}
+use Rattle.hyd_lemmas.proofs.Trials.{or-left, or-right, le-from, le-yes, and-false, le-not}
 use Rattle.hyd_theorems_on_definitions.proofs.RisingLines.{value-den}
-use Rattle.hyd_num.proofs.Integers.{times_plus, times_neg, times_rises, times_one}
+use Rattle.hyd_num.proofs.Integers.{times_plus, times_neg, times_rises, times_one, one_times}
 use Rattle.hyd_num.specs.Rational.{Rational, floor, ceiling, is_at_most}
 use Rattle.hyd_net.specs.Curves.{value_at, volume_at, volume_knots}
 use Rattle.hyd_spec.specs.ProgramTypes.{Tank, VolumePoint}
@@ -16,12 +16,10 @@ use Rattle.hyd_spec.specs.Tank.{Stock, Curve, Bounds, level_bounds, content_boun
 use Rattle.hyd_spec.specs.Tank.{level_at_volume, carried_level, reaches, has_reached}
 use Rattle.hyd_lemmas.proofs.Integers.{exchanged, floor_low, floor_greatest, ceiling_high, ceiling_least}
 use Rattle.hyd_theorems_on_definitions.specs.TermsOfTheorems.{IsVessel, in_parts}
-use Rattle.hyd_theorems_on_definitions.proofs.Leading.{one_times, one-within}
+use Rattle.hyd_theorems_on_definitions.proofs.Leading.{one-within}
 use Rattle.hyd_theorems_on_definitions.proofs.Levelling.{level-fits-at, carried-some, curve-some}
-use Rattle.hyd_theorems_on_definitions.proofs.Outflows.{le-yes}
-use Rattle.hyd_theorems_on_definitions.proofs.Placing.{le-from, above-yes, above-from, below-yes, below-from, placed-is}
-use Rattle.hyd_theorems_on_definitions.proofs.Placing.{placed-most}
-use Rattle.hyd_theorems_on_definitions.proofs.Placing.{placed-least}
+use Rattle.hyd_theorems_on_definitions.proofs.Placing.{above-yes, above-from, below-yes, below-from, placed-is}
+use Rattle.hyd_theorems_on_definitions.proofs.Placing.{placed-most, placed-least}
 use Rattle.hyd_theorems_on_definitions.proofs.Targets.{falling_target, at_maximum, risen_to}
 use Rattle.hyd_spec_certificates.specs.FirstSeconds.{IsFirstSecond}
 use Rattle.hyd_tank.specs.declared.content.Bounds.{Bounds as Limits}
@@ -34,13 +32,6 @@ use Rattle.hyd_tank.proofs.Meeting.{first_like}
 use Rattle.hyd_tank.specs.StockIntervals.{IsBasin}
 use Rattle.hyd_tank.specs.Targets.{AreVolumes, StandsFor, Meets, IsFirstMet}
 use Rattle.hyd_tank.specs.declared.first_second_at_target.Target.TheVariants.{Always, Never, Parts}
-
-not-le : (a b : ℤ) → b <ℤ a → int_le a b ≡ false
-not-le a b h = grind (arith, ints)
-
-and-false : (b : Bool) → (b && false) ≡ false
-and-false true = refl
-and-false false = refl
 
 both-true : (b : Bool) → b ≡ true → (b && b) ≡ true
 both-true true e = refl
@@ -158,8 +149,8 @@ module _ (tank : Tank) (points : List VolumePoint) (basin : IsBasin tank points)
     -- ---- whether a target is the bound there
 
     same-not : (a b : ℤ) → (a <ℤ b) ⊎ (b <ℤ a) → is_same_number a b ≡ false
-    same-not a b (inl h) = ap (λ (c : Bool). int_le a b && c) (not-le b a h) ∙ and-false (int_le a b)
-    same-not a b (inr h) = ap (λ (c : Bool). c && int_le b a) (not-le a b h)
+    same-not a b (inl h) = ap (λ (c : Bool). int_le a b && c) (le-not b a h) ∙ and-false (int_le a b)
+    same-not a b (inr h) = ap (λ (c : Bool). c && int_le b a) (le-not a b h)
 
     rises-by-level : (t : ℤ) → (tank.maximum <ℤ t) ⊎ (t <ℤ tank.maximum)
         → has_reached 1 (Curve points) tank stock q true t seconds ≡ reaches 1 true t carried

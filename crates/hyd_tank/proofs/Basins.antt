@@ -4,16 +4,17 @@ use Rattle.std.proofs.Common.{◌∙◌, arith}
 use Rattle.std.specs.List.{HoldsAt}
 use Rattle.std.specs.Int.{int_max, int_min}
 use Rattle.std.proofs.lemmas.Int.{ints, clamps}
-use Rattle.hyd_num.proofs.Integers.{times_rises, times_reflects}
-use Rattle.hyd_num.specs.Rational.{Rational, floor, ceiling, whole}
+use Rattle.hyd_num.proofs.Integers.{times_rises, times_reflects, one_times}
+use Rattle.hyd_num.specs.Rational.{Rational, floor, ceiling}
 use Rattle.hyd_net.specs.Curves.{value_at, volume_at, volume_knots}
 use Rattle.hyd_net.specs.NumberRanges.{Lies}
 use Rattle.hyd_spec.specs.ProgramTypes.{Tank, VolumePoint}
 use Rattle.hyd_spec.specs.Tank.{Curve, Bounds, placed, level_bounds, content_bounds, level_knots, level_on_curve}
 use Rattle.hyd_spec.specs.Tank.{level_at}
 use Rattle.hyd_spec_certificates.specs.Stocks.{end_of}
-use Rattle.hyd_lemmas.proofs.Integers.{floor_low, floor_greatest, ceiling_high, ceiling_least}
-use Rattle.hyd_theorems_on_definitions.proofs.Leading.{one_times, one-within}
+use Rattle.hyd_lemmas.proofs.Integers.{floor_low, floor_greatest, ceiling_high, ceiling_least, ceiling_whole}
+use Rattle.hyd_lemmas.proofs.Integers.{floor_whole}
+use Rattle.hyd_theorems_on_definitions.proofs.Leading.{one-within}
 use Rattle.hyd_theorems_on_definitions.proofs.Placing.{placed-is}
 use Rattle.hyd_tank.specs.declared.content.Bounds.{Bounds as Limits}
 use Rattle.hyd_tank.specs.declared.volume_curve.Known.TheVariants.{Level, Volume}
@@ -22,7 +23,6 @@ use Rattle.hyd_tank.specs.Contents.{bounds_of, in_ticks, IsBetween}
 use Rattle.hyd_tank.specs.Curve.{knots_by, value_of, times_value, value_in, IsOnCurve, IsAtLeast, IsAtMost}
 use Rattle.hyd_tank.specs.StockIntervals.{IsBasin}
 use Rattle.hyd_tank.specs.Targets.{AreVolumes}
-use Rattle.hyd_tank.proofs.Values.{floor-is, ceiling-is}
 
 -- ---- volumes at levels
 
@@ -118,14 +118,6 @@ level_is scale points parts x m f e =
     } in r))
     (let once : scale ≡ 1 * scale = omega arith in once)
 
-floor-whole : (z : ℤ) → floor (whole z) ≡ z
-floor-whole z = floor-is 1 z z (pos 0) (omega arith) (omega (arith, ints, one_times z)) (omega (arith, ints))
-    (omega (arith, ints))
-
-ceiling-whole : (z : ℤ) → ceiling (whole z) ≡ z
-ceiling-whole z = ceiling-is 1 z z (pos 0) (omega arith) (omega (arith, ints, one_times z)) (omega (arith, ints))
-    (omega (arith, ints))
-
 -- a value held between its bounds is rounded to the rounded value held between them
 pub floor_placed : (bounds : Bounds) (x : Rational) → 0 < x.den → bounds.least ≤ℤ bounds.most
     → floor (placed 1 bounds bounds x x) ≡ int_max bounds.least (int_min (floor x) bounds.most)
@@ -133,10 +125,10 @@ floor_placed bounds x some order =
     let low = floor_low x some in
     placed-is (λ (r : Rational). floor r ≡ int_max bounds.least (int_min (floor x) bounds.most)) 1 bounds bounds x x
     (λ h. let g = floor_greatest x bounds.most some (omega (arith, ints, h, one-within x.den bounds.most)) in
-    let w = floor-whole (pos 1 *ℤ bounds.most) in omega (arith, ints, clamps, g, w, one_times bounds.most, order))
+    let w = floor_whole (pos 1 *ℤ bounds.most) in omega (arith, ints, clamps, g, w, one_times bounds.most, order))
     (λ s h. let g = times_reflects x.den (floor x) bounds.least some
     (omega (arith, ints, low, h, one-within x.den bounds.least)) in
-    let w = floor-whole (pos 1 *ℤ bounds.least) in omega (arith, ints, clamps, g, w, one_times bounds.least, order))
+    let w = floor_whole (pos 1 *ℤ bounds.least) in omega (arith, ints, clamps, g, w, one_times bounds.least, order))
     (λ s h. let g = floor_greatest x bounds.least some (omega (arith, ints, h, one-within x.den bounds.least)) in
     let k = times_reflects x.den (floor x) bounds.most some (omega
     (arith, ints, low, s, one-within x.den bounds.most)) in omega (arith, ints, clamps, g, k, order))
@@ -148,9 +140,9 @@ ceiling_placed bounds x some order =
     placed-is (λ (r : Rational). ceiling r ≡ int_max bounds.least (int_min (ceiling x) bounds.most)) 1 bounds bounds x x
     (λ h. let g = times_reflects x.den bounds.most (ceiling x) some
     (omega (arith, ints, high, h, one-within x.den bounds.most)) in
-    let w = ceiling-whole (pos 1 *ℤ bounds.most) in omega (arith, ints, clamps, g, w, one_times bounds.most, order))
+    let w = ceiling_whole (pos 1 *ℤ bounds.most) in omega (arith, ints, clamps, g, w, one_times bounds.most, order))
     (λ s h. let g = ceiling_least x bounds.least some (omega (arith, ints, h, one-within x.den bounds.least)) in
-    let w = ceiling-whole (pos 1 *ℤ bounds.least) in omega (arith, ints, clamps, g, w, one_times bounds.least, order))
+    let w = ceiling_whole (pos 1 *ℤ bounds.least) in omega (arith, ints, clamps, g, w, one_times bounds.least, order))
     (λ s h. let g = ceiling_least x bounds.most some (omega (arith, ints, s, one-within x.den bounds.most)) in
     let k = times_reflects x.den bounds.least (ceiling x) some
     (omega (arith, ints, high, h, one-within x.den bounds.least)) in omega (arith, ints, clamps, g, k, order))

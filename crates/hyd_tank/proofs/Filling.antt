@@ -8,11 +8,8 @@ use Rattle.hyd_spec.specs.Tank.{tank_state, state_band}
 use Rattle.hyd_spec.specs.declared.TankState.{TankState}
 use Rattle.hyd_spec.specs.declared.TankState.TheVariants.{Full, Between, Empty}
 use Rattle.hyd_spec_certificates.specs.Stocks.{shared_state}
-use Rattle.hyd_theorems_on_definitions.proofs.Leading.{one_times}
-use Rattle.hyd_theorems_on_definitions.proofs.Placing.{le-from}
-
-not-le : (a b : ℤ) → b <ℤ a → int_le a b ≡ false
-not-le a b h = grind (arith, ints)
+use Rattle.hyd_num.proofs.Integers.{one_times}
+use Rattle.hyd_lemmas.proofs.Trials.{le-from, le-not}
 
 abbrev by-tests : Bool → Bool → TankState
 by-tests full empty = if full then Full else if empty then Empty else Between
@@ -27,7 +24,7 @@ module _ (tank : Tank) (level : ℤ) where
       → tank_state 1 tank level ≡ Empty
   empty_is s h =
       ap (λ (b : Bool). by-tests b (int_le level (at_scale 1 (tank.minimum +ℤ state_band))))
-      (not-le (pos 1 *ℤ (tank.maximum -ℤ state_band)) level (omega
+      (le-not (pos 1 *ℤ (tank.maximum -ℤ state_band)) level (omega
       (arith, ints, s, one_times (tank.maximum -ℤ state_band))))
       ∙ ap (λ (b : Bool). by-tests false b) (le-from level (pos 1 *ℤ (tank.minimum +ℤ state_band))
       (omega (arith, ints, h, one_times (tank.minimum +ℤ state_band))))
@@ -36,9 +33,9 @@ module _ (tank : Tank) (level : ℤ) where
       → tank_state 1 tank level ≡ Between
   between_is s h =
       ap (λ (b : Bool). by-tests b (int_le level (at_scale 1 (tank.minimum +ℤ state_band))))
-      (not-le (pos 1 *ℤ (tank.maximum -ℤ state_band)) level (omega
+      (le-not (pos 1 *ℤ (tank.maximum -ℤ state_band)) level (omega
       (arith, ints, s, one_times (tank.maximum -ℤ state_band))))
-      ∙ ap (λ (b : Bool). by-tests false b) (not-le level (pos 1 *ℤ (tank.minimum +ℤ state_band))
+      ∙ ap (λ (b : Bool). by-tests false b) (le-not level (pos 1 *ℤ (tank.minimum +ℤ state_band))
       (omega (arith, ints, h, one_times (tank.minimum +ℤ state_band))))
 
 -- ---- both ends

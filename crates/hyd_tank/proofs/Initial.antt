@@ -8,9 +8,10 @@ use Rattle.hyd_net.specs.NumberRanges.{Lies}
 use Rattle.hyd_spec.specs.ProgramTypes.{Tank, VolumePoint}
 use Rattle.hyd_spec.specs.Tank.{Walls, Cylinder, Curve, level_bounds}
 use Rattle.hyd_spec_certificates.specs.Interval.{exactly}
+use Rattle.hyd_num.proofs.Integers.{one_times}
 use Rattle.hyd_lemmas.proofs.Integers.{floor_low, floor_greatest}
 use Rattle.hyd_theorems_on_definitions.specs.TermsOfTheorems.{IsVessel, IsWithin, HoldWater}
-use Rattle.hyd_theorems_on_definitions.proofs.Leading.{one_times, above-too}
+use Rattle.hyd_theorems_on_definitions.proofs.Leading.{above-too}
 use Rattle.hyd_theorems_on_definitions.proofs.Levelling.{pairs-tail}
 use Rattle.hyd_theorems_on_definitions.proofs.RisingLines.{AreClimbing, from-rises, some-den}
 use Rattle.hyd_tank.specs.StockIntervals.{initial_stocks, AreHeld}

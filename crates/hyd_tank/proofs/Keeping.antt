@@ -4,6 +4,7 @@ use Rattle.std.proofs.lemmas.Int.{ints}
 use Rattle.hyd_num.specs.Rational.{Rational}
 use Rattle.hyd_spec.specs.ProgramTypes.{Tank, VolumePoint}
 use Rattle.hyd_spec.specs.Tank.{Walls, Cylinder, Curve, Bounds, content_bounds}
+use Rattle.hyd_spec_certificates.specs.Spans.{levels_of}
 use Rattle.hyd_spec_certificates.specs.Interval.{Interval}
 use Rattle.hyd_spec_certificates.specs.Stocks.{Stocks, least_stock, greatest_stock, exact_least, exact_greatest}
 use Rattle.hyd_spec_certificates.specs.Stocks.{contents_after, carried_stocks, may_reach, must_reach}
@@ -18,7 +19,7 @@ use Rattle.hyd_theorems_on_definitions.proofs.Levelling.{exact-some, content-lea
 use Rattle.hyd_theorems_on_definitions.proofs.Levelling.{carried_inside}
 use Rattle.hyd_theorems_on_definitions.proofs.Levelling.{carried_ordered, contents_inside}
 use Rattle.hyd_theorems_on_definitions.proofs.Deciding.{seconds_hold}
-use Rattle.hyd_tank.specs.StockIntervals.{levels_of, stocks_at, with_levels, level_stock, AreHeld}
+use Rattle.hyd_tank.specs.StockIntervals.{stocks_at, with_levels, level_stock, AreHeld}
 
 -- ---- levels of a tank without a volume curve
 

@@ -5,13 +5,10 @@ use Rattle.std.specs.Int.{int_min}
 use Rattle.std.proofs.Math.IntN.{*ℤ_comm}
 use Rattle.std.proofs.lemmas.Int.{ints, clamps}
 use Rattle.std.proofs.lemmas.Bool.{cases_lt}
-use Rattle.hyd_num.proofs.Integers.{times_one_more, times_rises}
+use Rattle.hyd_num.proofs.Integers.{times_one_more, times_rises, one_times}
 use Rattle.hyd_num.specs.QuotientsAndRoots.{IsCeiling}
 use Rattle.hyd_spec.specs.PeriodLength.{IsLeast}
 use Rattle.hyd_tank.specs.Contents.{IsFirstMeeting}
-
-one-rate : (z : ℤ) → pos 1 *ℤ z ≡ z
-one-rate z = omega (arith, ints, times_one_more 0 z)
 
 pub at_once : (need rate : ℤ) (cap : ℕ) → need ≤ℤ rate → IsFirstMeeting need rate cap (min cap 1)
 at_once need rate cap met = record {
@@ -19,7 +16,7 @@ at_once need rate cap met = record {
     | inl some ↦ inr (
       omega arith,
       subst (λ (s : ℕ). need ≤ℤ (pos s *ℤ rate)) (let e : 1 ≡ min cap 1 = omega arith in
-          e) (omega (arith, ints, met, one-rate rate)),
+          e) (omega (arith, ints, met, one_times rate)),
     )
     | inr none ↦ inl (omega arith)
   ];

@@ -70,38 +70,38 @@ levels-range shapes tank is =
     let top = is.top.at_most in
     record { lowest = lowest; apart = omega (arith, ints, apart); highest = omega (arith, ints, bottom, top) }
 
-cylinder-of : (network : Project) (tank : Tank) → tank.shape ≡ None → IsSoundTank network tank → IsCylinder tank
-cylinder-of network tank none is =
+cylinder-of : (project : Project) (tank : Tank) → tank.shape ≡ None → IsSoundTank project tank → IsCylinder tank
+cylinder-of project tank none is =
     let wide : pos (10 ^ 8) ≤ℤ tank.diameter.nano =
     subst (λ (o : Option ℕ). pos (if is_some o then 0 else 10 ^ 8) ≤ℤ tank.diameter.nano) none
     is.ranges.diameter.at_least in
     let narrow = is.ranges.diameter.at_most in
     record {
       without_curve = none;
-      area = area-range (head_ticks (is_us_unit network.options.unit) tank.diameter.nano) tank.area
-          (across-range (is_us_unit network.options.unit) tank.diameter.nano wide (omega (arith, ints, narrow)))
+      area = area-range (head_ticks (is_us_unit project.options.unit) tank.diameter.nano) tank.area
+          (across-range (is_us_unit project.options.unit) tank.diameter.nano wide (omega (arith, ints, narrow)))
           is.area;
-      levels = levels-range network.shapes.list tank is.ranges;
+      levels = levels-range project.shapes.list tank is.ranges;
     }
 
-by-shape : (network : Project) (tank : Tank) (shape : Option ℕ) → tank.shape ≡ shape → IsSoundTank network tank
-    → MatchOption shape (IsCylinder tank) (λ s. (s < length network.shapes.list)
-    × IsBasin tank (shape_points network s))
-by-shape network tank None e is = cylinder-of network tank e is
-by-shape network tank (Some n) e is =
+by-shape : (project : Project) (tank : Tank) (shape : Option ℕ) → tank.shape ≡ shape → IsSoundTank project tank
+    → MatchOption shape (IsCylinder tank) (λ s. (s < length project.shapes.list)
+    × IsBasin tank (shape_points project s))
+by-shape project tank None e is = cylinder-of project tank e is
+by-shape project tank (Some n) e is =
     let named = subst (λ (o : Option ℕ). IfSome o (Numbers (λ (shape : ListView VolumePoint). IsShapeOf tank
-    shape.list) network.shapes.list)) e is.ranges.shape in (
+    shape.list) project.shapes.list)) e is.ranges.shape in (
       named.in_range,
       record {
-        shape = shape_of network tank n e is;
-        levels = levels-range network.shapes.list tank is.ranges;
+        shape = shape_of project tank n e is;
+        levels = levels-range project.shapes.list tank is.ranges;
       },
     )
 
 -- the tanks of a sound network
-pub tank_of : (network : Project) → Sound network → (k : ℕ) (tank : Tank) → slice_get network.tanks.list k ≡ Some tank
-    → IsTankOf network tank
-tank_of network sound k tank at = by-shape network tank tank.shape refl (sound_tank network sound k tank at)
+pub tank_of : (project : Project) → Sound project → (k : ℕ) (tank : Tank) → slice_get project.tanks.list k ≡ Some tank
+    → IsTankOf project tank
+tank_of project sound k tank at = by-shape project tank tank.shape refl (sound_tank project sound k tank at)
 
 -- the tank that was found is the only one of its number
 pub of_each : (P : Tank → Type 0) (tanks : List Tank) (k : ℕ) (found each : Tank) → slice_get tanks k ≡ Some found
@@ -110,23 +110,23 @@ of_each P tanks k found each at also h = subst P (same_Some found each (sym at �
 
 -- ---- walls
 
-pub walls_without : (network : Project) (tank : Tank) → tank.shape ≡ None → walls_of network tank ≡ cylinder tank
-walls_without network tank e = ap (λ (o : Option ℕ). option_map_or (λ shape. Curve (shape_points network shape)) o
+pub walls_without : (project : Project) (tank : Tank) → tank.shape ≡ None → walls_of project tank ≡ cylinder tank
+walls_without project tank e = ap (λ (o : Option ℕ). option_map_or (λ shape. Curve (shape_points project shape)) o
     (cylinder tank)) e
 
-pub walls_with : (network : Project) (tank : Tank) (n : ℕ) → tank.shape ≡ Some n
-    → walls_of network tank ≡ Curve (shape_points network n)
-walls_with network tank n e = ap (λ (o : Option ℕ). option_map_or (λ shape. Curve (shape_points network shape)) o
+pub walls_with : (project : Project) (tank : Tank) (n : ℕ) → tank.shape ≡ Some n
+    → walls_of project tank ≡ Curve (shape_points project n)
+walls_with project tank n e = ap (λ (o : Option ℕ). option_map_or (λ shape. Curve (shape_points project shape)) o
     (cylinder tank)) e
 
-pub is_cylinder : (network : Project) (tank : Tank) → tank.shape ≡ None → IsTankOf network tank → IsCylinder tank
-is_cylinder network tank e is = subst (λ (o : Option ℕ). MatchOption o (IsCylinder tank)
-    (λ s. (s < length network.shapes.list) × IsBasin tank (shape_points network s))) e is
+pub is_cylinder : (project : Project) (tank : Tank) → tank.shape ≡ None → IsTankOf project tank → IsCylinder tank
+is_cylinder project tank e is = subst (λ (o : Option ℕ). MatchOption o (IsCylinder tank)
+    (λ s. (s < length project.shapes.list) × IsBasin tank (shape_points project s))) e is
 
-pub is_basin : (network : Project) (tank : Tank) (n : ℕ) → tank.shape ≡ Some n → IsTankOf network tank
-    → (n < length network.shapes.list) × IsBasin tank (shape_points network n)
-is_basin network tank n e is = subst (λ (o : Option ℕ). MatchOption o (IsCylinder tank)
-    (λ s. (s < length network.shapes.list) × IsBasin tank (shape_points network s))) e is
+pub is_basin : (project : Project) (tank : Tank) (n : ℕ) → tank.shape ≡ Some n → IsTankOf project tank
+    → (n < length project.shapes.list) × IsBasin tank (shape_points project n)
+is_basin project tank n e is = subst (λ (o : Option ℕ). MatchOption o (IsCylinder tank)
+    (λ s. (s < length project.shapes.list) × IsBasin tank (shape_points project s))) e is
 
 -- ---- stocks
 

@@ -1,8 +1,6 @@
 -- Straight lines between knots at a scale, by the two knots at a place.
-use Rattle.std.proofs.Common.{◌≡◌, ℕ, ◌+◌, ◌-◌, ◌*◌, ◌^◌, ◌<◌, ◌≤◌, ℤ, pos, ◌-ℤ◌, ◌*ℤ◌, ◌≤ℤ◌, ◌<ℤ◌, true, false, List}
-use Rattle.std.proofs.Common.{[], ◌∷◌, length, drop, slice_index_or, unsigned_abs, refl, sym, ap, subst, ◌∙◌, inl, inr}
-use Rattle.std.proofs.Common.{arith}
-use Rattle.std.specs.Prelude.{int_lt}
+use Rattle.std.proofs.Common.{◌≡◌, ℕ, ◌+◌, ◌-◌, ◌*◌, ◌^◌, ◌<◌, ◌≤◌, ℤ, pos, ◌-ℤ◌, ◌*ℤ◌, ◌≤ℤ◌, ◌<ℤ◌, List, [], ◌∷◌}
+use Rattle.std.proofs.Common.{length, drop, slice_index_or, unsigned_abs, refl, sym, ap, subst, ◌∙◌, inl, inr, arith}
 use Rattle.std.proofs.Math.Nat.{mul-le-mul}
 use Rattle.std.proofs.lemmas.Int.{ints}
 use Rattle.std.proofs.lemmas.List.{drop_more, drop_all, get_or-map, get_or_default, length-map}
@@ -17,14 +15,7 @@ use Rattle.hyd_tank.specs.declared.volume_curve.Mixed.{Mixed}
 use Rattle.hyd_tank.specs.declared.volume_curve.Known.TheVariants.{Level, Volume}
 use Rattle.hyd_tank.specs.Curve.{knot_by, knots_by, value_in, line_in, AreNeighbours, IsFrom, IsOnCurve, IsAtLeast}
 use Rattle.hyd_tank.specs.Curve.{IsAtMost}
-
--- ---- tests
-
-less : (a b : ℤ) → a <ℤ b → int_lt a b ≡ true
-less a b h = grind (arith, ints)
-
-not-less : (a b : ℤ) → b ≤ℤ a → int_lt a b ≡ false
-not-less a b h = grind (arith, ints)
+use Rattle.hyd_lemmas.proofs.Trials.{lt-from, lt-not}
 
 -- ---- the walk, at a scale
 
@@ -36,11 +27,11 @@ module _ (S : ℕ) (x : ℤ) where
 
   goes-on : (p q r : Knot) (rest : List Knot) → (pos S *ℤ q.place) ≤ℤ x → value_from S p (q ∷ (r ∷ rest)) x
       ≡ value_from S q (r ∷ rest) x
-  goes-on p q r rest le = let t = not-less x (pos S *ℤ q.place) le in rw t refl
+  goes-on p q r rest le = let t = lt-not x (pos S *ℤ q.place) le in rw t refl
 
   stops : (p q r : Knot) (rest : List Knot) → x <ℤ (pos S *ℤ q.place) → value_from S p (q ∷ (r ∷ rest)) x
       ≡ between S p q x
-  stops p q r rest lt = let t = less x (pos S *ℤ q.place) lt in rw t refl
+  stops p q r rest lt = let t = lt-from x (pos S *ℤ q.place) lt in rw t refl
 
   two-more : (knots : List Knot) (i : ℕ) (a : Knot) → i + 1 < length knots → drop i knots ≡ slice_index_or knots i a
       ∷ (slice_index_or knots (i + 1) a ∷ drop (i + 1 + 1) knots)
@@ -194,7 +185,7 @@ come_on known scale points x i come h from = record {
 }
 
 line-between : (scale : ℕ) (p q : Knot) (x : ℤ) → p.place <ℤ q.place → on_line scale p q x ≡ between scale p q x
-line-between scale p q x apart = let t = less p.place q.place apart in sym (rw t refl)
+line-between scale p q x apart = let t = lt-from p.place q.place apart in sym (rw t refl)
 
 pub value_here : (known : Known) (scale : ℕ) (points : List VolumePoint) (x : ℤ) (i : ℕ) → IsVolumeCurve points
     → HasCome known scale points x i → i + 1 + 1 < length points

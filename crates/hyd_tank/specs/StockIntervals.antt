@@ -6,6 +6,7 @@ use Rattle.hyd_net.specs.NumberRanges.{Lies}
 use Rattle.hyd_net.specs.NetworkRanges.{IsShapeOf}
 use Rattle.hyd_spec.specs.ProgramTypes.{Project, Tank, VolumePoint}
 use Rattle.hyd_spec.specs.Tank.{Stock as OneStock, Walls, Cylinder, Bounds, level_bounds, kept_volume, shape_points}
+use Rattle.hyd_spec_certificates.specs.Spans.{levels_of}
 use Rattle.hyd_spec_certificates.specs.Interval.{Interval, exactly}
 use Rattle.hyd_spec_certificates.specs.Stocks.{Stocks}
 use Rattle.hyd_theorems_on_definitions.specs.TermsOfTheorems.{IsWithin}
@@ -15,14 +16,8 @@ use Rattle.hyd_tank.specs.declared.stock_intervals.Stock.{Stock}
 
 -- ---- intervals
 
-abbrev pub levels_of : LevelSpan → Interval
-levels_of level = record { lo = level.lo; hi = level.hi }
-
 abbrev pub volumes_of : VolumeSpan → Interval
 volumes_of volume = record { lo = volume.lo; hi = volume.hi }
-
-abbrev pub inflows_of : Span → Interval
-inflows_of inflow = record { lo = inflow.lo; hi = inflow.hi }
 
 abbrev pub stocks_of : Stock → Stocks
 stocks_of stock = record { level = levels_of stock.level; volume = volumes_of stock.volume }
@@ -83,6 +78,6 @@ pub record AreHeld (walls : Walls) (tank : Tank) (stocks : Stocks) : Type 0 wher
 
 -- a tank of a sound network: a cylinder, or one with one of the network's volume curves
 abbrev pub IsTankOf : Project → Tank → Type 0
-IsTankOf network tank =
-    MatchOption tank.shape (IsCylinder tank) (λ shape. (shape < length network.shapes.list)
-    × IsBasin tank (shape_points network shape))
+IsTankOf project tank =
+    MatchOption tank.shape (IsCylinder tank) (λ shape. (shape < length project.shapes.list)
+    × IsBasin tank (shape_points project shape))

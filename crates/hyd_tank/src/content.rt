@@ -6,6 +6,7 @@ ghost use Rattle.std.specs.Prelude.{◌≡◌, ◌*◌, ◌^◌, ◌≤◌, pos,
 ghost use Rattle.std.specs.Int.{int_max, int_min};
 ghost use Rattle.hyd_num.specs.Rational.{floor, ceiling};
 ghost use Rattle.hyd_net.specs.NumberRanges.{Lies};
+ghost use Rattle.hyd_spec.specs.Scale.{missed_stock_ticks};
 ghost use Rattle.hyd_spec_certificates.specs.Stocks.{end_of, lower_end, upper_end};
 ghost use Rattle.hyd_tank.specs.Contents.{bounds_of, AreBounds, IsMotion, in_ticks, moved, held_in, IsBetween};
 
@@ -98,7 +99,7 @@ pub(crate) fn held(number: i128, bounds: Bounds) -> i128
 pub(crate) fn moved_down(number: i128, bounds: Bounds, widening: i64) -> i64
     requires bounds { AreBounds bounds }
     requires number { Lies bounds.least bounds.most number }
-    requires widening { Lies (pos 0) (pos 10) widening }
+    requires widening { Lies (pos 0) (pos missed_stock_ticks) widening }
     ensures { result ≡ int_max bounds.least (number -ℤ widening) }
 {
     i128::from(bounds.least).max(number - i128::from(widening)) as i64
@@ -108,7 +109,7 @@ pub(crate) fn moved_down(number: i128, bounds: Bounds, widening: i64) -> i64
 pub(crate) fn moved_up(number: i128, bounds: Bounds, widening: i64) -> i64
     requires bounds { AreBounds bounds }
     requires number { Lies bounds.least bounds.most number }
-    requires widening { Lies (pos 0) (pos 10) widening }
+    requires widening { Lies (pos 0) (pos missed_stock_ticks) widening }
     ensures { result ≡ int_min bounds.most (number +ℤ widening) }
 {
     i128::from(bounds.most).min(number + i128::from(widening)) as i64
@@ -118,7 +119,7 @@ pub(crate) fn moved_up(number: i128, bounds: Bounds, widening: i64) -> i64
 pub(crate) fn lower_content(parts: i128, breadth: i128, bounds: Bounds, widening: i64) -> i64
     requires breadth { Lies (pos 1) (pos (9 * 10 ^ 19)) breadth }
     requires bounds { AreBounds bounds }
-    requires widening { Lies (pos 0) (pos 10) widening }
+    requires widening { Lies (pos 0) (pos missed_stock_ticks) widening }
     ensures { result ≡ lower_end (bounds_of bounds) (bounds_of bounds) (in_ticks breadth parts)
         (in_ticks breadth parts) widening }
 {
@@ -132,7 +133,7 @@ pub(crate) fn lower_content(parts: i128, breadth: i128, bounds: Bounds, widening
 pub(crate) fn upper_content(parts: i128, breadth: i128, bounds: Bounds, widening: i64) -> i64
     requires breadth { Lies (pos 1) (pos (9 * 10 ^ 19)) breadth }
     requires bounds { AreBounds bounds }
-    requires widening { Lies (pos 0) (pos 10) widening }
+    requires widening { Lies (pos 0) (pos missed_stock_ticks) widening }
     ensures { result ≡ upper_end (bounds_of bounds) (bounds_of bounds) (in_ticks breadth parts)
         (in_ticks breadth parts) widening }
 {

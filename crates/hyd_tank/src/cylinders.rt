@@ -3,13 +3,15 @@
 
 ghost use Rattle.std.specs.Prelude.{◌≡◌, ◌*◌, ◌^◌, ◌<◌, ◌≤◌, ◌≤ℤ◌, pos, unsigned_abs, ℕ, ℤ, Bool};
 ghost use Rattle.hyd_net.specs.NumberRanges.{Lies};
+ghost use Rattle.hyd_spec.specs.Scale.{missed_stock_ticks};
 ghost use Rattle.hyd_spec.specs.Tank.{level_bounds, has_reached, carried_level, IsNextStock};
+ghost use Rattle.hyd_spec_certificates.specs.Spans.{levels_of, flows_of};
 ghost use Rattle.hyd_spec_certificates.specs.Interval.{Interval};
 ghost use Rattle.hyd_spec_certificates.specs.Stocks.{contents_after, next_stocks, carried_levels};
 ghost use Rattle.hyd_spec_certificates.specs.FirstSeconds.{IsFirstSecond, IsEarliestSecond, IsLatestSecond};
 ghost use Rattle.hyd_theorems_on_definitions.specs.TermsOfTheorems.{LiesIn, LiesAround, IsInside, IsWithin};
 ghost use Rattle.hyd_tank.specs.Contents.{bounds_of, AreBounds, IsMotion};
-ghost use Rattle.hyd_tank.specs.StockIntervals.{levels_of, inflows_of, stocks_at, with_levels, level_stock, cylinder};
+ghost use Rattle.hyd_tank.specs.StockIntervals.{stocks_at, with_levels, level_stock, cylinder};
 ghost use Rattle.hyd_tank.specs.StockIntervals.{IsInflow};
 ghost use Rattle.hyd_tank.specs.StockIntervals.{IsTankOfRange, IsCylinder};
 
@@ -17,6 +19,7 @@ use crate::content::{Bounds, Motion, held_after, in_parts, lower_content, upper_
 use crate::first_second_at_target::first_meeting;
 use hyd_net::Tank;
 use hyd_num::Span;
+use hyd_spec::MISSED_STOCK_TICKS;
 use hyd_spec_certificates::LevelSpan;
 
 /// The seconds of a day, which flows are measured by.
@@ -26,7 +29,7 @@ const DAY: i128 = 86_400;
 const RISE: i128 = 1_000_000_000_000_000;
 
 /// What the ends of a level or volume are moved outward by at the end of a period, in ticks.
-pub(crate) const WIDENING: i64 = 10;
+pub(crate) const WIDENING: i64 = MISSED_STOCK_TICKS;
 
 /// The least and the greatest level of a tank.
 pub(crate) fn level_bounds(tank: &Tank) -> Bounds
@@ -72,9 +75,9 @@ fn levels_after(
     requires tank { IsCylinder tank.now }
     requires level { IsWithin (level_bounds tank.now) (levels_of level) }
     requires seconds { seconds ≤ 10 ^ 8 }
-    requires widening { Lies (pos 0) (pos 10) widening }
+    requires widening { Lies (pos 0) (pos missed_stock_ticks) widening }
     ensures { levels_of result
-        ≡ contents_after widening (cylinder tank.now) tank.now (stocks_at level) (inflows_of inflow) seconds }
+        ≡ contents_after widening (cylinder tank.now) tank.now (stocks_at level) (flows_of inflow) seconds }
 {
     let motion = motion_of(tank, seconds);
     let bounds = level_bounds(tank);
@@ -96,17 +99,17 @@ pub fn next_level(tank: &Tank, level: LevelSpan, inflow: Span, seconds: u32) -> 
     requires inflow { IsInflow inflow }
     requires seconds { seconds ≤ 10 ^ 8 }
     ensures value { levels_of result
-        ≡ (next_stocks (cylinder tank.now) tank.now (stocks_at level) (inflows_of inflow) seconds).level }
+        ≡ (next_stocks (cylinder tank.now) tank.now (stocks_at level) (flows_of inflow) seconds).level }
     ensures bounded { IsWithin (level_bounds tank.now) (levels_of result) }
     ensures ordered { level.lo ≤ℤ level.hi → result.lo ≤ℤ result.hi }
 
     // Each level with which a next period may begin lies in it, at every scale.
-    ensures holds { (S : ℕ) (z q next : ℤ) → 0 < S → LiesIn S (levels_of level) z → LiesIn S (inflows_of inflow) q
+    ensures holds { (S : ℕ) (z q next : ℤ) → 0 < S → LiesIn S (levels_of level) z → LiesIn S (flows_of inflow) q
         → IsNextStock S (cylinder tank.now) tank.now (level_stock z) q seconds (level_stock next)
         → LiesIn S (levels_of result) next }
 
     // It lies in those of wider levels under a wider inflow.
-    ensures nests { (wider more : Interval) → IsInside (levels_of level) wider → IsInside (inflows_of inflow) more
+    ensures nests { (wider more : Interval) → IsInside (levels_of level) wider → IsInside (flows_of inflow) more
         → IsInside (levels_of result)
         (next_stocks (cylinder tank.now) tank.now (with_levels wider) more seconds).level }
 {
@@ -120,16 +123,16 @@ pub fn level_at(tank: &Tank, level: LevelSpan, inflow: Span, seconds: u32) -> Le
     requires inflow { IsInflow inflow }
     requires seconds { seconds ≤ 10 ^ 8 }
     ensures value { levels_of result ≡ carried_levels (cylinder tank.now) tank.now (stocks_at level)
-        (inflows_of inflow) seconds }
+        (flows_of inflow) seconds }
     ensures bounded { IsWithin (level_bounds tank.now) (levels_of result) }
     ensures ordered { level.lo ≤ℤ level.hi → result.lo ≤ℤ result.hi }
 
     // Each carried level lies in it, at every scale.
-    ensures holds { (S : ℕ) (z q : ℤ) → 0 < S → LiesIn S (levels_of level) z → LiesIn S (inflows_of inflow) q
+    ensures holds { (S : ℕ) (z q : ℤ) → 0 < S → LiesIn S (levels_of level) z → LiesIn S (flows_of inflow) q
         → LiesAround S (levels_of result) (carried_level S (cylinder tank.now) tank.now (level_stock z) q seconds) }
 
     // It lies in those of wider levels under a wider inflow.
-    ensures nests { (wider more : Interval) → IsInside (levels_of level) wider → IsInside (inflows_of inflow) more
+    ensures nests { (wider more : Interval) → IsInside (levels_of level) wider → IsInside (flows_of inflow) more
         → IsInside (levels_of result) (carried_levels (cylinder tank.now) tank.now (with_levels wider) more seconds) }
 {
     levels_after(tank, level, inflow, seconds, 0)
@@ -173,9 +176,9 @@ fn first_seconds(
     requires level { IsWithin (level_bounds tank.now) (levels_of level) }
     requires inflow { IsInflow inflow }
     requires target { unsigned_abs target ≤ 2 * 10 ^ 17 }
-    ensures earliest { IsEarliestSecond (cylinder tank.now) tank.now (stocks_at level) (inflows_of inflow) target
+    ensures earliest { IsEarliestSecond (cylinder tank.now) tank.now (stocks_at level) (flows_of inflow) target
         rising cap result.0 }
-    ensures latest { IsLatestSecond (cylinder tank.now) tank.now (stocks_at level) (inflows_of inflow) target rising
+    ensures latest { IsLatestSecond (cylinder tank.now) tank.now (stocks_at level) (flows_of inflow) target rising
         cap result.1 }
 {
     let low = first_from(tank, level.lo, inflow.lo, target, rising, cap);
@@ -198,21 +201,21 @@ pub fn first_second(
     requires level { IsWithin (level_bounds tank.now) (levels_of level) }
     requires inflow { IsInflow inflow }
     requires target { unsigned_abs target ≤ 2 * 10 ^ 17 }
-    ensures earliest { IsEarliestSecond (cylinder tank.now) tank.now (stocks_at level) (inflows_of inflow) target
+    ensures earliest { IsEarliestSecond (cylinder tank.now) tank.now (stocks_at level) (flows_of inflow) target
         rising cap result.0 }
-    ensures latest { IsLatestSecond (cylinder tank.now) tank.now (stocks_at level) (inflows_of inflow) target rising
+    ensures latest { IsLatestSecond (cylinder tank.now) tank.now (stocks_at level) (flows_of inflow) target rising
         cap result.1 }
     ensures ordered { level.lo ≤ℤ level.hi → result.0 ≤ result.1 }
 
     // The first second of each level of the interval under each inflow lies between them, at every scale.
     ensures holds { (S : ℕ) (z q : ℤ) (first : ℕ) → 0 < S → LiesIn S (levels_of level) z
-        → LiesIn S (inflows_of inflow) q
+        → LiesIn S (flows_of inflow) q
         → IsFirstSecond (has_reached S (cylinder tank.now) tank.now (level_stock z) q rising target) cap first
         → (result.0 ≤ first) × (first ≤ result.1) }
 
     // They lie between those of wider levels under a wider inflow.
     ensures nests { (wider more : Interval) (sooner later : ℕ) → IsInside (levels_of level) wider
-        → IsInside (inflows_of inflow) more
+        → IsInside (flows_of inflow) more
         → IsEarliestSecond (cylinder tank.now) tank.now (with_levels wider) more target rising cap sooner
         → IsLatestSecond (cylinder tank.now) tank.now (with_levels wider) more target rising cap later
         → (sooner ≤ result.0) × (result.1 ≤ later) }

@@ -8,12 +8,13 @@ ghost use Rattle.hyd_net.specs.Sound.{Sound};
 ghost use Rattle.hyd_spec.specs.ProgramTypes.{Tank};
 ghost use Rattle.hyd_spec.specs.Tank.{Stock as OneStock, shape_points, walls_of, has_reached, carried_level};
 ghost use Rattle.hyd_spec.specs.Tank.{IsNextStock};
+ghost use Rattle.hyd_spec_certificates.specs.Spans.{levels_of, flows_of};
 ghost use Rattle.hyd_spec_certificates.specs.Interval.{Interval};
 ghost use Rattle.hyd_spec_certificates.specs.Stocks.{Stocks, next_stocks, carried_stocks, may_reach, must_reach};
 ghost use Rattle.hyd_spec_certificates.specs.FirstSeconds.{IsFirstSecond, IsEarliestSecond, IsLatestSecond};
 ghost use Rattle.hyd_theorems_on_definitions.specs.TermsOfTheorems.{LiesIn, LiesAround, StockLies, IsInside, AreInside};
 ghost use Rattle.hyd_theorems_on_definitions.specs.TermsOfTheorems.{HasStock};
-ghost use Rattle.hyd_tank.specs.StockIntervals.{initial_stocks, inflows_of, levels_of, stocks_of, IsInflow, AreHeld};
+ghost use Rattle.hyd_tank.specs.StockIntervals.{initial_stocks, stocks_of, IsInflow, AreHeld};
 ghost use Rattle.hyd_tank.specs.StockIntervals.{IsTankOf};
 
 use crate::cylinders::{first_second, level_at, next_level};
@@ -70,7 +71,7 @@ fn next_of(project: &Project, tank: &Tank, stock: Stock, inflow: Span, seconds: 
     requires inflow { IsInflow inflow }
     requires seconds { seconds ≤ 10 ^ 8 }
     ensures { stocks_of result ≡ next_stocks (walls_of project.now tank.now) tank.now (stocks_of stock)
-        (inflows_of inflow) seconds }
+        (flows_of inflow) seconds }
 {
     match tank.shape {
         None => Stock {
@@ -87,7 +88,7 @@ fn carried_of(project: &Project, tank: &Tank, stock: Stock, inflow: Span, second
     requires inflow { IsInflow inflow }
     requires seconds { seconds ≤ 10 ^ 8 }
     ensures { stocks_of result ≡ carried_stocks (walls_of project.now tank.now) tank.now (stocks_of stock)
-        (inflows_of inflow) seconds }
+        (flows_of inflow) seconds }
 {
     match tank.shape {
         None => Stock {
@@ -111,9 +112,9 @@ fn first_of(
     requires held { AreHeld (walls_of project.now tank.now) tank.now (stocks_of stock) }
     requires inflow { IsInflow inflow }
     requires target { unsigned_abs target ≤ 2 * 10 ^ 17 }
-    ensures earliest { IsEarliestSecond (walls_of project.now tank.now) tank.now (stocks_of stock) (inflows_of inflow)
+    ensures earliest { IsEarliestSecond (walls_of project.now tank.now) tank.now (stocks_of stock) (flows_of inflow)
         target rising cap result.0 }
-    ensures latest { IsLatestSecond (walls_of project.now tank.now) tank.now (stocks_of stock) (inflows_of inflow)
+    ensures latest { IsLatestSecond (walls_of project.now tank.now) tank.now (stocks_of stock) (flows_of inflow)
         target rising cap result.1 }
 {
     match tank.shape {
@@ -157,7 +158,7 @@ pub fn next_stock(project: &Project, tank: u32, stock: Stock, inflow: Span, seco
     requires inflow { IsInflow inflow }
     requires seconds { seconds ≤ 10 ^ 8 }
     ensures value { (each : Tank) → slice_get project.now.tanks.list tank ≡ Some each
-        → stocks_of result ≡ next_stocks (walls_of project.now each) each (stocks_of stock) (inflows_of inflow)
+        → stocks_of result ≡ next_stocks (walls_of project.now each) each (stocks_of stock) (flows_of inflow)
         seconds }
     ensures held { (each : Tank) → slice_get project.now.tanks.list tank ≡ Some each
         → AreHeld (walls_of project.now each) each (stocks_of result) }
@@ -166,12 +167,12 @@ pub fn next_stock(project: &Project, tank: u32, stock: Stock, inflow: Span, seco
     // Each stock with which a next period may begin lies in it, at every scale.
     ensures holds { (each : Tank) → slice_get project.now.tanks.list tank ≡ Some each
         → (S : ℕ) (one : OneStock) (q : ℤ) (next : OneStock) → 0 < S → StockLies S (stocks_of stock) one
-        → LiesIn S (inflows_of inflow) q
+        → LiesIn S (flows_of inflow) q
         → IsNextStock S (walls_of project.now each) each one q seconds next → StockLies S (stocks_of result) next }
 
     // It lies in those of a wider stock under a wider inflow.
     ensures nests { (each : Tank) → slice_get project.now.tanks.list tank ≡ Some each
-        → (wider : Stocks) (more : Interval) → AreInside (stocks_of stock) wider → IsInside (inflows_of inflow) more
+        → (wider : Stocks) (more : Interval) → AreInside (stocks_of stock) wider → IsInside (flows_of inflow) more
         → AreInside (stocks_of result) (next_stocks (walls_of project.now each) each wider more seconds) }
 {
     next_of(project, &tank_at(project, tank), stock, inflow, seconds)
@@ -187,7 +188,7 @@ pub fn stock_at(project: &Project, tank: u32, stock: Stock, inflow: Span, second
     requires inflow { IsInflow inflow }
     requires seconds { seconds ≤ 10 ^ 8 }
     ensures value { (each : Tank) → slice_get project.now.tanks.list tank ≡ Some each
-        → stocks_of result ≡ carried_stocks (walls_of project.now each) each (stocks_of stock) (inflows_of inflow)
+        → stocks_of result ≡ carried_stocks (walls_of project.now each) each (stocks_of stock) (flows_of inflow)
         seconds }
     ensures held { (each : Tank) → slice_get project.now.tanks.list tank ≡ Some each
         → AreHeld (walls_of project.now each) each (stocks_of result) }
@@ -195,12 +196,12 @@ pub fn stock_at(project: &Project, tank: u32, stock: Stock, inflow: Span, second
 
     // Each carried level lies in it, at every scale.
     ensures holds { (each : Tank) → slice_get project.now.tanks.list tank ≡ Some each
-        → (S : ℕ) (one : OneStock) (q : ℤ) → 0 < S → StockLies S (stocks_of stock) one → LiesIn S (inflows_of inflow) q
+        → (S : ℕ) (one : OneStock) (q : ℤ) → 0 < S → StockLies S (stocks_of stock) one → LiesIn S (flows_of inflow) q
         → LiesAround S (levels_of result.level) (carried_level S (walls_of project.now each) each one q seconds) }
 
     // It lies in those of a wider stock under a wider inflow.
     ensures nests { (each : Tank) → slice_get project.now.tanks.list tank ≡ Some each
-        → (wider : Stocks) (more : Interval) → AreInside (stocks_of stock) wider → IsInside (inflows_of inflow) more
+        → (wider : Stocks) (more : Interval) → AreInside (stocks_of stock) wider → IsInside (flows_of inflow) more
         → AreInside (stocks_of result) (carried_stocks (walls_of project.now each) each wider more seconds) }
 {
     carried_of(project, &tank_at(project, tank), stock, inflow, seconds)
@@ -226,24 +227,24 @@ pub fn first_stock(
     requires inflow { IsInflow inflow }
     requires target { unsigned_abs target ≤ 2 * 10 ^ 17 }
     ensures earliest { (each : Tank) → slice_get project.now.tanks.list tank ≡ Some each
-        → IsEarliestSecond (walls_of project.now each) each (stocks_of stock) (inflows_of inflow) target rising cap
+        → IsEarliestSecond (walls_of project.now each) each (stocks_of stock) (flows_of inflow) target rising cap
         result.0 }
     ensures latest { (each : Tank) → slice_get project.now.tanks.list tank ≡ Some each
-        → IsLatestSecond (walls_of project.now each) each (stocks_of stock) (inflows_of inflow) target rising cap
+        → IsLatestSecond (walls_of project.now each) each (stocks_of stock) (flows_of inflow) target rising cap
         result.1 }
     ensures ordered { HasStock (stocks_of stock) → result.0 ≤ result.1 }
 
     // The first second of each stock of the interval under each inflow lies between them, at every scale.
     ensures holds { (each : Tank) → slice_get project.now.tanks.list tank ≡ Some each
         → (S : ℕ) (one : OneStock) (q : ℤ) (first : ℕ) → 0 < S → StockLies S (stocks_of stock) one
-        → LiesIn S (inflows_of inflow) q
+        → LiesIn S (flows_of inflow) q
         → IsFirstSecond (has_reached S (walls_of project.now each) each one q rising target) cap first
         → (result.0 ≤ first) × (first ≤ result.1) }
 
     // They lie between those of a wider stock under a wider inflow.
     ensures nests { (each : Tank) → slice_get project.now.tanks.list tank ≡ Some each
         → (wider : Stocks) (more : Interval) (sooner later : ℕ) → AreInside (stocks_of stock) wider
-        → IsInside (inflows_of inflow) more
+        → IsInside (flows_of inflow) more
         → IsEarliestSecond (walls_of project.now each) each wider more target rising cap sooner
         → IsLatestSecond (walls_of project.now each) each wider more target rising cap later
         → (sooner ≤ result.0) × (result.1 ≤ later) }

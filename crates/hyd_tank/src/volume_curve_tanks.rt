@@ -8,7 +8,9 @@ ghost use Rattle.hyd_spec.specs.ProgramTypes.{VolumePoint};
 ghost use Rattle.hyd_net.specs.NumberRanges.{Lies};
 ghost use Rattle.hyd_net.specs.Curves.{volume_knots, value_at, IsVolumeCurve};
 ghost use Rattle.hyd_net.specs.NetworkRanges.{IsShapeOf};
+ghost use Rattle.hyd_spec.specs.Scale.{missed_stock_ticks};
 ghost use Rattle.hyd_spec.specs.Tank.{Curve, kept_volume, level_bounds, content_bounds, has_reached};
+ghost use Rattle.hyd_spec_certificates.specs.Spans.{flows_of};
 ghost use Rattle.hyd_spec_certificates.specs.Interval.{Interval};
 ghost use Rattle.hyd_spec_certificates.specs.Stocks.{Stocks, lower_level, upper_level, contents_after, levels_at};
 ghost use Rattle.hyd_spec_certificates.specs.Stocks.{next_stocks, carried_stocks};
@@ -16,7 +18,7 @@ ghost use Rattle.hyd_spec_certificates.specs.FirstSeconds.{IsFirstSecond, IsEarl
 ghost use Rattle.hyd_theorems_on_definitions.specs.TermsOfTheorems.{IsWithin};
 ghost use Rattle.hyd_tank.specs.Contents.{bounds_of, AreBounds, in_ticks, held_in, moved};
 ghost use Rattle.hyd_tank.specs.Curve.{value_of, IsMixed, IsAtLeast, IsAtMost};
-ghost use Rattle.hyd_tank.specs.StockIntervals.{levels_of, volumes_of, inflows_of, stocks_of, IsInflow, IsBasin};
+ghost use Rattle.hyd_tank.specs.StockIntervals.{volumes_of, stocks_of, IsInflow, IsBasin};
 ghost use Rattle.hyd_tank.specs.Targets.{AreVolumes, IsSmall, IsFirstMet, StandsFor};
 
 use crate::content::{
@@ -79,7 +81,7 @@ fn lower_level(
     requires volumes { AreVolumes tank.now points.now volumes }
     requires scale { 0 < scale }
     requires scale_range { scale ≤ 864 }
-    requires widening { Lies (pos 0) (pos 10) widening }
+    requires widening { Lies (pos 0) (pos missed_stock_ticks) widening }
     ensures { result ≡ lower_level (Curve points.now) tank.now (record { num = parts; den = scale }) widening }
 {
     let levels = level_bounds(tank);
@@ -103,7 +105,7 @@ fn upper_level(
     requires volumes { AreVolumes tank.now points.now volumes }
     requires scale { 0 < scale }
     requires scale_range { scale ≤ 864 }
-    requires widening { Lies (pos 0) (pos 10) widening }
+    requires widening { Lies (pos 0) (pos missed_stock_ticks) widening }
     ensures { result ≡ upper_level (Curve points.now) tank.now (record { num = parts; den = scale }) widening }
 {
     let levels = level_bounds(tank);
@@ -144,7 +146,7 @@ pub(crate) fn next_from(
     requires tank { IsBasin tank.now points.now }
     requires volume { IsWithin (content_bounds (Curve points.now) tank.now) (volumes_of stock.volume) }
     requires seconds { seconds ≤ 10 ^ 8 }
-    ensures { stocks_of result ≡ next_stocks (Curve points.now) tank.now (stocks_of stock) (inflows_of inflow) seconds }
+    ensures { stocks_of result ≡ next_stocks (Curve points.now) tank.now (stocks_of stock) (flows_of inflow) seconds }
 {
     let volumes = volume_bounds(tank, points);
     let breadth = i128::from(PARTS);
@@ -171,7 +173,7 @@ pub(crate) fn carried_from(
     requires tank { IsBasin tank.now points.now }
     requires volume { IsWithin (content_bounds (Curve points.now) tank.now) (volumes_of stock.volume) }
     requires seconds { seconds ≤ 10 ^ 8 }
-    ensures { stocks_of result ≡ carried_stocks (Curve points.now) tank.now (stocks_of stock) (inflows_of inflow)
+    ensures { stocks_of result ≡ carried_stocks (Curve points.now) tank.now (stocks_of stock) (flows_of inflow)
         seconds }
 {
     let volumes = volume_bounds(tank, points);
@@ -255,9 +257,9 @@ pub(crate) fn first_from(
     requires tank { IsBasin tank.now points.now }
     requires volume { IsWithin (content_bounds (Curve points.now) tank.now) (volumes_of stock.volume) }
     requires inflow { IsInflow inflow }
-    ensures earliest { IsEarliestSecond (Curve points.now) tank.now (stocks_of stock) (inflows_of inflow) level rising
+    ensures earliest { IsEarliestSecond (Curve points.now) tank.now (stocks_of stock) (flows_of inflow) level rising
         cap result.0 }
-    ensures latest { IsLatestSecond (Curve points.now) tank.now (stocks_of stock) (inflows_of inflow) level rising cap
+    ensures latest { IsLatestSecond (Curve points.now) tank.now (stocks_of stock) (flows_of inflow) level rising cap
         result.1 }
 {
     let volumes = volume_bounds(tank, points);

@@ -4,6 +4,7 @@ use Rattle.std.proofs.Common.{arith}
 use Rattle.std.specs.Prelude.{Some, map, slice_get, slice_index_or}
 use Rattle.std.proofs.lemmas.List.{take_more, take_all, map_push}
 use Rattle.hyd_spec.specs.Lists.{map_from}
+use Rattle.hyd_lemmas.proofs.ListsAndOptions.{item_is, item_there}
 
 -- an item of it
 pub placed : {X Y : Type 0} (f : ℕ → X → Y) (from k : ℕ) (xs : List X) (d : Y) (e : X) → k < length xs
@@ -22,16 +23,6 @@ placed_first {X} {Y} f k xs d e h =
 pub as_long : {X Y : Type 0} (f : ℕ → X → Y) (from : ℕ) (xs : List X) → length (map_from f from xs) ≡ length xs
 as_long {X} {Y} f from [] = refl
 as_long {X} {Y} f from (x ∷ xs) = ap suc (as_long f (suc from) xs)
-
-pub item_there : {X : Type 0} (xs : List X) (k : ℕ) → k < length xs → (x : X) × (slice_get xs k ≡ Some x)
-item_there {X} [] k h = absurd (omega (arith, h))
-item_there {X} (x ∷ xs) zero h = (x, refl)
-item_there {X} (x ∷ xs) (suc k) h = item_there xs k (omega (arith, h))
-
-pub item_is : {X : Type 0} (xs : List X) (k : ℕ) (x d : X) → slice_get xs k ≡ Some x → slice_index_or xs k d ≡ x
-item_is {X} [] k x d at = absurd (cc)
-item_is {X} (y ∷ xs) zero x d at = cc
-item_is {X} (y ∷ xs) (suc k) x d at = item_is xs k x d at
 
 -- one item more of a list that is written from the front
 pub one_more : {X Y Z : Type 0} (view : Z → Y) (f : ℕ → X → Y) (xs : List X) (list : List Z) (item : Z) (i : ℕ)

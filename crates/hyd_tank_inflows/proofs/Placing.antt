@@ -4,6 +4,7 @@ use Rattle.std.proofs.lemmas.List.{length-map}
 use Rattle.hyd_num.specs.declared.decimals.Span.{Span}
 use Rattle.hyd_spec.specs.ProgramTypes.{Project}
 use Rattle.hyd_spec.specs.NodeNumbers.{tank_node}
+use Rattle.hyd_spec_certificates.specs.Spans.{levels_of, flows_of}
 use Rattle.hyd_spec_certificates.specs.declared.Problem.TheVariants.{Pinned}
 use Rattle.hyd_spec_certificates.specs.declared.Side.TheVariants.{Upper, Lower}
 use Rattle.hyd_spec_certificates.specs.PeriodNetwork.{Grid}
@@ -15,11 +16,10 @@ use Rattle.hyd_cert.specs.Vectors.{problems_in, behind_two}
 use Rattle.hyd_cert.specs.RecordView.{row_of}
 use Rattle.hyd_cert.specs.declared.record.Record.{Record as Row}
 use Rattle.hyd_period_network.specs.NetView.{NetView}
-use Rattle.hyd_period_network.specs.NetAsPeriodNetwork.{grid_of, interval_of}
+use Rattle.hyd_period_network.specs.NetAsPeriodNetwork.{grid_of}
 use Rattle.hyd_period_network.specs.Demands.{IsNetJunction}
 use Rattle.hyd_period_network.specs.Periods.{IsNetOf}
 use Rattle.hyd_bounds.specs.VectorsInOrder.{IsSpan, tank_node_of}
-use Rattle.hyd_tank.specs.StockIntervals.{inflows_of}
 use Rattle.hyd_period_network.proofs.Sounding.{long_zipped}
 use Rattle.hyd_tank_inflows.specs.Inflows.{ArePinned}
 use Rattle.hyd_tank_inflows.proofs.Numbered.{placed_first}
@@ -29,43 +29,43 @@ problems_count junctions zero heads = refl
 problems_count junctions (suc more) heads = ap suc (problems_count junctions more (behind_two junctions heads))
 
 -- the node of a tank by the net is that by the project
-pub node_is : (network : Project) (net : NetView) (k : ℕ) → IsNetOf network net
-    → tank_node_of net k ≡ tank_node network k
-node_is network net k of =
-    let junctions = long_zipped IsNetJunction network.junctions.list net.junctions of.junctions in
+pub node_is : (project : Project) (net : NetView) (k : ℕ) → IsNetOf project net
+    → tank_node_of net k ≡ tank_node project k
+node_is project net k of =
+    let junctions = long_zipped IsNetJunction project.junctions.list net.junctions of.junctions in
     let reservoirs = of.each_reservoir in
     omega (arith, junctions, reservoirs)
 
 abbrev between : ℤ → ℤ → Interval
 between lo hi = record { lo = lo; hi = hi }
 
-is-box : (span : Span) (box : Interval) → IsSpan span box → inflows_of span ≡ box
+is-box : (span : Span) (box : Interval) → IsSpan span box → flows_of span ≡ box
 is-box span box is =
     ap (λ (lo : ℤ). between lo span.hi) is.lo_is ∙ ap (λ (hi : ℤ). between box.lo hi) is.hi_is
 
 -- the span of a tank by its box is its inflow
-pub inflow_is : (network : Project) (net : NetView) (grid : Grid) (row : Record) (k : ℕ) (span : Span)
-    → IsNetOf network net
+pub inflow_is : (project : Project) (net : NetView) (grid : Grid) (row : Record) (k : ℕ) (span : Span)
+    → IsNetOf project net
     → k < length row.pinned
     → IsSpan span (inflow_box grid k (tank_node_of net k) (vector_of row (Pinned k) Lower) (vector_of row
     (Pinned k) Upper))
-    → inflows_of span ≡ inflow_of_tank network grid row k
-inflow_is network net grid row k span of within is =
+    → flows_of span ≡ inflow_of_tank project grid row k
+inflow_is project net grid row k span of within is =
     let box : Interval = inflow_box grid k (tank_node_of net k) (vector_of row (Pinned k) Lower) (vector_of row
     (Pinned k) Upper) in
     let there = placed_first (λ k (vectors : Vectors). inflow_box grid k
-    (tank_node network k) vectors.lower vectors.upper) k row.pinned nowhere no_vectors within in
+    (tank_node project k) vectors.lower vectors.upper) k row.pinned nowhere no_vectors within in
     is-box span box is ∙ ap (λ (node : ℕ). inflow_box grid k node (vector_of row (Pinned k) Lower) (vector_of row
-    (Pinned k) Upper)) (node_is network net k of)
+    (Pinned k) Upper)) (node_is project net k of)
     ∙ sym there
 
 -- a tank of the project has vectors that pin it
-pub pinned_there : (network : Project) (net : NetView) (row : Row) (k : ℕ) → IsNetOf network net
+pub pinned_there : (project : Project) (net : NetView) (row : Row) (k : ℕ) → IsNetOf project net
     → ArePinned (grid_of net) row
-    → k < length network.tanks.list → k < length (row_of row).pinned
-pinned_there network net row k of pinned h =
+    → k < length project.tanks.list → k < length (row_of row).pinned
+pinned_there project net row k of pinned h =
     let tanks = of.each_tank in
-    let each : length (grid_of net).tanks ≡ length net.tanks = length-map net.tanks interval_of in
+    let each : length (grid_of net).tanks ≡ length net.tanks = length-map net.tanks levels_of in
     let count = pinned.tanks in
     let rows = problems_count row.junctions row.tanks (behind_two row.junctions row.vectors.list) in
     omega (arith, h, tanks, each, count, rows)

@@ -5,6 +5,7 @@ ghost use Rattle.std.specs.Prelude.{◌≡◌, ◌<◌, ◌≤◌, ◌+◌, ◌+
 ghost use Rattle.hyd_net.specs.Sound.{Sound};
 ghost use Rattle.hyd_spec.specs.Lists.{map_from};
 ghost use Rattle.hyd_spec.specs.NodeNumbers.{tank_count};
+ghost use Rattle.hyd_spec_certificates.specs.Spans.{flows_of};
 ghost use Rattle.hyd_spec_certificates.specs.declared.Problem.TheVariants.{Pinned};
 ghost use Rattle.hyd_spec_certificates.specs.declared.Side.TheVariants.{Upper, Lower};
 ghost use Rattle.hyd_spec_certificates.specs.FlowIntervals.{inflow_box};
@@ -14,7 +15,7 @@ ghost use Rattle.hyd_cert.specs.RecordView.{row_of};
 ghost use Rattle.hyd_period_network.specs.NetAsPeriodNetwork.{grid_of};
 ghost use Rattle.hyd_period_network.specs.Periods.{IsNetOf};
 ghost use Rattle.hyd_bounds.specs.VectorsInOrder.{IsSpan, TanksInOrder, tank_node_of};
-ghost use Rattle.hyd_tank.specs.StockIntervals.{inflows_of, IsInflow};
+ghost use Rattle.hyd_tank.specs.StockIntervals.{IsInflow};
 ghost use Rattle.hyd_tank_inflows.specs.Inflows.{ArePinned};
 
 use hyd_bounds::{pinned_in_order, tank_inflow};
@@ -61,7 +62,7 @@ pub fn put_inflows(project: &Project, net: &Net, row: &Record, inflows: &mut Lis
     requires pinned { ArePinned (grid_of net.now) row.now }
     requires levels { TanksInOrder (grid_of net.now) }
     requires room { tank_count project.now ≤ length inflows.old.list + inflows.old.spare }
-    ensures inflows { map inflows_of inflows.new.list
+    ensures inflows { map flows_of inflows.new.list
         ≡ map_from (λ k tank. inflow_of_tank project.now (grid_of net.now)
         (row_of row.now) k) 0 project.now.tanks.list }
     ensures small { All IsInflow inflows.new.list }

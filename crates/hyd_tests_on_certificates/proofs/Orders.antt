@@ -1,5 +1,5 @@
 -- MAIN certificates of both sides are in order, with the heads of reservoirs and tanks.
-use Rattle.std.proofs.Common.{◌≡◌, ℕ, zero, suc, ℤ, pos, ◌-ℤ◌, ◌≤ℤ◌, List, [], ◌∷◌, ◌++◌, refl, arith}
+use Rattle.std.proofs.Common.{◌≡◌, ℕ, zero, suc, ℤ, pos, ◌-ℤ◌, ◌≤ℤ◌, List, [], ◌∷◌, refl, arith}
 use Rattle.std.specs.Prelude.{Some, slice_get}
 use Rattle.std.proofs.lemmas.Int.{ints}
 use Rattle.hyd_spec.specs.Assignment.{head_at}
@@ -11,7 +11,8 @@ use Rattle.hyd_spec_certificates.specs.Interval.{Interval}
 use Rattle.hyd_spec_certificates.specs.PeriodNetwork.{Grid, end_on, tank_side, all_heads, fixed_heads}
 use Rattle.hyd_spec_certificates.specs.Certificate.{IsCertificate}
 use Rattle.hyd_theorems_on_definitions.specs.TermsOfTheorems.{IsSteady}
-use Rattle.hyd_theorems_on_definitions.proofs.Leading.{one_times}
+use Rattle.hyd_num.proofs.Integers.{one_times}
+use Rattle.hyd_theorems_on_definitions.proofs.HeadLists.{fixed-in-order}
 use Rattle.hyd_theorems_on_nesting.proofs.TwoSides.{heads_below_plus}
 use Rattle.hyd_bounds.specs.VectorsInOrder.{AreInOrder, TanksInOrder}
 
@@ -25,17 +26,11 @@ tanks-within k [] order m = omega (arith, ints)
 tanks-within k (x ∷ tanks) order zero = (let le = order 0 x refl in omega (arith, ints, le))
 tanks-within k (x ∷ tanks) order (suc m) = tanks-within (suc k) tanks (λ n y at. order (suc n) y at) m
 
-after-reservoirs : (reservoirs xs ys : List ℤ) → ((m : ℕ) → (head_at xs m -ℤ head_at ys m) ≤ℤ pos 0)
-    → (m : ℕ) → (head_at (reservoirs ++ xs) m -ℤ head_at (reservoirs ++ ys) m) ≤ℤ pos 0
-after-reservoirs [] xs ys within m = within m
-after-reservoirs (r ∷ reservoirs) xs ys within zero = omega (arith, ints)
-after-reservoirs (r ∷ reservoirs) xs ys within (suc m) = after-reservoirs reservoirs xs ys within m
-
 pub main_order : (grid : Grid) → IsSteady grid → TanksInOrder grid → (below above : List ℤ)
     → IsCertificate grid Main Lower below → IsCertificate grid Main Upper above
     → AreInOrder (pos 0) (all_heads grid Main Lower below) (all_heads grid Main Upper above)
 main_order grid steady order below above under over =
     heads_below_plus grid steady Main Main above below (pos 0) over under (omega (arith, ints))
-    (λ m. (let f = after-reservoirs grid.reservoirs (ends Lower 0 grid.tanks) (ends Upper 0 grid.tanks)
+    (λ m. (let f = fixed-in-order grid.reservoirs (ends Lower 0 grid.tanks) (ends Upper 0 grid.tanks)
     (tanks-within 0 grid.tanks order) m in
     omega (arith, ints, f, one_times (head_at (fixed_heads grid Main Upper) m))))

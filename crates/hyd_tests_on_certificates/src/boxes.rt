@@ -142,13 +142,13 @@ fn are_inflows(net: &Net, rows: &'static [Row], flows: &[Flow]) -> bool
 }
 
 /// Whether what lies between the tight vectors is as the network says, if it says something.
-pub(crate) fn are_bounds(net: &Net, network: &Network) -> bool
+pub(crate) fn are_bounds(net: &Net, project: &Network) -> bool
     requires { TanksInOrder (grid_of net.now) }
 {
-    let Some(bounds) = &network.bounds else {
+    let Some(bounds) = &project.bounds else {
         return true;
     };
-    let rows = network.rows;
+    let rows = project.rows;
     are_words(net, rows, bounds.words)
         && are_flows(net, rows, bounds.flows)
         && are_outflows(net, rows, bounds.outflows)

@@ -69,7 +69,7 @@ fn status_at(
 }
 
 /// The status of a command whose call fails or takes nothing.
-fn status_of(call: u8, starves: bool) -> Status {
+fn expected_status(call: u8, starves: bool) -> Status {
     match call {
         b'o' | b'r' => Status::ReadFault,
         _ if starves => Status::Stalled,
@@ -101,14 +101,14 @@ fn ends_both(
     number: u32,
     call: u8,
 ) -> Result<bool, AllocError> {
-    let failed = status_of(call, false);
+    let failed = expected_status(call, false);
     if !ends_so(alloc, command, certificate, whole, number, false, failed)? {
         return Ok(false);
     }
     if call != b'w' && call != b'p' {
         return Ok(true);
     }
-    let starved = status_of(call, true);
+    let starved = expected_status(call, true);
     ends_so(alloc, command, certificate, whole, number, true, starved)
 }
 

@@ -25,6 +25,7 @@ use Rattle.hyd_net.specs.declared.patterns.Pattern.{Pattern}
 use Rattle.hyd_net.specs.declared.options.Times.{Times}
 use Rattle.hyd_net.specs.declared.project.Project.{Project}
 use Rattle.hyd_num.specs.declared.flow_units.FlowUnit.TheVariants.{Cmd}
+use Rattle.hyd_lemmas.proofs.ListsAndOptions.{differ}
 
 abbrev pub the_times : Times
 the_times = record {
@@ -81,9 +82,6 @@ all_one P xs x e is = subst (All P) (sym e) (All-from_recursion P (x ∷ []) (is
 
 all_two : {X : Type 0} (P : X → Type 0) (xs : List X) (x y : X) → xs ≡ x ∷ (y ∷ []) → P x → P y → All P xs
 all_two P xs x y e is also = subst (All P) (sym e) (All-from_recursion P (x ∷ (y ∷ [])) (is, (also, tt)))
-
-differ : (a b : List ℕ) → (slice_index_or a 0 0 ≡ slice_index_or b 0 0 → ⊥) → a ≢ b
-differ a b unlike e = unlike (ap (λ (l : List ℕ). slice_index_or l 0 0) e)
 
 no_ids : AreDistinct []
 no_ids i j d before within = absurd (omega (arith, within))

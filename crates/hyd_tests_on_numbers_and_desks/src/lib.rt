@@ -1,5 +1,5 @@
-//! The tests of numbers, units, capacities, sparse factors, lists and names, and the desk: each public call on its happy
-//! path, and tables of values worked out by an independent program.
+//! The tests of numbers, units, capacities, sparse factors, lists and names, and the desk: each public call on its
+//! happy path, and tables of values worked out by an independent program.
 #![tactic(auto)]
 
 #[cfg(test)]

@@ -116,9 +116,9 @@ fn rewritten(alloc: Global, row: &str) -> Result<String, Fail> {
 }
 
 /// Whether a text describes the network.
-fn describes(alloc: Global, text: &str, network: &Project) -> Result<bool, Fail> {
+fn describes(alloc: Global, text: &str, project: &Project) -> Result<bool, Fail> {
     match read_project(alloc, text.as_bytes()) {
-        Ok(other) => Ok(same(&other, network)),
+        Ok(other) => Ok(same(&other, project)),
         Err(_) => Err(Fail::new("the text has no fault")),
     }
 }
@@ -126,7 +126,7 @@ fn describes(alloc: Global, text: &str, network: &Project) -> Result<bool, Fail>
 /// Whether two texts describe the same network.
 pub(crate) fn say_the_same(alloc: Global, first: &str, second: &str) -> Result<bool, Fail> {
     match read_project(alloc, first.as_bytes()) {
-        Ok(network) => describes(alloc, second, &network),
+        Ok(project) => describes(alloc, second, &project),
         Err(_) => Err(Fail::new("the text has no fault")),
     }
 }

@@ -20,6 +20,6 @@ pub record IsBasin (tank : Tank) : Type 0 where
   pub shape : tank.shape ≡ Some 0
 
 -- a network's first tank is it, and the first curve its curve
-pub record HasBasin (network : Project) : Type 0 where
-  pub tank : (each : Tank) → slice_get network.tanks.list 0 ≡ Some each → IsBasin each
-  pub curve : shape_points network 0 ≡ knees
+pub record HasBasin (project : Project) : Type 0 where
+  pub tank : (each : Tank) → slice_get project.tanks.list 0 ≡ Some each → IsBasin each
+  pub curve : shape_points project 0 ≡ knees

@@ -1,9 +1,9 @@
 -- The first wrong row, one row at a time.
 use Rattle.std.proofs.Common.{◌≡◌, ◌+◌, ◌<◌, ◌≤◌, ℕ, Bool, true, false, List, [], ◌∷◌, ◌++◌, filter, take, length}
 use Rattle.std.proofs.Common.{slice_get, Option, Some, None, refl, sym, ap, ◌∙◌, subst, arith, inl, inr, get_or}
-use Rattle.std.proofs.Common.{append-nil}
+use Rattle.std.proofs.Common.{append-nil, position, drop, append_assoc}
 use Rattle.std.specs.Option.{option_map}
-use Rattle.std.proofs.lemmas.List.{take_more}
+use Rattle.std.proofs.lemmas.List.{take_more, take-append-drop}
 use Rattle.std.proofs.lemmas.List.Elements.{filter-append}
 use Rattle.std.proofs.lemmas.Option.{slice_get-map, slice_get-get_or, slice_get_within, get_or_from_slice_get}
 use Rattle.std.proofs.Math.Nat.{eq-or-lt_of_le}
@@ -13,6 +13,11 @@ use Rattle.hyd_spec_input.specs.Faults.{IsFirst, NoneIs}
 use Rattle.hyd_net.specs.declared.refusal_cause.Cause.{Cause}
 use Rattle.hyd_text_rows.specs.declared.first_wrong.Found.{Found}
 use Rattle.hyd_text_rows.specs.FirstWrongRow.{HasFound, IsFirstAt, IsVerdict, kept, rows_at}
+use Rattle.std.specs.Str.{bytes_eq}
+use Rattle.std.proofs.lemmas.Bool.{cases_Bool}
+use Rattle.hyd_spec_input.specs.Tables.{own_id, has_id}
+use Rattle.std.specs.Cmp.Lexicographic.{bytes_decides}
+use Rattle.std.proofs.lemmas.List.Quantifiers.{position-Some}
 
 -- the row of a line
 pub row_at : (text : List ℕ) (lines : List Line) (k : ℕ) (d : Line) → k < length lines
@@ -94,3 +99,35 @@ first_of rows Wrong found is = record {
 pub none_of : (rows : List Row) (Wrong : ℕ → Cause → Type 0) (n : ℕ) → HasFound rows Wrong n None → length rows ≤ n
     → ((k : ℕ) (cause : Cause) → Wrong k cause → k < length rows) → NoneIs Wrong
 none_of rows Wrong n none all within k cause w = none k (omega (arith, within k cause w, all)) cause w
+
+pub has_between : (name : List ℕ) (xs ys : List Row) (row : Row) → bytes_eq name (own_id row) ≡ true
+    → has_id name (xs ++ row ∷ ys) ≡ true
+has_between name [] ys row t = rw t refl
+has_between name (x ∷ xs) ys row t = elim (cases_Bool (bytes_eq name (own_id x))) [
+  | inl here ↦ rw here refl
+  | inr other ↦ rw other (has_between name xs ys row t)
+]
+
+-- two names with one number are the same
+pub one_name : (names : List (List ℕ)) (a b : List ℕ) (k : ℕ) → position (bytes_eq a) names ≡ Some k
+    → position (bytes_eq b) names ≡ Some k → a ≡ b
+one_name names a b k p q =
+    let x : a ≡ get_or names k [] = (bytes_decides a (get_or names k [])).0 (position-Some
+    (bytes_eq a) names k [] p).1 in
+    let y : b ≡ get_or names k [] = (bytes_decides b (get_or names k [])).0 (position-Some
+    (bytes_eq b) names k [] q).1 in
+    x ∙ sym y
+
+pub has_more : (p : Row → Bool) (rows : List Row) (k : ℕ) (row : Row) → slice_get rows k ≡ Some row → p row ≡ true
+    → has_id (own_id row) (filter p rows) ≡ true
+has_more p rows k row is member =
+    let parts : filter p rows ≡ filter p (take k rows) ++ row ∷ filter p (drop (k + 1) rows) =
+    ap (filter p) (sym (take-append-drop (k + 1) rows))
+    ∙ filter-append p (take (k + 1) rows) (drop (k + 1) rows)
+    ∙ ap (λ (rs : List Row). rs ++ filter p (drop (k + 1) rows)) (filter_more p rows k row is member)
+    ∙ simp append_assoc in
+    rw parts (has_between (own_id row) (filter p (take k rows)) (filter p (drop (k + 1) rows)) row
+    ((bytes_decides (own_id row) (own_id row)).1 refl))
+
+pub not_named : (name : List ℕ) (row : Row) → bytes_eq name (own_id row) ≡ true → name ≡ own_id row
+not_named name row t = (bytes_decides name (own_id row)).0 t

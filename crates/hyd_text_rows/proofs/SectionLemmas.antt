@@ -1,6 +1,6 @@
 -- A row of one section among all rows.
 use Rattle.std.proofs.Common.{◌≡◌, ◌≤◌, ℕ, Bool, true, false, List, length, filter, take, slice_get, Option, Some, None}
-use Rattle.std.proofs.Common.{refl, sym, ◌∙◌, subst, arith, inl, inr, true≢false}
+use Rattle.std.proofs.Common.{sym, ◌∙◌, subst, arith, inl, inr, true≢false}
 use Rattle.std.proofs.lemmas.List.{length-map, take_all}
 use Rattle.hyd_spec_lines.specs.Lines.{Row, row_of}
 use Rattle.hyd_spec_lines.specs.declared.line.Line.{Line}
@@ -13,11 +13,6 @@ use Rattle.hyd_text_rows.specs.FirstWrongRow.{HasFound, IsVerdict, rows_at}
 use Rattle.hyd_text_rows.specs.IdTables.{AreFirsts}
 use Rattle.hyd_text_rows.specs.declared.first_wrong.Found.{Found}
 use Rattle.hyd_text_rows.specs.WrongInSection.{IsWrongIn, IsFaultThen}
-
--- no cause is the fault
-pub none_of : (fault : Option Cause) → ((cause : Cause) → fault ≡ Some cause → ⊥) → fault ≡ None
-none_of None h = refl
-none_of (Some cause) h = absurd (h cause refl)
 
 -- the verdict on a row that has no capacity
 pub verdict_without_capacity : (section : Section) (rows : List Row) (k : ℕ) (row : Row) (fault : Option Cause)

@@ -5,12 +5,9 @@ ghost use Rattle.std.specs.Prelude.{◌≡◌};
 ghost use Rattle.hyd_text_rows.specs.QuantityRanges as range;
 
 use hyd_net::Cause;
+use hyd_net::ranges::{GREATEST_FLOW, GREATEST_HEAD};
 use hyd_num::{Decimal, FlowUnit};
 use hyd_units::{flow_ticks, head_ticks};
-
-const GREATEST_HEAD: i128 = 100_000_000_000_000_000;
-
-const GREATEST_FLOW: i128 = 1_000_000_000_000_000;
 
 /// Range where a head is above 10^17 head ticks up or down.
 pub fn head_fault(head: Decimal, unit: FlowUnit) -> Option<Cause>

@@ -57,15 +57,15 @@ module _ (text cert certificate : List ℕ) (settings : Settings) (before now st
       written_is p settings.rounds (sharpness_of settings) run.outcome run.certificate run.report run.run in
       let other : IsCertificateOfRun p certificate =
       subst (λ (c : List ℕ). IsCertificateOfRun p c) (written_of p status run) own in
-      answer.holds.1 (carried p answer.network
-      (one_network (rows_in (items_of text)) p answer.network reads answer.is_network) certificate other)
+      answer.holds.1 (carried p answer.project
+      (one_network (rows_in (items_of text)) p answer.project reads answer.is_network) certificate other)
 
   refused_by : (status : Status) → AnswersText text settings cert status before now → HasWritten status
       → AnswersCheck text certificate CertificateRefused start end → ⊥
-  refused_by Done ran written answer = refused ran.network Done ran.is_network ran.holds answer
-  refused_by Undecided ran written answer = refused ran.network Undecided ran.is_network ran.holds answer
-  refused_by RoundsSpent ran written answer = refused ran.network RoundsSpent ran.is_network ran.holds answer
-  refused_by Demand ran written answer = refused ran.network Demand ran.is_network ran.holds answer
+  refused_by Done ran written answer = refused ran.project Done ran.is_network ran.holds answer
+  refused_by Undecided ran written answer = refused ran.project Undecided ran.is_network ran.holds answer
+  refused_by RoundsSpent ran written answer = refused ran.project RoundsSpent ran.is_network ran.holds answer
+  refused_by Demand ran written answer = refused ran.project Demand ran.is_network ran.holds answer
   refused_by OutOfMemory ran written answer = absurd written
   refused_by Usage ran written answer = absurd written
   refused_by ReadFault ran written answer = absurd written
@@ -80,7 +80,7 @@ module _ (text cert certificate : List ℕ) (settings : Settings) (before now st
       → (report : List ℕ) × ((now.printed ≡ append_known before.printed report)
       × (end.printed ≡ append_known start.printed report))
   one_report ran checked =
-      let p = ran.network in
+      let p = ran.project in
       let run = ran.holds in
       let finished : RunWrites p settings.rounds (sharpness_of settings) Finished run.certificate run.report =
       subst (λ (o : Outcome). RunWrites p settings.rounds (sharpness_of settings) o run.certificate run.report)
@@ -89,7 +89,7 @@ module _ (text cert certificate : List ℕ) (settings : Settings) (before now st
       subst (λ (c : List ℕ). RunWrites p settings.rounds (sharpness_of settings) Finished c run.report)
       (written_of p Done run) finished in
       let same : checked.holds.report ≡ run.report =
-      readings_report (rows_in (items_of text)) p checked.network ran.is_network checked.is_network settings.rounds
+      readings_report (rows_in (items_of text)) p checked.project ran.is_network checked.is_network settings.rounds
       (sharpness_of settings) certificate run.report checked.holds.report Accepted wrote checked.holds.holds in (
         run.report,
         (

@@ -29,79 +29,79 @@ use Rattle.hyd_theorems_on_checks.proofs.RunsByRecords.{begins_with}
 abbrev pub IsFrontOf : List ℕ → List ℕ → Type 0
 IsFrontOf front whole = (rest : List ℕ) × (front ++ rest ≡ whole)
 
-module _ (network : Project) where
+module _ (project : Project) where
   -- a report of some periods is a front of one of more
   longer : (founds more : List Found) (last : List ℕ)
-      → IsFrontOf (report_text network (lines_of founds) []) (report_text network (lines_of (founds ++ more)) last)
+      → IsFrontOf (report_text project (lines_of founds) []) (report_text project (lines_of (founds ++ more)) last)
   longer founds more last =
       let head = line (codes "HYD" ∷ (decimal 1 ∷ [])) in
-      let text = λ (lines : List ReportLine). joined (map (line_text network) lines) in
+      let text = λ (lines : List ReportLine). joined (map (line_text project) lines) in
       let a = text (lines_of founds) in
       let b = text (lines_of more) in
       let both : text (lines_of (founds ++ more)) ≡ a ++ b =
       ap text (joined_append (λ (f : Found). f.lines) founds more)
-      ∙ joined_append (line_text network) (lines_of founds) (lines_of more) in (
+      ∙ joined_append (line_text project) (lines_of founds) (lines_of more) in (
         b ++ last,
         ap (λ t. (head ++ t) ++ (b ++ last)) (append-nil a) ∙ (append_assoc head a (b ++ last)
             ∙ ap (λ t. head ++ t) (sym (append_assoc a b last) ∙ ap (λ t. t ++ last) (sym both))),
       )
 
-  module _ (sound : Sound network) (text : List ℕ) where
+  module _ (sound : Sound project) (text : List ℕ) where
     -- by the runs
-    by_runs : (a b : List Found) (left other : Standing) (last whole : List ℕ) → IsRun network a left
-        → IsRun network b other → Begins (rows_of a) (rows_of b) → whole ≡ report_text network (lines_of b) last
-        → IsFrontOf (report_text network (lines_of a) []) whole
+    by_runs : (a b : List Found) (left other : Standing) (last whole : List ℕ) → IsRun project a left
+        → IsRun project b other → Begins (rows_of a) (rows_of b) → whole ≡ report_text project (lines_of b) last
+        → IsFrontOf (report_text project (lines_of a) []) whole
     by_runs a b left other last whole x y k e =
-        let runs = begins_with network (initial_standing network) a b k.more left other x y k.is in
+        let runs = begins_with project (initial_standing project) a b k.more left other x y k.is in
         let front = longer a runs.more last in
-        (front.0, front.1 ∙ (ap (λ fs. report_text network (lines_of fs) last) (sym runs.is) ∙ sym e))
+        (front.0, front.1 ∙ (ap (λ fs. report_text project (lines_of fs) last) (sym runs.is) ∙ sym e))
 
-    module _ (report whole : List ℕ) (f : CheckFinds network text report) where
+    module _ (report whole : List ℕ) (f : CheckFinds project text report) where
       by_certificate : (rows : List Record) (periods : ℕ) (finished : Bool)
-          → IsCertificateText text (version_of network) (junction_count network) (tank_count network) rows periods
+          → IsCertificateText text (version_of project) (junction_count project) (tank_count project) rows periods
           finished
           → Begins (rows_of f.founds) rows
       by_certificate rows periods finished certificate = by_begins f.begins
         where
-          by_begins : BeginsWithFound network f.founds text → Begins (rows_of f.founds) rows
+          by_begins : BeginsWithFound project f.founds text → Begins (rows_of f.founds) rows
           by_begins (inl none) = record { more = rows; is = ap (λ fs. rows_of fs ++ rows) (sym none) }
           by_begins (inr begun) =
-              let k = first_rows text begun.0 (version_of network) (junction_count network) (tank_count network) periods
+              let k = first_rows text begun.0 (version_of project) (junction_count project) (tank_count project) periods
               rows (rows_of f.founds) finished certificate f.rows_fit begun.1 in
               record { more = k.0; is = k.1 }
 
-      in_accepted : CheckAccepts network text whole → IsFrontOf (report_text network (lines_of f.founds) []) whole
+      in_accepted : CheckAccepts project text whole → IsFrontOf (report_text project (lines_of f.founds) []) whole
       in_accepted a =
           by_runs f.founds a.founds f.left a.left _ whole f.is_run a.is_run
           (by_certificate (rows_of a.founds) _ a.left.finished a.certificate) a.report
 
-      in_grammar : CheckRefusesGrammar network text whole
-          → IsFrontOf (report_text network (lines_of f.founds) []) whole
+      in_grammar : CheckRefusesGrammar project text whole
+          → IsFrontOf (report_text project (lines_of f.founds) []) whole
       in_grammar a =
           by_runs f.founds a.founds f.left a.left _ whole f.is_run a.is_run
-          (found_first network sound text whole a f.founds f.rows_fit f.begins) a.report
+          (found_first project sound text whole a f.founds f.rows_fit f.begins) a.report
 
       -- nothing is found of a text with another header line
-      none_found : CheckRefusesCounts network text whole → BeginsWithFound network f.founds text → f.founds ≡ []
+      none_found : CheckRefusesCounts project text whole → BeginsWithFound project f.founds text → f.founds ≡ []
       none_found a (inl none) = none
       none_found a (inr begun) =
-          absurd (other_header network sound text begun.0 (rows_of f.founds) a.other_header begun.1)
+          absurd (other_header project sound text begun.0 (rows_of f.founds) a.other_header begun.1)
 
-      in_counts : CheckRefusesCounts network text whole → IsFrontOf (report_text network (lines_of f.founds) []) whole
+      in_counts : CheckRefusesCounts project text whole → IsFrontOf (report_text project (lines_of f.founds) []) whole
       in_counts a =
           let front = longer [] [] (refused_counts_line 1) in (
             front.0,
-            ap (λ (fs : List Found). report_text network (lines_of fs) [] ++ front.0) (none_found a f.begins)
+            ap (λ (fs : List Found). report_text project (lines_of fs) [] ++ front.0) (none_found a f.begins)
                 ∙ (front.1 ∙ sym a.report),
           )
 
       -- the record that is refused wasn't found
-      before_refused : (cause : CertRefused) (a : CheckRefuses network text whole cause)
+      before_refused : (cause : CertRefused) (a : CheckRefuses project text whole cause)
           → Begins (rows_of f.founds) (rows_of a.founds)
       before_refused cause a = by_begins f.begins
         where
           through : Begins (rows_of a.founds ++ (a.row ∷ [])) (rows_of f.founds) → ⊥
-          through k = none_refused network sound text a.founds f.founds a.left f.left a.row cause a.is_run a.refused
+          through k = none_refused project sound text a.founds f.founds a.left f.left a.row cause a.is_run a.refused
               f.is_run k
 
           by_last : ((rows_of f.founds) ≡ (rows_of a.founds ++ (a.row ∷ []))) ⊎ Begins (rows_of f.founds)
@@ -115,45 +115,45 @@ module _ (network : Project) where
           by_compared (inl k) = by_last (before_last (rows_of f.founds) (rows_of a.founds) a.row k)
           by_compared (inr k) = absurd (through k)
 
-          by_begins : BeginsWithFound network f.founds text → Begins (rows_of f.founds) (rows_of a.founds)
+          by_begins : BeginsWithFound project f.founds text → Begins (rows_of f.founds) (rows_of a.founds)
           by_begins (inl none) =
               record { more = rows_of a.founds; is = ap (λ fs. rows_of fs ++ rows_of a.founds) (sym none) }
           by_begins (inr begun) =
-              by_compared (compared network sound text begun.0 a.unread (rows_of f.founds)
+              by_compared (compared project sound text begun.0 a.unread (rows_of f.founds)
               (rows_of a.founds ++ (a.row ∷ [])) f.rows_fit a.rows_fit begun.1 a.is_text)
 
-      in_record : (cause : CertRefused) → CheckRefuses network text whole cause
-          → IsFrontOf (report_text network (lines_of f.founds) []) whole
+      in_record : (cause : CertRefused) → CheckRefuses project text whole cause
+          → IsFrontOf (report_text project (lines_of f.founds) []) whole
       in_record cause a =
           by_runs f.founds a.founds f.left a.left _ whole f.is_run a.is_run (before_refused cause a) a.report
 
-      in_end : CheckRefusesEnd network text whole → IsFrontOf (report_text network (lines_of f.founds) []) whole
+      in_end : CheckRefusesEnd project text whole → IsFrontOf (report_text project (lines_of f.founds) []) whole
       in_end a =
           by_runs f.founds a.founds f.left a.left _ whole f.is_run a.is_run
           (by_certificate (rows_of a.founds) a.periods a.finished a.certificate) a.report
 
-      in_refused : CheckRefusal network text whole → IsFrontOf (report_text network (lines_of f.founds) []) whole
+      in_refused : CheckRefusal project text whole → IsFrontOf (report_text project (lines_of f.founds) []) whole
       in_refused (grammar a) = in_grammar a
       in_refused (counts a) = in_counts a
       in_refused (record_refused cause a) = in_record cause a
       in_refused (other_end a) = in_end a
 
-      in_whole : (end : CheckEnd) → CheckEnds network text whole end
-          → IsFrontOf (report_text network (lines_of f.founds) []) whole
+      in_whole : (end : CheckEnd) → CheckEnds project text whole end
+          → IsFrontOf (report_text project (lines_of f.founds) []) whole
       in_whole Accepted ends = in_accepted ends
       in_whole Refused ends = in_refused ends
 
     -- what was found so far is a front
     found_front : (printed unprinted whole : List ℕ) (end : CheckEnd)
-        → CheckFinds network text (printed ++ unprinted) → CheckEnds network text whole end → IsFrontOf printed whole
+        → CheckFinds project text (printed ++ unprinted) → CheckEnds project text whole end → IsFrontOf printed whole
     found_front printed unprinted whole end f ends =
         let front = in_whole (printed ++ unprinted) whole f end ends in (
           unprinted ++ front.0,
           sym (append_assoc printed unprinted front.0) ∙ (ap (λ t. t ++ front.0) f.report_so_far ∙ front.1),
         )
 
-    pub broken_front : (printed whole : List ℕ) (end : CheckEnd) → CheckBreaksOff network text printed
-        → CheckEnds network text whole end → IsFrontOf printed whole
+    pub broken_front : (printed whole : List ℕ) (end : CheckEnd) → CheckBreaksOff project text printed
+        → CheckEnds project text whole end → IsFrontOf printed whole
     broken_front printed whole end (in_last_line other unprinted x) ends =
-        (unprinted, same_report network sound text (printed ++ unprinted) whole other end x ends)
+        (unprinted, same_report project sound text (printed ++ unprinted) whole other end x ends)
     broken_front printed whole end (in_records unprinted f) ends = found_front printed unprinted whole end f ends

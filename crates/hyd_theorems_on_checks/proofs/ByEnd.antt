@@ -21,43 +21,43 @@ record SaysSo (is : List Found) (left : Standing) (founds : List Found) (last : 
   number : length is ≡ periods
   word : left.finished ≡ finished
 
-says_so : (network : Project) (text : List ℕ) (is : IsCertificateOfRun network text) (founds : List Found)
-    (left : Standing) (periods : ℕ) (finished : Bool) → IsRun network founds left
-    → IsCertificateText text (version_of network) (junction_count network) (tank_count network) (rows_of founds) periods
+says_so : (project : Project) (text : List ℕ) (is : IsCertificateOfRun project text) (founds : List Found)
+    (left : Standing) (periods : ℕ) (finished : Bool) → IsRun project founds left
+    → IsCertificateText text (version_of project) (junction_count project) (tank_count project) (rows_of founds) periods
     finished
     → SaysSo is.founds is.left founds left periods finished
-says_so network text is founds left periods finished run certificate =
-    let start = initial_standing network in
-    let n = junction_count network in
-    let k = tank_count network in
-    let contents = contents-same text (version_of network) (version_of network) n n k k (length is.founds) periods
+says_so project text is founds left periods finished run certificate =
+    let start = initial_standing project in
+    let n = junction_count project in
+    let k = tank_count project in
+    let contents = contents-same text (version_of project) (version_of project) n n k k (length is.founds) periods
     (rows_of is.founds) (rows_of founds) is.left.finished finished is.certificate certificate in
-    let same = one_by_records network start is.founds founds is.left left is.is_run run contents.0 in
+    let same = one_by_records project start is.founds founds is.left left is.is_run run contents.0 in
     record {
       same = same;
-      leaves = one_left network start is.founds founds is.left left is.is_run run same;
+      leaves = one_left project start is.founds founds is.left left is.is_run run same;
       number = contents.1.0;
       word = contents.1.1;
     }
 
-pub no_other_end : (network : Project) (text printed : List ℕ) → IsCertificateOfRun network text
-    → CheckRefusesEnd network text printed → ⊥
-no_other_end network text printed is refuses =
-    let k = says_so network text is refuses.founds refuses.left refuses.periods refuses.finished refuses.is_run
+pub no_other_end : (project : Project) (text printed : List ℕ) → IsCertificateOfRun project text
+    → CheckRefusesEnd project text printed → ⊥
+no_other_end project text printed is refuses =
+    let k = says_so project text is refuses.founds refuses.left refuses.periods refuses.finished refuses.is_run
     refuses.certificate in
     refuses.other_end (
       sym k.number ∙ ap (λ (founds : List Found). length founds) k.same,
       sym k.word ∙ ap (λ (s : Standing). s.finished) k.leaves,
     )
 
-pub one_report : (network : Project) (text printed : List ℕ) (is : IsCertificateOfRun network text)
-    → CheckAccepts network text printed
-    → printed ≡ report_text network (lines_of is.founds) (accepted_line (length is.founds) is.left.finished)
-one_report network text printed is accepts =
-    let k = says_so network text is accepts.founds accepts.left (length accepts.founds) accepts.left.finished
+pub one_report : (project : Project) (text printed : List ℕ) (is : IsCertificateOfRun project text)
+    → CheckAccepts project text printed
+    → printed ≡ report_text project (lines_of is.founds) (accepted_line (length is.founds) is.left.finished)
+one_report project text printed is accepts =
+    let k = says_so project text is accepts.founds accepts.left (length accepts.founds) accepts.left.finished
     accepts.is_run accepts.certificate in
     let same = sym k.same in
     let leaves = sym k.leaves in
     accepts.report
-    ∙ ap₂ (λ (founds : List Found) (s : Standing). report_text network (lines_of founds)
+    ∙ ap₂ (λ (founds : List Found) (s : Standing). report_text project (lines_of founds)
     (accepted_line (length founds) s.finished)) same leaves

@@ -12,15 +12,15 @@ use Rattle.hyd_theorems_on_checks.proofs.FirstRecords.{first_rows}
 use Rattle.hyd_theorems_on_checks.proofs.RunsByRecords.{next_valid}
 
 -- the record that is refused is one of the run, and so it's valid where the records before it lead
-pub no_record_refused : (network : Project) (text printed : List ℕ) (cause : CertRefused)
-    → IsCertificateOfRun network text → CheckRefuses network text printed cause → ⊥
-no_record_refused network text printed cause is refuses =
+pub no_record_refused : (project : Project) (text printed : List ℕ) (cause : CertRefused)
+    → IsCertificateOfRun project text → CheckRefuses project text printed cause → ⊥
+no_record_refused project text printed cause is refuses =
     let before = rows_of refuses.founds in
     let row = refuses.row in
-    let front = first_rows text refuses.unread (version_of network) (junction_count network) (tank_count network) _
+    let front = first_rows text refuses.unread (version_of project) (junction_count project) (tank_count project) _
     (rows_of is.founds) (before ++ (row ∷ [])) is.left.finished is.certificate refuses.rows_fit refuses.is_text in
     let records : rows_of is.founds ≡ before ++ (row ∷ front.0) =
     front.1 ∙ append_assoc before (row ∷ []) front.0 in
-    let at = next_valid network (initial_standing network) refuses.founds is.founds row front.0 refuses.left is.left
+    let at = next_valid project (initial_standing project) refuses.founds is.founds row front.0 refuses.left is.left
     refuses.is_run is.is_run records in
-    refused_invalid network refuses.left row cause refuses.refused at.grid at.next at.valid
+    refused_invalid project refuses.left row cause refuses.refused at.grid at.next at.valid

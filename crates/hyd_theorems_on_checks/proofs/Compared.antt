@@ -26,47 +26,47 @@ by_two false = (omega arith, omega arith)
 
 -- records that a certificate of the network can hold
 abbrev pub AreRows : Project → List Record → Type 0
-AreRows network rows = All (IsRow (junction_count network) (tank_count network)) rows
+AreRows project rows = All (IsRow (junction_count project) (tank_count project)) rows
 
 -- the text begins with the header line of the network and these records
 abbrev pub BeginsWith : Project → List Record → List ℕ → List ℕ → Type 0
-BeginsWith network rows unread text =
-    text ≡ header_line (version_of network) (junction_count network) (tank_count network)
+BeginsWith project rows unread text =
+    text ≡ header_line (version_of project) (junction_count project) (tank_count project)
     ++ (joined (map record_text rows) ++ unread)
 
-module _ (network : Project) (sound : Sound network) where
+module _ (project : Project) (sound : Sound project) where
   abbrev head : List ℕ
-  head = header_line (version_of network) (junction_count network) (tank_count network)
+  head = header_line (version_of project) (junction_count project) (tank_count project)
 
-  known : (1 ≤ version_of network) × (version_of network ≤ 2)
+  known : (1 ≤ version_of project) × (version_of project ≤ 2)
   known = by_two _
 
-  own_header : IsHeaderLine (header_for network) (header_words (header_for network))
+  own_header : IsHeaderLine (header_for project) (header_words (header_for project))
   own_header =
-      let n : junction_count network < 2 ^ 32 = (let le = sound.counts.junctions in omega (arith, le)) in
-      let k : tank_count network < 2 ^ 32 = (let le = sound.counts.tanks in omega (arith, le)) in
-      header_is (header_for network) known.0 known.1 n k
+      let n : junction_count project < 2 ^ 32 = (let le = sound.counts.junctions in omega (arith, le)) in
+      let k : tank_count project < 2 ^ 32 = (let le = sound.counts.tanks in omega (arith, le)) in
+      header_is (header_for project) known.0 known.1 n k
 
   -- records with an END line behind them
-  closed : (rows : List Record) → AreRows network rows
-      → IsCertificateText (certificate_text (version_of network) (junction_count network) (tank_count network) rows 0
-      false) (version_of network) (junction_count network) (tank_count network) rows 0 false
-  closed rows fit = whole_reading (header_for network) (header_words (header_for network)) _ rows 0 false own_header fit
+  closed : (rows : List Record) → AreRows project rows
+      → IsCertificateText (certificate_text (version_of project) (junction_count project) (tank_count project) rows 0
+      false) (version_of project) (junction_count project) (tank_count project) rows 0 false
+  closed rows fit = whole_reading (header_for project) (header_words (header_for project)) _ rows 0 false own_header fit
       (omega arith) refl
 
-  by_texts : (a b : List Record) → AreRows network a → AreRows network b
+  by_texts : (a b : List Record) → AreRows project a → AreRows project b
       → Begins (joined (map record_text a)) (joined (map record_text b)) → Begins a b
   by_texts a b fit_a fit_b k =
       let end = end_line 0 false in
-      let first = first_rows (certificate_text (version_of network) (junction_count network) (tank_count network) b 0
-      false) (k.more ++ end) (version_of network) (junction_count network) (tank_count network) 0 b a false
+      let first = first_rows (certificate_text (version_of project) (junction_count project) (tank_count project) b 0
+      false) (k.more ++ end) (version_of project) (junction_count project) (tank_count project) 0 b a false
       (closed b fit_b) fit_a (ap (λ t. head ++ t) (ap (λ t. t ++ end) k.is ∙ append_assoc (joined (map record_text a))
       k.more end)) in
       record { more = first.0; is = first.1 }
 
   -- of two lists of records with which a text begins one begins with the other
-  pub compared : (text u v : List ℕ) (a b : List Record) → AreRows network a → AreRows network b
-      → BeginsWith network a u text → BeginsWith network b v text → Begins a b ⊎ Begins b a
+  pub compared : (text u v : List ℕ) (a b : List Record) → AreRows project a → AreRows project b
+      → BeginsWith project a u text → BeginsWith project b v text → Begins a b ⊎ Begins b a
   compared text u v a b fit_a fit_b x y = by_front (fronts (joined (map record_text a)) u (joined (map record_text b)) v
       (append_cancel_left head (joined (map record_text a) ++ u) (joined (map record_text b) ++ v) (sym x ∙ y)))
     where
@@ -76,10 +76,10 @@ module _ (network : Project) (sound : Sound network) where
       by_front (inr k) = inr (by_texts b a fit_b fit_a k)
 
   -- a text with another header line doesn't begin so
-  pub other_header : (text unread : List ℕ) (rows : List Record) → HasOtherHeader (header_for network) (Some text)
-      → BeginsWith network rows unread text → ⊥
+  pub other_header : (text unread : List ℕ) (rows : List Record) → HasOtherHeader (header_for project) (Some text)
+      → BeginsWith project rows unread text → ⊥
   other_header text unread rows is begins =
-      let own = header_for network in
+      let own = header_for project in
       let h = has_rest (is.line ++ (10 ∷ [])) is.rest text (sym is.begins) in
       let behind = joined (map record_text rows) ++ unread in
       let one : is.line ++ (10 ∷ h.left) ≡ header_words own ++ (10 ∷ behind) =

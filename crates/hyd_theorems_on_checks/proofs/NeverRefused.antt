@@ -14,9 +14,9 @@ use Rattle.hyd_theorems_on_checks.specs.CertificateOfRun.{IsCertificateOfRun}
 use Rattle.hyd_theorems_on_checks.proofs.ByRecord.{no_record_refused}
 use Rattle.hyd_theorems_on_checks.proofs.ByEnd.{no_other_end, one_report}
 
-module _ (network : Project) (text printed : List ℕ) where
+module _ (project : Project) (text printed : List ℕ) where
   -- it is one with the header of the network
-  own_header : IsCertificateOfRun network text → IsCertificate (header_for network) text
+  own_header : IsCertificateOfRun project text → IsCertificate (header_for project) text
   own_header is = record {
     rows = rows_of is.founds;
     periods = length is.founds;
@@ -24,27 +24,27 @@ module _ (network : Project) (text printed : List ℕ) where
     is_text = is.certificate;
   }
 
-  no_fault : IsCertificateOfRun network text → CheckRefusesGrammar network text printed → ⊥
+  no_fault : IsCertificateOfRun project text → CheckRefusesGrammar project text printed → ⊥
   no_fault is refuses =
-      let header = header_for network in
+      let header = header_for project in
       fault_no_certificate header header text refuses.number refuses.is_fault (own_header is)
 
-  no_other_counts : IsCertificateOfRun network text → CheckRefusesCounts network text printed → ⊥
+  no_other_counts : IsCertificateOfRun project text → CheckRefusesCounts project text printed → ⊥
   no_other_counts is refuses =
-      no_certificate_of_others (header_for network) text refuses.other_header (own_header is)
+      no_certificate_of_others (header_for project) text refuses.other_header (own_header is)
 
-  pub never_refused : IsCertificateOfRun network text → CheckRefusal network text printed → ⊥
+  pub never_refused : IsCertificateOfRun project text → CheckRefusal project text printed → ⊥
   never_refused is (grammar refuses) = no_fault is refuses
   never_refused is (counts refuses) = no_other_counts is refuses
-  never_refused is (record_refused cause refuses) = no_record_refused network text printed cause is refuses
-  never_refused is (other_end refuses) = no_other_end network text printed is refuses
+  never_refused is (record_refused cause refuses) = no_record_refused project text printed cause is refuses
+  never_refused is (other_end refuses) = no_other_end project text printed is refuses
 
-  pub ends_accepted : (end : CheckEnd) → IsCertificateOfRun network text → CheckEnds network text printed end
+  pub ends_accepted : (end : CheckEnd) → IsCertificateOfRun project text → CheckEnds project text printed end
       → end ≡ Accepted
   ends_accepted Accepted is ends = refl
   ends_accepted Refused is ends = absurd (never_refused is ends)
 
-  pub ends_with_report : (end : CheckEnd) (is : IsCertificateOfRun network text) → CheckEnds network text printed end
-      → printed ≡ report_text network (lines_of is.founds) (accepted_line (length is.founds) is.left.finished)
-  ends_with_report Accepted is ends = one_report network text printed is ends
+  pub ends_with_report : (end : CheckEnd) (is : IsCertificateOfRun project text) → CheckEnds project text printed end
+      → printed ≡ report_text project (lines_of is.founds) (accepted_line (length is.founds) is.left.finished)
+  ends_with_report Accepted is ends = one_report project text printed is ends
   ends_with_report Refused is ends = absurd (never_refused is ends)

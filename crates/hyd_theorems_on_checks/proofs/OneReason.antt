@@ -34,45 +34,45 @@ use Rattle.hyd_theorems_on_checks.proofs.NeverRefused.{never_refused}
 use Rattle.hyd_theorems_on_checks.proofs.OfRuns.{accepted_is}
 use Rattle.hyd_theorems_on_checks.proofs.RunsByRecords.{one_by_records, next_valid}
 
-module _ (network : Project) (sound : Sound network) (text : List ℕ) where
-  fits_at : (before : List Record) (row : Record) (more : List Record) → AreRows network (before ++ (row ∷ more))
-      → IsRow (junction_count network) (tank_count network) row
-  fits_at [] row more fit = All-head (IsRow (junction_count network) (tank_count network)) row more fit
+module _ (project : Project) (sound : Sound project) (text : List ℕ) where
+  fits_at : (before : List Record) (row : Record) (more : List Record) → AreRows project (before ++ (row ∷ more))
+      → IsRow (junction_count project) (tank_count project) row
+  fits_at [] row more fit = All-head (IsRow (junction_count project) (tank_count project)) row more fit
   fits_at (first ∷ before) row more fit =
       fits_at before row more
-      (All-tail (IsRow (junction_count network) (tank_count network)) first (before ++ (row ∷ more)) fit)
+      (All-tail (IsRow (junction_count project) (tank_count project)) first (before ++ (row ∷ more)) fit)
 
   -- ---- runs
 
-  same_run : (a b : List Found) (last other : Standing) → IsRun network a last → IsRun network b other
+  same_run : (a b : List Found) (last other : Standing) → IsRun project a last → IsRun project b other
       → rows_of a ≡ rows_of b → a ≡ b
-  same_run a b last other x y e = one_by_records network (initial_standing network) a b last other x y e
+  same_run a b last other x y e = one_by_records project (initial_standing project) a b last other x y e
 
   -- a record that is refused doesn't stand behind those before it in a run
   pub none_refused : (a b : List Found) (last other : Standing) (row : Record) (cause : CertRefused)
-      → IsRun network a last → IsRefused network last row cause → IsRun network b other
+      → IsRun project a last → IsRefused project last row cause → IsRun project b other
       → Begins (rows_of a ++ (row ∷ [])) (rows_of b) → ⊥
   none_refused a b last other row cause x refused y k =
       let records = k.is ∙ append_assoc (rows_of a) (row ∷ []) k.more in
-      let at = next_valid network (initial_standing network) a b row k.more last other x y records in
-      refused_invalid network last row cause refused at.grid at.next at.valid
+      let at = next_valid project (initial_standing project) a b row k.more last other x y records in
+      refused_invalid project last row cause refused at.grid at.next at.valid
 
   -- ---- the records of a text that is refused in a line
 
-  module _ (printed : List ℕ) (g : CheckRefusesGrammar network text printed) where
+  module _ (printed : List ℕ) (g : CheckRefusesGrammar project text printed) where
     -- no record is left
-    no_more : (unread : List ℕ) (rows more : List Record) → AreRows network rows → BeginsWith network rows unread text
+    no_more : (unread : List ℕ) (rows more : List Record) → AreRows project rows → BeginsWith project rows unread text
         → rows ≡ rows_of g.founds ++ more → more ≡ []
     no_more unread rows [] fit begins e = refl
     no_more unread rows (row ∷ more) fit begins e =
         let front = rows_of g.founds ++ (row ∷ []) in
         let parts : rows ≡ front ++ more = e ∙ sym (append_assoc (rows_of g.founds) (row ∷ []) more) in
         absurd (g.all_records row (joined (map record_text more) ++ unread)
-        (fits_at (rows_of g.founds) row more (subst (AreRows network) e fit)) (begins
-        ∙ ap (λ t. header_line (version_of network) (junction_count network) (tank_count network) ++ t)
+        (fits_at (rows_of g.founds) row more (subst (AreRows project) e fit)) (begins
+        ∙ ap (λ t. header_line (version_of project) (junction_count project) (tank_count project) ++ t)
         (ap (λ rs. joined (map record_text rs) ++ unread) parts ∙ sym (both_rows front more unread))))
 
-    by_compared : (unread : List ℕ) (rows : List Record) → AreRows network rows → BeginsWith network rows unread text
+    by_compared : (unread : List ℕ) (rows : List Record) → AreRows project rows → BeginsWith project rows unread text
         → Begins (rows_of g.founds) rows ⊎ Begins rows (rows_of g.founds) → Begins rows (rows_of g.founds)
     by_compared unread rows fit begins (inl k) =
         let none = no_more unread rows k.more fit begins k.is in
@@ -83,20 +83,20 @@ module _ (network : Project) (sound : Sound network) (text : List ℕ) where
     by_compared unread rows fit begins (inr k) = k
 
     -- whole records with which it begins were found
-    pub found_all : (unread : List ℕ) (rows : List Record) → AreRows network rows → BeginsWith network rows unread text
+    pub found_all : (unread : List ℕ) (rows : List Record) → AreRows project rows → BeginsWith project rows unread text
         → Begins rows (rows_of g.founds)
     found_all unread rows fit begins = by_begins g.begins
       where
-        by_begins : BeginsWithFound network g.founds text → Begins rows (rows_of g.founds)
+        by_begins : BeginsWithFound project g.founds text → Begins rows (rows_of g.founds)
         by_begins (inl none) =
             by_compared unread rows fit begins
             (inl (record { more = rows; is = ap (λ fs. rows_of fs ++ rows) (sym none) }))
         by_begins (inr begun) =
             by_compared unread rows fit begins
-            (compared network sound text begun.0 unread (rows_of g.founds) rows g.rows_fit fit begun.1 begins)
+            (compared project sound text begun.0 unread (rows_of g.founds) rows g.rows_fit fit begun.1 begins)
 
     -- and so was what another check found
-    pub found_first : (founds : List Found) → AreRows network (rows_of founds) → BeginsWithFound network founds text
+    pub found_first : (founds : List Found) → AreRows project (rows_of founds) → BeginsWithFound project founds text
         → Begins (rows_of founds) (rows_of g.founds)
     found_first founds fit (inl none) =
         record { more = rows_of g.founds; is = ap (λ fs. rows_of fs ++ rows_of g.founds) (sym none) }
@@ -105,25 +105,25 @@ module _ (network : Project) (sound : Sound network) (text : List ℕ) where
   -- ---- one reason
 
   module _ (printed other : List ℕ) where
-    two_grammars : (a : CheckRefusesGrammar network text printed) (b : CheckRefusesGrammar network text other)
+    two_grammars : (a : CheckRefusesGrammar project text printed) (b : CheckRefusesGrammar project text other)
         → (a.number ≡ b.number) × (a.founds ≡ b.founds)
     two_grammars a b = (
-      one_fault (header_for network) text a.number b.number a.is_fault b.is_fault,
+      one_fault (header_for project) text a.number b.number a.is_fault b.is_fault,
       same_run a.founds b.founds a.left b.left a.is_run b.is_run
           (both_ways (rows_of a.founds) (rows_of b.founds) (found_first other b a.founds a.rows_fit a.begins)
           (found_first printed a b.founds b.rows_fit b.begins)),
     )
 
-    grammar_or_counts : CheckRefusesGrammar network text printed → CheckRefusesCounts network text other → ⊥
-    grammar_or_counts a b = fault_or_header (header_for network) text a.number a.is_fault b.other_header
+    grammar_or_counts : CheckRefusesGrammar project text printed → CheckRefusesCounts project text other → ⊥
+    grammar_or_counts a b = fault_or_header (header_for project) text a.number a.is_fault b.other_header
 
-    grammar_or_record : (cause : CertRefused) → CheckRefusesGrammar network text printed
-        → CheckRefuses network text other cause → ⊥
+    grammar_or_record : (cause : CertRefused) → CheckRefusesGrammar project text printed
+        → CheckRefuses project text other cause → ⊥
     grammar_or_record cause a b =
         none_refused b.founds a.founds b.left a.left b.row cause b.is_run b.refused a.is_run
         (found_all printed a b.unread (rows_of b.founds ++ (b.row ∷ [])) b.rows_fit b.is_text)
 
-    its_certificate : CheckRefusesEnd network text other → IsCertificate (header_for network) text
+    its_certificate : CheckRefusesEnd project text other → IsCertificate (header_for project) text
     its_certificate b = record {
       rows = rows_of b.founds;
       periods = b.periods;
@@ -131,40 +131,40 @@ module _ (network : Project) (sound : Sound network) (text : List ℕ) where
       is_text = b.certificate;
     }
 
-    grammar_or_end : CheckRefusesGrammar network text printed → CheckRefusesEnd network text other → ⊥
+    grammar_or_end : CheckRefusesGrammar project text printed → CheckRefusesEnd project text other → ⊥
     grammar_or_end a b =
-        let header = header_for network in
+        let header = header_for project in
         fault_no_certificate header header text a.number a.is_fault (its_certificate b)
 
-    counts_or_record : (cause : CertRefused) → CheckRefusesCounts network text printed
-        → CheckRefuses network text other cause → ⊥
+    counts_or_record : (cause : CertRefused) → CheckRefusesCounts project text printed
+        → CheckRefuses project text other cause → ⊥
     counts_or_record cause a b =
-        other_header network sound text b.unread (rows_of b.founds ++ (b.row ∷ [])) a.other_header b.is_text
+        other_header project sound text b.unread (rows_of b.founds ++ (b.row ∷ [])) a.other_header b.is_text
 
-    counts_or_end : CheckRefusesCounts network text printed → CheckRefusesEnd network text other → ⊥
-    counts_or_end a b = no_certificate_of_others (header_for network) text a.other_header (its_certificate b)
+    counts_or_end : CheckRefusesCounts project text printed → CheckRefusesEnd project text other → ⊥
+    counts_or_end a b = no_certificate_of_others (header_for project) text a.other_header (its_certificate b)
 
-    record_or_end : (cause : CertRefused) → CheckRefuses network text printed cause
-        → CheckRefusesEnd network text other → ⊥
+    record_or_end : (cause : CertRefused) → CheckRefuses project text printed cause
+        → CheckRefusesEnd project text other → ⊥
     record_or_end cause a b =
         let front = rows_of a.founds ++ (a.row ∷ []) in
-        let k = first_rows text a.unread (version_of network) (junction_count network) (tank_count network) b.periods
+        let k = first_rows text a.unread (version_of project) (junction_count project) (tank_count project) b.periods
         (rows_of b.founds) front b.finished b.certificate a.rows_fit a.is_text in
         none_refused a.founds b.founds a.left b.left a.row cause a.is_run a.refused b.is_run
         (record { more = k.0; is = k.1 })
 
-    two_ends : (a : CheckRefusesEnd network text printed) (b : CheckRefusesEnd network text other)
+    two_ends : (a : CheckRefusesEnd project text printed) (b : CheckRefusesEnd project text other)
         → a.founds ≡ b.founds
     two_ends a b =
-        let n = junction_count network in
-        let k = tank_count network in
+        let n = junction_count project in
+        let k = tank_count project in
         same_run a.founds b.founds a.left b.left a.is_run b.is_run
-        (contents-same text (version_of network) (version_of network) n n k k a.periods b.periods (rows_of a.founds)
+        (contents-same text (version_of project) (version_of project) n n k k a.periods b.periods (rows_of a.founds)
         (rows_of b.founds) a.finished b.finished a.certificate b.certificate).0
 
     -- what is found before the one record is found before the other
-    in_front : (cause second : CertRefused) (a : CheckRefuses network text printed cause)
-        (b : CheckRefuses network text other second)
+    in_front : (cause second : CertRefused) (a : CheckRefuses project text printed cause)
+        (b : CheckRefuses project text other second)
         → Begins (rows_of a.founds ++ (a.row ∷ [])) (rows_of b.founds ++ (b.row ∷ []))
         → (rows_of a.founds ++ (a.row ∷ [])) ≡ (rows_of b.founds ++ (b.row ∷ []))
     in_front cause second a b k = by_last (before_last (rows_of a.founds ++ (a.row ∷ [])) (rows_of b.founds) b.row k)
@@ -176,26 +176,26 @@ module _ (network : Project) (sound : Sound network) (text : List ℕ) where
         by_last (inr inside) = absurd (none_refused a.founds b.founds a.left b.left a.row cause a.is_run a.refused
             b.is_run inside)
 
-    one_cause : (cause second : CertRefused) (a : CheckRefuses network text printed cause)
-        (b : CheckRefuses network text other second)
+    one_cause : (cause second : CertRefused) (a : CheckRefuses project text printed cause)
+        (b : CheckRefuses project text other second)
         → (rows_of a.founds ++ (a.row ∷ [])) ≡ (rows_of b.founds ++ (b.row ∷ []))
         → (cause ≡ second) × ((a.row ≡ b.row) × (a.founds ≡ b.founds))
     one_cause cause second a b e =
         let k = lasts (rows_of a.founds) (rows_of b.founds) a.row b.row e in
         let founds = same_run a.founds b.founds a.left b.left a.is_run b.is_run k.0 in
-        let left = one_left network (initial_standing network) a.founds b.founds a.left b.left a.is_run b.is_run
+        let left = one_left project (initial_standing project) a.founds b.founds a.left b.left a.is_run b.is_run
         founds in
-        let there : IsRefused network a.left a.row second =
-        subst (λ (s : Standing). IsRefused network s a.row second) (sym left)
-        (subst (λ (r : Record). IsRefused network b.left r second) (sym k.1) b.refused) in
-        (one_refusal network a.left a.row cause second a.refused there, (k.1, founds))
+        let there : IsRefused project a.left a.row second =
+        subst (λ (s : Standing). IsRefused project s a.row second) (sym left)
+        (subst (λ (r : Record). IsRefused project b.left r second) (sym k.1) b.refused) in
+        (one_refusal project a.left a.row cause second a.refused there, (k.1, founds))
 
   module _ (printed other : List ℕ) where
-    two_records : (cause second : CertRefused) (a : CheckRefuses network text printed cause)
-        (b : CheckRefuses network text other second)
+    two_records : (cause second : CertRefused) (a : CheckRefuses project text printed cause)
+        (b : CheckRefuses project text other second)
         → (cause ≡ second) × ((a.row ≡ b.row) × (a.founds ≡ b.founds))
     two_records cause second a b = one_cause printed other cause second a b (by_compared
-        (compared network sound text a.unread b.unread (rows_of a.founds ++ (a.row ∷ []))
+        (compared project sound text a.unread b.unread (rows_of a.founds ++ (a.row ∷ []))
         (rows_of b.founds ++ (b.row ∷ [])) a.rows_fit b.rows_fit a.is_text b.is_text))
       where
         by_compared : Begins (rows_of a.founds ++ (a.row ∷ [])) (rows_of b.founds ++ (b.row ∷ []))
@@ -204,8 +204,8 @@ module _ (network : Project) (sound : Sound network) (text : List ℕ) where
         by_compared (inl k) = in_front printed other cause second a b k
         by_compared (inr k) = sym (in_front other printed second cause b a k)
 
-    pub one_reason : (a : CheckRefusal network text printed) (b : CheckRefusal network text other)
-        → HaveOneReason network text printed other a b
+    pub one_reason : (a : CheckRefusal project text printed) (b : CheckRefusal project text other)
+        → HaveOneReason project text printed other a b
     one_reason (grammar a) (grammar b) = two_grammars printed other a b
     one_reason (grammar a) (counts b) = grammar_or_counts printed other a b
     one_reason (grammar a) (record_refused cause b) = grammar_or_record printed other cause a b
@@ -225,10 +225,10 @@ module _ (network : Project) (sound : Sound network) (text : List ℕ) where
 
     -- ---- one report
 
-    by_reason : (a : CheckRefusal network text printed) (b : CheckRefusal network text other)
-        → HaveOneReason network text printed other a b → printed ≡ other
+    by_reason : (a : CheckRefusal project text printed) (b : CheckRefusal project text other)
+        → HaveOneReason project text printed other a b → printed ≡ other
     by_reason (grammar a) (grammar b) k =
-        a.report ∙ (ap₂ (λ (n : ℕ) (founds : List Found). report_text network (lines_of founds)
+        a.report ∙ (ap₂ (λ (n : ℕ) (founds : List Found). report_text project (lines_of founds)
         (refused_grammar_line (printed_number n))) k.0 k.1 ∙ sym b.report)
     by_reason (grammar a) (counts b) k = absurd k
     by_reason (grammar a) (record_refused cause b) k = absurd k
@@ -240,30 +240,30 @@ module _ (network : Project) (sound : Sound network) (text : List ℕ) where
     by_reason (record_refused cause a) (grammar b) k = absurd k
     by_reason (record_refused cause a) (counts b) k = absurd k
     by_reason (record_refused cause a) (record_refused second b) k =
-        a.report ∙ (ap₂ (λ (c : CertRefused) (founds : List Found). report_text network (lines_of founds)
-        (refused_line network c)) k.0 k.1.1 ∙ sym b.report)
+        a.report ∙ (ap₂ (λ (c : CertRefused) (founds : List Found). report_text project (lines_of founds)
+        (refused_line project c)) k.0 k.1.1 ∙ sym b.report)
     by_reason (record_refused cause a) (other_end b) k = absurd k
     by_reason (other_end a) (grammar b) k = absurd k
     by_reason (other_end a) (counts b) k = absurd k
     by_reason (other_end a) (record_refused cause b) k = absurd k
     by_reason (other_end a) (other_end b) k =
-        a.report ∙ (ap (λ (founds : List Found). report_text network (lines_of founds)
+        a.report ∙ (ap (λ (founds : List Found). report_text project (lines_of founds)
         (refused_end_line (line_feeds text))) k ∙ sym b.report)
 
-    two_accepted : CheckAccepts network text printed → CheckAccepts network text other → printed ≡ other
+    two_accepted : CheckAccepts project text printed → CheckAccepts project text other → printed ≡ other
     two_accepted a b =
-        one_report network text printed
+        one_report project text printed
         (record { founds = b.founds; left = b.left; is_run = b.is_run; certificate = b.certificate }) a ∙ sym b.report
 
-    pub same_report : (a b : CheckEnd) → CheckEnds network text printed a → CheckEnds network text other b
+    pub same_report : (a b : CheckEnd) → CheckEnds project text printed a → CheckEnds project text other b
         → printed ≡ other
     same_report Accepted Accepted x y = two_accepted x y
-    same_report Accepted Refused x y = absurd (never_refused network text other (accepted_is network text printed x) y)
-    same_report Refused Accepted x y = absurd (never_refused network text printed (accepted_is network text other y) x)
+    same_report Accepted Refused x y = absurd (never_refused project text other (accepted_is project text printed x) y)
+    same_report Refused Accepted x y = absurd (never_refused project text printed (accepted_is project text other y) x)
     same_report Refused Refused x y = by_reason x y (one_reason x y)
 
-    pub same_end : (a b : CheckEnd) → CheckEnds network text printed a → CheckEnds network text other b → a ≡ b
+    pub same_end : (a b : CheckEnd) → CheckEnds project text printed a → CheckEnds project text other b → a ≡ b
     same_end Accepted Accepted x y = refl
-    same_end Accepted Refused x y = absurd (never_refused network text other (accepted_is network text printed x) y)
-    same_end Refused Accepted x y = absurd (never_refused network text printed (accepted_is network text other y) x)
+    same_end Accepted Refused x y = absurd (never_refused project text other (accepted_is project text printed x) y)
+    same_end Refused Accepted x y = absurd (never_refused project text printed (accepted_is project text other y) x)
     same_end Refused Refused x y = refl

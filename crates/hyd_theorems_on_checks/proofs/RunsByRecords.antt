@@ -11,24 +11,24 @@ use Rattle.hyd_theorems_on_definitions.proofs.OneRun.{one_grid}
 use Rattle.hyd_theorems_on_definitions.proofs.OneStanding.{one_standing}
 use Rattle.hyd_theorems_on_checks.proofs.Lists.{Begins, begins_more}
 
-module _ (network : Project) where
+module _ (project : Project) where
   -- ---- one period
 
   -- what is found of a record at a standing is one
-  one_found : (a b : Found) → a.standing ≡ b.standing → a.row ≡ b.row → IsFound network a → IsFound network b → a ≡ b
+  one_found : (a b : Found) → a.standing ≡ b.standing → a.row ≡ b.row → IsFound project a → IsFound project b → a ≡ b
   one_found a b standing row x y =
-      let at : IsValid network a.standing b.grid b.row b.next =
-      subst (λ (s : Standing). IsValid network s b.grid b.row b.next) (sym standing) y.valid in
-      let grid = one_grid network a.standing a.grid b.grid x.valid.is_grid at.is_grid in
-      let too : IsValid network a.standing a.grid a.row b.next =
-      subst (λ (r : Record). IsValid network a.standing a.grid r b.next) (sym row)
-      (subst (λ (g : Grid). IsValid network a.standing g b.row b.next) (sym grid) at) in
-      let next = one_standing network a.grid a.standing a.row a.next b.next x.valid.leads_on too.leads_on in
-      let said : IsReport network a.grid a.standing a.row b.lines =
-      subst (λ (r : Record). IsReport network a.grid a.standing r b.lines) (sym row)
-      (subst (λ (g : Grid). IsReport network g a.standing b.row b.lines) (sym grid)
-      (subst (λ (s : Standing). IsReport network b.grid s b.row b.lines) (sym standing) y.report)) in
-      let lines = one_report network a.grid a.standing a.row a.lines b.lines x.report said in
+      let at : IsValid project a.standing b.grid b.row b.next =
+      subst (λ (s : Standing). IsValid project s b.grid b.row b.next) (sym standing) y.valid in
+      let grid = one_grid project a.standing a.grid b.grid x.valid.is_grid at.is_grid in
+      let too : IsValid project a.standing a.grid a.row b.next =
+      subst (λ (r : Record). IsValid project a.standing a.grid r b.next) (sym row)
+      (subst (λ (g : Grid). IsValid project a.standing g b.row b.next) (sym grid) at) in
+      let next = one_standing project a.grid a.standing a.row a.next b.next x.valid.leads_on too.leads_on in
+      let said : IsReport project a.grid a.standing a.row b.lines =
+      subst (λ (r : Record). IsReport project a.grid a.standing r b.lines) (sym row)
+      (subst (λ (g : Grid). IsReport project g a.standing b.row b.lines) (sym grid)
+      (subst (λ (s : Standing). IsReport project b.grid s b.row b.lines) (sym standing) y.report)) in
+      let lines = one_report project a.grid a.standing a.row a.lines b.lines x.report said in
       λ i. record { standing = standing i; grid = grid i; row = row i; lines = lines i; next = next i }
 
   -- ---- from period to period
@@ -36,15 +36,15 @@ module _ (network : Project) where
   -- the first period of a run, and the rest
   record Steps (start : Standing) (found : Found) (rest : List Found) (last : Standing) : Type 0 where
     begins : found.standing ≡ start
-    is_found : IsFound network found
-    goes_on : IsRunFrom network found.next rest last
+    is_found : IsFound project found
+    goes_on : IsRunFrom project found.next rest last
 
   steps : (start : Standing) (found : Found) (rest : List Found) (last : Standing)
-      → IsRunFrom network start (found ∷ rest) last → Steps start found rest last
+      → IsRunFrom project start (found ∷ rest) last → Steps start found rest last
   steps _ found rest last (more is on) = record { begins = refl; is_found = is; goes_on = on }
 
   -- a run of no periods ends where it begins
-  stays : (start : Standing) (founds : List Found) (last : Standing) → IsRunFrom network start founds last
+  stays : (start : Standing) (founds : List Found) (last : Standing) → IsRunFrom project start founds last
       → founds ≡ [] → start ≡ last
   stays _ _ last none e = refl
   stays _ _ last (more is on) e = absurd (cc)
@@ -52,10 +52,10 @@ module _ (network : Project) where
   -- two first periods with one record are the same, and the second run goes on from the first one's standing
   record OneFirst (a b : Found) (ys : List Found) (other : Standing) : Type 0 where
     same : a ≡ b
-    goes_on : IsRunFrom network a.next ys other
+    goes_on : IsRunFrom project a.next ys other
 
   one_first : (start : Standing) (a b : Found) (xs ys : List Found) (last other : Standing)
-      → IsRunFrom network start (a ∷ xs) last → IsRunFrom network start (b ∷ ys) other → a.row ≡ b.row
+      → IsRunFrom project start (a ∷ xs) last → IsRunFrom project start (b ∷ ys) other → a.row ≡ b.row
       → OneFirst a b ys other
   one_first start a b xs ys last other x y row =
       let s = steps start a xs last x in
@@ -63,12 +63,12 @@ module _ (network : Project) where
       let first = one_found a b (s.begins ∙ sym t.begins) row s.is_found t.is_found in
       record {
         same = first;
-        goes_on = subst (λ (n : Standing). IsRunFrom network n ys other) (ap (λ (f : Found). f.next) (sym first))
+        goes_on = subst (λ (n : Standing). IsRunFrom project n ys other) (ap (λ (f : Found). f.next) (sym first))
             t.goes_on;
       }
 
   pub one_by_records : (start : Standing) (xs ys : List Found) (last other : Standing)
-      → IsRunFrom network start xs last → IsRunFrom network start ys other → rows_of xs ≡ rows_of ys → xs ≡ ys
+      → IsRunFrom project start xs last → IsRunFrom project start ys other → rows_of xs ≡ rows_of ys → xs ≡ ys
   one_by_records start [] [] last other x y e = refl
   one_by_records start [] (b ∷ ys) last other x y e = absurd (cc)
   one_by_records start (a ∷ xs) [] last other x y e = absurd (cc)
@@ -86,22 +86,22 @@ module _ (network : Project) where
   pub record IsValidAt (standing : Standing) (row : Record) : Type 0 where
     pub grid : Grid
     pub next : Standing
-    pub valid : IsValid network standing grid row next
+    pub valid : IsValid project standing grid row next
 
   first_valid : (start : Standing) (found : Found) (rest : List Found) (last here : Standing) (row : Record)
-      → IsRunFrom network start (found ∷ rest) last → start ≡ here → found.row ≡ row → IsValidAt here row
+      → IsRunFrom project start (found ∷ rest) last → start ≡ here → found.row ≡ row → IsValidAt here row
   first_valid start found rest last here row run at same =
       let s = steps start found rest last run in
       record {
         grid = found.grid;
         next = found.next;
-        valid = subst (λ (r : Record). IsValid network here found.grid r found.next) same
-            (subst (λ (t : Standing). IsValid network t found.grid found.row found.next) (s.begins ∙ at)
+        valid = subst (λ (r : Record). IsValid project here found.grid r found.next) same
+            (subst (λ (t : Standing). IsValid project t found.grid found.row found.next) (s.begins ∙ at)
             s.is_found.valid);
       }
 
   pub next_valid : (start : Standing) (xs ys : List Found) (row : Record) (rows : List Record) (last other : Standing)
-      → IsRunFrom network start xs last → IsRunFrom network start ys other → rows_of ys ≡ rows_of xs ++ (row ∷ rows)
+      → IsRunFrom project start xs last → IsRunFrom project start ys other → rows_of ys ≡ rows_of xs ++ (row ∷ rows)
       → IsValidAt last row
   next_valid start [] [] row rows last other x y e = absurd (cc)
   next_valid start [] (b ∷ ys) row rows last other x y e =
@@ -116,7 +116,7 @@ module _ (network : Project) where
 
   -- a run begins with the periods of another one whose records are the first of its own
   pub begins_with : (start : Standing) (xs ys : List Found) (rows : List Record) (last other : Standing)
-      → IsRunFrom network start xs last → IsRunFrom network start ys other → rows_of ys ≡ rows_of xs ++ rows
+      → IsRunFrom project start xs last → IsRunFrom project start ys other → rows_of ys ≡ rows_of xs ++ rows
       → Begins xs ys
   begins_with start [] ys rows last other x y e = record { more = ys; is = refl }
   begins_with start (a ∷ xs) [] rows last other x y e = absurd (cc)

@@ -14,35 +14,35 @@ use Rattle.hyd_theorems_on_nesting.proofs.Extending.{run_keeps}
 use Rattle.hyd_theorems_on_nesting.proofs.Reporting.{report_is}
 use Rattle.hyd_theorems_on_checks.specs.CertificateOfRun.{IsCertificateOfRun, IsRunOf}
 
-module _ (network : Project) (sound : Sound network) where
+module _ (project : Project) (sound : Sound project) where
   -- what goes on behind a run
   record GoesOn (before : List Found) (rows : List Record) (last : Standing) : Type 0 where
     founds : List Found
-    is_run : IsRun network (before ++ founds) last
+    is_run : IsRun project (before ++ founds) last
     records : rows_of founds ≡ rows
 
   -- what is found of a record that is valid where a run leaves
-  abbrev found_of : (before : List Found) (at next : Standing) (grid : Grid) (row : Record) → IsRun network before at
-      → IsValid network at grid row next → Found
+  abbrev found_of : (before : List Found) (at next : Standing) (grid : Grid) (row : Record) → IsRun project before at
+      → IsValid project at grid row next → Found
   found_of before at next grid row run valid =
-      let keeps = run_keeps network sound before at run in
-      let report = report_is network sound grid at row keeps.0 keeps.1 valid.is_grid next valid.leads_on in
+      let keeps = run_keeps project sound before at run in
+      let report = report_is project sound grid at row keeps.0 keeps.1 valid.is_grid next valid.leads_on in
       record { standing = at; grid = grid; row = row; lines = report.0; next = next }
 
-  one_more : (before : List Found) (at next : Standing) (grid : Grid) (row : Record) (run : IsRun network before at)
-      (valid : IsValid network at grid row next)
-      → IsRun network (before ++ (found_of before at next grid row run valid ∷ [])) next
+  one_more : (before : List Found) (at next : Standing) (grid : Grid) (row : Record) (run : IsRun project before at)
+      (valid : IsValid project at grid row next)
+      → IsRun project (before ++ (found_of before at next grid row run valid ∷ [])) next
   one_more before at next grid row run valid =
-      let keeps = run_keeps network sound before at run in
-      let report = report_is network sound grid at row keeps.0 keeps.1 valid.is_grid next valid.leads_on in
-      run_more network before at (found_of before at next grid row run valid) run refl
+      let keeps = run_keeps project sound before at run in
+      let report = report_is project sound grid at row keeps.0 keeps.1 valid.is_grid next valid.leads_on in
+      run_more project before at (found_of before at next grid row run valid) run refl
       (record { valid = valid; report = report.1 })
 
-  along : (before : List Found) (at : Standing) (rows : List Record) (last : Standing) → IsRun network before at
-      → AreValidFrom network at rows last → GoesOn before rows last
+  along : (before : List Found) (at : Standing) (rows : List Record) (last : Standing) → IsRun project before at
+      → AreValidFrom project at rows last → GoesOn before rows last
   along before at _ _ run no_record = record {
     founds = [];
-    is_run = subst (λ (fs : List Found). IsRun network fs at) (sym (append-nil before)) run;
+    is_run = subst (λ (fs : List Found). IsRun project fs at) (sym (append-nil before)) run;
     records = refl;
   }
   along before at _ last run (more_records {next = next} {row = row} {rows = rows} grid valid on) =
@@ -50,12 +50,12 @@ module _ (network : Project) (sound : Sound network) where
       let rest = along (before ++ (found ∷ [])) next rows last (one_more before at next grid row run valid) on in
       record {
         founds = found ∷ rest.founds;
-        is_run = subst (λ (fs : List Found). IsRun network fs last) (append_assoc before (found ∷ []) rest.founds)
+        is_run = subst (λ (fs : List Found). IsRun project fs last) (append_assoc before (found ∷ []) rest.founds)
             rest.is_run;
         records = ap (λ (rs : List Record). row ∷ rs) rest.records;
       }
 
-  pub run_of : (rows : List Record) (last : Standing) → AreValid network rows last → IsRunOf network rows last
+  pub run_of : (rows : List Record) (last : Standing) → AreValid project rows last → IsRunOf project rows last
   run_of rows last valid =
       let k = along [] _ rows last no_period valid in
       record { founds = k.founds; is_run = k.is_run; records = k.records }
@@ -64,19 +64,19 @@ module _ (network : Project) (sound : Sound network) where
   count_of [] = refl
   count_of (found ∷ founds) = ap (λ (n : ℕ). suc n) (count_of founds)
 
-  pub certificate_of : (text : List ℕ) (rows : List Record) (last : Standing) → AreValid network rows last
-      → IsCertificateText text (version_of network) (junction_count network) (tank_count network) rows (length rows)
+  pub certificate_of : (text : List ℕ) (rows : List Record) (last : Standing) → AreValid project rows last
+      → IsCertificateText text (version_of project) (junction_count project) (tank_count project) rows (length rows)
       last.finished
-      → IsCertificateOfRun network text
+      → IsCertificateOfRun project text
   certificate_of text rows last valid certificate =
       let run = run_of rows last valid in
       record {
         founds = run.founds;
         left = last;
         is_run = run.is_run;
-        certificate = subst (λ (n : ℕ). IsCertificateText text (version_of network) (junction_count network)
-            (tank_count network) (rows_of run.founds) n last.finished)
+        certificate = subst (λ (n : ℕ). IsCertificateText text (version_of project) (junction_count project)
+            (tank_count project) (rows_of run.founds) n last.finished)
             (ap (λ (rs : List Record). length rs) (sym run.records) ∙ count_of run.founds)
-            (subst (λ (rs : List Record). IsCertificateText text (version_of network) (junction_count network)
-            (tank_count network) rs (length rows) last.finished) (sym run.records) certificate);
+            (subst (λ (rs : List Record). IsCertificateText text (version_of project) (junction_count project)
+            (tank_count project) rs (length rows) last.finished) (sym run.records) certificate);
       }

@@ -9,15 +9,15 @@ use Rattle.hyd_spec_reports.specs.PromisesOfRunsAndChecks.{Found, IsRun, rows_of
 
 -- The text is the certificate of a run of the network, whole or as far as it went, with an END line that says what is
 -- so: how many records stand before it, and whether the run is finished.
-pub record IsCertificateOfRun (network : Project) (text : List ℕ) : Type 0 where
+pub record IsCertificateOfRun (project : Project) (text : List ℕ) : Type 0 where
   pub founds : List Found
   pub left : Standing
-  pub is_run : IsRun network founds left
-  pub certificate : IsCertificateText text (version_of network) (junction_count network) (tank_count network)
+  pub is_run : IsRun project founds left
+  pub certificate : IsCertificateText text (version_of project) (junction_count project) (tank_count project)
       (rows_of founds) (length founds) left.finished
 
 -- A run of the network with these records, each with a report, that leaves this standing.
-pub record IsRunOf (network : Project) (rows : List Record) (last : Standing) : Type 0 where
+pub record IsRunOf (project : Project) (rows : List Record) (last : Standing) : Type 0 where
   pub founds : List Found
-  pub is_run : IsRun network founds last
+  pub is_run : IsRun project founds last
   pub records : rows_of founds ≡ rows

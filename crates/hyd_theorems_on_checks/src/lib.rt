@@ -37,49 +37,49 @@ pub fn fronts()
 /// Two runs with the same records are the same, and leave the same standing. Where a run goes on behind the records of
 /// another one, its next record is valid at the standing that the other leaves.
 pub fn runs()
-    ensures one { (network : Project) (a b : List Found) (last other : Standing) → IsRun network a last
-        → IsRun network b other → rows_of a ≡ rows_of b → (a ≡ b) × (last ≡ other) }
-    ensures next { (network : Project) (a b : List Found) (row : Record) (rows : List Record) (last other : Standing)
-        → IsRun network a last → IsRun network b other → rows_of b ≡ rows_of a ++ (row ∷ rows)
-        → (grid : Grid) × (next : Standing) × IsValid network last grid row next }
+    ensures one { (project : Project) (a b : List Found) (last other : Standing) → IsRun project a last
+        → IsRun project b other → rows_of a ≡ rows_of b → (a ≡ b) × (last ≡ other) }
+    ensures next { (project : Project) (a b : List Found) (row : Record) (rows : List Record) (last other : Standing)
+        → IsRun project a last → IsRun project b other → rows_of b ≡ rows_of a ++ (row ∷ rows)
+        → (grid : Grid) × (next : Standing) × IsValid project last grid row next }
 {}
 
 /// What a run writes is the certificate of a run, and so is what a check accepts.
 pub fn certificates_of_runs()
-    ensures written { (network : Project) (rounds : ℕ) (sharpness : Sharpness) (outcome : Outcome)
-        (text printed : List ℕ) → RunWrites network rounds sharpness outcome text printed
-        → IsCertificateOfRun network text }
-    ensures accepted { (network : Project) (text printed : List ℕ) → CheckAccepts network text printed
-        → IsCertificateOfRun network text }
+    ensures written { (project : Project) (rounds : ℕ) (sharpness : Sharpness) (outcome : Outcome)
+        (text printed : List ℕ) → RunWrites project rounds sharpness outcome text printed
+        → IsCertificateOfRun project text }
+    ensures accepted { (project : Project) (text printed : List ℕ) → CheckAccepts project text printed
+        → IsCertificateOfRun project text }
 {}
 
 /// No record of the certificate of a run is refused.
 pub fn refused_records()
-    ensures { (network : Project) (text printed : List ℕ) (cause : CertRefused) → IsCertificateOfRun network text
-        → CheckRefuses network text printed cause → ⊥ }
+    ensures { (project : Project) (text printed : List ℕ) (cause : CertRefused) → IsCertificateOfRun project text
+        → CheckRefuses project text printed cause → ⊥ }
 {}
 
 /// Nor is its END line.
 pub fn refused_ends()
-    ensures { (network : Project) (text printed : List ℕ) → IsCertificateOfRun network text
-        → CheckRefusesEnd network text printed → ⊥ }
+    ensures { (project : Project) (text printed : List ℕ) → IsCertificateOfRun project text
+        → CheckRefusesEnd project text printed → ⊥ }
 {}
 
 // ---- checks
 
 /// A check never refuses the certificate of a run: not by its lines, not by a record, and not by its END line.
 pub fn refusals()
-    ensures { (network : Project) (text printed : List ℕ) → IsCertificateOfRun network text
-        → CheckRefusal network text printed → ⊥ }
+    ensures { (project : Project) (text printed : List ℕ) → IsCertificateOfRun project text
+        → CheckRefusal project text printed → ⊥ }
 {}
 
 /// A check of the certificate of a run that comes to its end accepts it, and what it prints is the report of that run.
 pub fn checks()
-    ensures accepted { (network : Project) (text printed : List ℕ) (end : CheckEnd) → IsCertificateOfRun network text
-        → CheckEnds network text printed end → end ≡ Accepted }
-    ensures report { (network : Project) (text printed : List ℕ) (end : CheckEnd) (is : IsCertificateOfRun network text)
-        → CheckEnds network text printed end
-        → printed ≡ report_text network (lines_of is.founds) (accepted_line (length is.founds) is.left.finished) }
+    ensures accepted { (project : Project) (text printed : List ℕ) (end : CheckEnd) → IsCertificateOfRun project text
+        → CheckEnds project text printed end → end ≡ Accepted }
+    ensures report { (project : Project) (text printed : List ℕ) (end : CheckEnd) (is : IsCertificateOfRun project text)
+        → CheckEnds project text printed end
+        → printed ≡ report_text project (lines_of is.founds) (accepted_line (length is.founds) is.left.finished) }
 {}
 
 // ---- valid records
@@ -87,18 +87,18 @@ pub fn checks()
 /// Records of a sound network that are valid one after another are those of a run, each with a report. So the text of
 /// such records, with an END line that says what is so, is the certificate of a run, which no check refuses.
 pub fn valid_records()
-    ensures run { (network : Project) → Sound network → (rows : List Record) (last : Standing)
-        → AreValid network rows last → IsRunOf network rows last }
-    ensures certificate { (network : Project) → Sound network → (text : List ℕ) (rows : List Record) (last : Standing)
-        → AreValid network rows last
-        → IsCertificateText text (version_of network) (junction_count network) (tank_count network) rows (length rows)
+    ensures run { (project : Project) → Sound project → (rows : List Record) (last : Standing)
+        → AreValid project rows last → IsRunOf project rows last }
+    ensures certificate { (project : Project) → Sound project → (text : List ℕ) (rows : List Record) (last : Standing)
+        → AreValid project rows last
+        → IsCertificateText text (version_of project) (junction_count project) (tank_count project) rows (length rows)
         last.finished
-        → IsCertificateOfRun network text }
-    ensures never_refused { (network : Project) → Sound network → (text printed : List ℕ) (rows : List Record)
-        (last : Standing) → AreValid network rows last
-        → IsCertificateText text (version_of network) (junction_count network) (tank_count network) rows (length rows)
+        → IsCertificateOfRun project text }
+    ensures never_refused { (project : Project) → Sound project → (text printed : List ℕ) (rows : List Record)
+        (last : Standing) → AreValid project rows last
+        → IsCertificateText text (version_of project) (junction_count project) (tank_count project) rows (length rows)
         last.finished
-        → CheckRefusal network text printed → ⊥ }
+        → CheckRefusal project text printed → ⊥ }
 {}
 
 // ---- one answer
@@ -106,19 +106,19 @@ pub fn valid_records()
 /// Checks of one text by a sound network that come to their end end in one way: all of them accept it, or all refuse it
 /// for one reason, and they print one report.
 pub fn one_report()
-    ensures end { (network : Project) → Sound network → (text printed other : List ℕ) (a b : CheckEnd)
-        → CheckEnds network text printed a → CheckEnds network text other b → a ≡ b }
-    ensures reason { (network : Project) → Sound network → (text printed other : List ℕ)
-        (a : CheckRefusal network text printed) (b : CheckRefusal network text other)
-        → HaveOneReason network text printed other a b }
-    ensures report { (network : Project) → Sound network → (text printed other : List ℕ) (a b : CheckEnd)
-        → CheckEnds network text printed a → CheckEnds network text other b → printed ≡ other }
+    ensures end { (project : Project) → Sound project → (text printed other : List ℕ) (a b : CheckEnd)
+        → CheckEnds project text printed a → CheckEnds project text other b → a ≡ b }
+    ensures reason { (project : Project) → Sound project → (text printed other : List ℕ)
+        (a : CheckRefusal project text printed) (b : CheckRefusal project text other)
+        → HaveOneReason project text printed other a b }
+    ensures report { (project : Project) → Sound project → (text printed other : List ℕ) (a b : CheckEnd)
+        → CheckEnds project text printed a → CheckEnds project text other b → printed ≡ other }
 {}
 
 /// What a check that was broken off has printed, in its last line or before, is a front of the report that each check
 /// of the text prints that comes to its end.
 pub fn broken_off()
-    ensures { (network : Project) → Sound network → (text printed report : List ℕ) (end : CheckEnd)
-        → CheckBreaksOff network text printed → CheckEnds network text report end
+    ensures { (project : Project) → Sound project → (text printed report : List ℕ) (end : CheckEnd)
+        → CheckBreaksOff project text printed → CheckEnds project text report end
         → (unprinted : List ℕ) × (printed ++ unprinted ≡ report) }
 {}

@@ -32,27 +32,27 @@ use Rattle.hyd_theorems_on_definitions.proofs.Comparison.{emitter_at}
 
 -- ---- heads
 
-pub heads_between : (network : Project) (S time : ℕ) (intervals : List Interval) (levels : List ℤ)
+pub heads_between : (project : Project) (S time : ℕ) (intervals : List Interval) (levels : List ℤ)
     (tanks : List TankState) (links : List LinkState) (assignment : Assignment) (grid : Grid) (below above : List ℤ)
-    → IsCompared network S time intervals levels tanks links assignment grid → IsCertificate grid Main Lower below
+    → IsCompared project S time intervals levels tanks links assignment grid → IsCertificate grid Main Lower below
     → IsCertificate grid Main Upper above
     → LieBetween S (all_heads grid Main Lower below) (all_heads grid Main Upper above)
-    (node_heads network S time levels assignment.heads)
-heads_between network S time intervals levels tanks links assignment grid below above c under over m = record {
-  low = let l : lack S (node_heads network S time levels assignment.heads) (all_heads grid Main Lower below) m
+    (node_heads project S time levels assignment.heads)
+heads_between project S time intervals levels tanks links assignment grid below above c under over m = record {
+  low = let l : lack S (node_heads project S time levels assignment.heads) (all_heads grid Main Lower below) m
       ≤ℤ pos 0 =
-      lack_after S assignment.heads below _ _ (pos 0) (one_each network S time intervals levels tanks links assignment
+      lack_after S assignment.heads below _ _ (pos 0) (one_each project S time intervals levels tanks links assignment
       grid Main Lower below c under)
-      (fixed_above network S time intervals levels tanks links grid (pos 0) c.is_grid c.lie (omega (arith, ints))) m
-      (λ lt. let h = above_main network S time intervals levels tanks links assignment grid below c under m _
+      (fixed_above project S time intervals levels tanks links grid (pos 0) c.is_grid c.lie (omega (arith, ints))) m
+      (λ lt. let h = above_main project S time intervals levels tanks links assignment grid below c under m _
       (slice_get-get_or assignment.heads m (pos 0) lt) in omega (arith, ints, h)) in
       omega (arith, ints, l);
-  high = let l : excess S (node_heads network S time levels assignment.heads) (all_heads grid Main Upper above) m
+  high = let l : excess S (node_heads project S time levels assignment.heads) (all_heads grid Main Upper above) m
       ≤ℤ pos 0 =
-      excess_after S assignment.heads above _ _ (pos 0) (one_each network S time intervals levels tanks links
+      excess_after S assignment.heads above _ _ (pos 0) (one_each project S time intervals levels tanks links
       assignment grid Main Upper above c over)
-      (fixed_below network S time intervals levels tanks links grid (pos 0) c.is_grid c.lie (omega (arith, ints))) m
-      (λ lt. let h = below_main network S time intervals levels tanks links assignment grid above c over m _
+      (fixed_below project S time intervals levels tanks links grid (pos 0) c.is_grid c.lie (omega (arith, ints))) m
+      (λ lt. let h = below_main project S time intervals levels tanks links assignment grid above c over m _
       (slice_get-get_or assignment.heads m (pos 0) lt) in omega (arith, ints, h)) in
       omega (arith, ints, l);
 }
@@ -64,26 +64,26 @@ pub record IsFollowed (S : ℕ) (heads : List ℤ) (link : GridLink) (q : ℤ) :
   pub sound : IsSoundLaw link.law
   pub follows : Follows link.law S (head_at heads link.from -ℤ head_at heads link.to) q
 
-pub followed_at : (network : Project) (tanks : List TankState) (S : ℕ) (heads : List ℤ) (links : List Link)
+pub followed_at : (project : Project) (tanks : List TankState) (S : ℕ) (heads : List ℤ) (links : List Link)
     (states : List LinkState) (flows : List ℤ)
-    → LinksFollow network tanks S heads links states flows → AllByRecursion (λ (link : GridLink). IsSoundLaw link.law)
-    (grid_links network tanks links states)
-    → (l : ℕ) (link : GridLink) → slice_get (grid_links network tanks links states) l ≡ Some link
+    → LinksFollow project tanks S heads links states flows → AllByRecursion (λ (link : GridLink). IsSoundLaw link.law)
+    (grid_links project tanks links states)
+    → (l : ℕ) (link : GridLink) → slice_get (grid_links project tanks links states) l ≡ Some link
     → IsFollowed S heads link (flow_at flows l)
-followed_at network tanks S heads [] [] [] f sound l link is = absurd (cc)
-followed_at network tanks S heads [] [] (q ∷ flows) f sound l link is = elim f [ ]
-followed_at network tanks S heads [] (state ∷ states) flows f sound l link is = elim f [ ]
-followed_at network tanks S heads (x ∷ links) [] flows f sound l link is = elim f [ ]
-followed_at network tanks S heads (x ∷ links) (state ∷ states) [] f sound l link is = elim f [ ]
-followed_at network tanks S heads (x ∷ links) (state ∷ states) (q ∷ flows) (more follows rest) sound zero link is =
+followed_at project tanks S heads [] [] [] f sound l link is = absurd (cc)
+followed_at project tanks S heads [] [] (q ∷ flows) f sound l link is = elim f [ ]
+followed_at project tanks S heads [] (state ∷ states) flows f sound l link is = elim f [ ]
+followed_at project tanks S heads (x ∷ links) [] flows f sound l link is = elim f [ ]
+followed_at project tanks S heads (x ∷ links) (state ∷ states) [] f sound l link is = elim f [ ]
+followed_at project tanks S heads (x ∷ links) (state ∷ states) (q ∷ flows) (more follows rest) sound zero link is =
     subst (λ (g : GridLink). IsFollowed S heads g q) (let e : record {
       from = x.from;
       to = x.to;
-      law = law_of network tanks x state;
+      law = law_of project tanks x state;
     } ≡ link = cc in e)
     (record { sound = sound.0; follows = follows })
-followed_at network tanks S heads (x ∷ links) (state ∷ states) (q ∷ flows) (more follows rest) sound (suc l) link is =
-    followed_at network tanks S heads links states flows rest sound.1 l link is
+followed_at project tanks S heads (x ∷ links) (state ∷ states) (q ∷ flows) (more follows rest) sound (suc l) link is =
+    followed_at project tanks S heads links states flows rest sound.1 l link is
 
 boxed : (S : ℕ) (below above heads : List ℤ) (link : GridLink) (q : ℤ) → 0 < S → LieBetween S below above heads
     → IsFollowed S heads link q
@@ -101,16 +101,16 @@ boxed S below above heads link q some between f = record {
       rw times_plus (omega (arith, ints, a));
 }
 
-pub flow_lies : (network : Project) (S time : ℕ) (intervals : List Interval) (levels : List ℤ)
+pub flow_lies : (project : Project) (S time : ℕ) (intervals : List Interval) (levels : List ℤ)
     (tanks : List TankState) (links : List LinkState) (assignment : Assignment) (grid : Grid) (below above : List ℤ)
-    → IsCompared network S time intervals levels tanks links assignment grid
-    → LieBetween S below above (node_heads network S time levels assignment.heads)
+    → IsCompared project S time intervals levels tanks links assignment grid
+    → LieBetween S below above (node_heads project S time levels assignment.heads)
     → (l : ℕ) (link : GridLink) → slice_get grid.links l ≡ Some link
     → LiesIn S (flow_box link below above) (flow_at assignment.flows l)
-flow_lies network S time intervals levels tanks links assignment grid below above c between l link is =
-    boxed S below above (node_heads network S time levels assignment.heads) link (flow_at assignment.flows l) c.some
+flow_lies project S time intervals levels tanks links assignment grid below above c between l link is =
+    boxed S below above (node_heads project S time levels assignment.heads) link (flow_at assignment.flows l) c.some
     between
-    (followed_at network tanks S (node_heads network S time levels assignment.heads) network.links.list links
+    (followed_at project tanks S (node_heads project S time levels assignment.heads) project.links.list links
     assignment.flows c.assigned.links_follow
     (subst (λ (ls : List GridLink). AllByRecursion (λ (link : GridLink). IsSoundLaw link.law) ls) c.is_grid.links_are
     c.sound.links)
@@ -134,21 +134,21 @@ emitter_lies junction emitter S p x q same sound some under over follows =
       high = let a = flow-above (QuadraticLaw c) S p.hi x q sound some over h in rw times_plus (omega (arith, ints, a));
     }
 
-out_of : (network : Project) (time S : ℕ) (assignment : Assignment) (j : ℕ) (junction : Junction)
+out_of : (project : Project) (time S : ℕ) (assignment : Assignment) (j : ℕ) (junction : Junction)
     (here : GridJunction) (below above : ℤ) → 0 < S
-    → IsJunctionOf network time junction here → IfSome here.emitter IsSoundCapacity
+    → IsJunctionOf project time junction here → IfSome here.emitter IsSoundCapacity
     → (pos S *ℤ below) ≤ℤ head_at assignment.heads j → head_at assignment.heads j ≤ℤ (pos S *ℤ above)
-    → JunctionObeys network time S assignment j junction
+    → JunctionObeys project time S assignment j junction
     → LiesIn S (out_box here below above) (flow_at assignment.demands j +ℤ flow_at assignment.emitters j)
-out_of network time S assignment j junction here below above some is sound under over obeys =
+out_of project time S assignment j junction here below above some is sound under over obeys =
     let l : (pos S *ℤ (below -ℤ here.elevation)) ≤ℤ (head_at assignment.heads j -ℤ (pos S *ℤ junction.elevation)) =
     rw times_minus (rw is.elevation (omega (arith, ints, under))) in
     let h : (head_at assignment.heads j -ℤ (pos S *ℤ junction.elevation)) ≤ℤ (pos S *ℤ (above -ℤ here.elevation)) =
     rw times_minus (rw is.elevation (omega (arith, ints, over))) in
-    let a = demand-below network (demand_of network time junction) here.demand S (below -ℤ here.elevation)
+    let a = demand-below project (demand_of project time junction) here.demand S (below -ℤ here.elevation)
     (head_at assignment.heads j -ℤ (pos S *ℤ junction.elevation)) (flow_at assignment.demands j)
     is.demand some l obeys.demand in
-    let b = demand-above network (demand_of network time junction) here.demand S (above -ℤ here.elevation)
+    let b = demand-above project (demand_of project time junction) here.demand S (above -ℤ here.elevation)
     (head_at assignment.heads j -ℤ (pos S *ℤ junction.elevation)) (flow_at assignment.demands j)
     is.demand some h obeys.demand in
     let e = emitter_lies junction here.emitter S (record {
@@ -170,25 +170,25 @@ out_of network time S assignment j junction here below above some is sound under
           omega (arith, ints, b, h, times_plus S (hi +ℤ pos 10) box.hi, times_plus S hi (pos 10));
     }
 
-pub outflow_lies : (network : Project) (S time : ℕ) (intervals : List Interval) (levels : List ℤ)
+pub outflow_lies : (project : Project) (S time : ℕ) (intervals : List Interval) (levels : List ℤ)
     (tanks : List TankState) (links : List LinkState) (assignment : Assignment) (grid : Grid) (below above : List ℤ)
-    → IsCompared network S time intervals levels tanks links assignment grid → IsCertificate grid Main Lower below
+    → IsCompared project S time intervals levels tanks links assignment grid → IsCertificate grid Main Lower below
     → IsCertificate grid Main Upper above
     → (j : ℕ) (here : GridJunction) → slice_get grid.junctions j ≡ Some here
     → LiesIn S (out_box here (head_at below j) (head_at above j)) (flow_at assignment.demands j
     +ℤ flow_at assignment.emitters j)
-outflow_lies network S time intervals levels tanks links assignment grid below above c under over j here is =
+outflow_lies project S time intervals levels tanks links assignment grid below above c under over j here is =
     let inside = slice_get_within grid.junctions j here is in
-    let long : j < length assignment.heads = (let a = one_each network S time intervals levels tanks links assignment
+    let long : j < length assignment.heads = (let a = one_each project S time intervals levels tanks links assignment
     grid Main Upper above c over in let b = over.one_each in omega (arith, inside, a, b)) in
-    let p = place_at (IsJunctionOf network time) network.junctions.list grid.junctions c.is_grid.junctions j inside in
-    let l = above_main network S time intervals levels tanks links assignment grid below c under j _
+    let p = place_at (IsJunctionOf project time) project.junctions.list grid.junctions c.is_grid.junctions j inside in
+    let l = above_main project S time intervals levels tanks links assignment grid below c under j _
     (slice_get-get_or assignment.heads j (pos 0) long) in
-    let h = below_main network S time intervals levels tanks links assignment grid above c over j _
+    let h = below_main project S time intervals levels tanks links assignment grid above c over j _
     (slice_get-get_or assignment.heads j (pos 0) long) in
     subst (λ (g : GridJunction). LiesIn S (out_box g (head_at below j) (head_at above j))
     (flow_at assignment.demands j +ℤ flow_at assignment.emitters j))
     (let e : p.here ≡ here = (let a = p.is_here in cc) in e)
-    (out_of network time S assignment j p.junction p.here (head_at below j) (head_at above j) c.some p.holds
+    (out_of project time S assignment j p.junction p.here (head_at below j) (head_at above j) c.some p.holds
     (emitter_at grid.junctions j p.here c.sound.emitters p.is_here)
     (omega (arith, ints, l)) (omega (arith, ints, h)) (c.assigned.junctions_obey j p.junction p.is_junction))

@@ -26,7 +26,7 @@ digits-word (c ∷ cs) h = (let k = digit_from_value c h.0 in omega arith, digit
 decimal-word : (n : ℕ) → n < 10 ^ 64 → IsWord (decimal n)
 decimal-word n short = digits-word (decimal n) (decimal_is_IsNumeral_wide n short).0.1
 
-decimal-same : (m n : ℕ) → m < 10 ^ 64 → n < 10 ^ 64 → decimal m ≡ decimal n → m ≡ n
+pub decimal-same : (m n : ℕ) → m < 10 ^ 64 → n < 10 ^ 64 → decimal m ≡ decimal n → m ≡ n
 decimal-same m n short_m short_n e =
     sym (decimal_is_IsNumeral_wide m short_m).1 ∙ (ap (digits_value 10) e ∙ (decimal_is_IsNumeral_wide n short_n).1)
 

@@ -34,16 +34,16 @@ use Rattle.hyd_theorems_on_definitions.proofs.Outflows.{emitter-below, emitter-a
 
 -- ---- one junction
 
-pub outflow-follows-below : (network : Project) (time S : ℕ) (junction : Junction) (here : GridJunction)
+pub outflow-follows-below : (project : Project) (time S : ℕ) (junction : Junction) (here : GridJunction)
     (h height demand emitter : ℤ) → 0 < S
-    → IsJunctionOf network time junction here → IfSome here.emitter IsSoundCapacity → (pos S *ℤ h) ≤ℤ height
-    → FollowsDemand network time junction S (height -ℤ at_scale S junction.elevation) demand
+    → IsJunctionOf project time junction here → IfSome here.emitter IsSoundCapacity → (pos S *ℤ h) ≤ℤ height
+    → FollowsDemand project time junction S (height -ℤ at_scale S junction.elevation) demand
     → FollowsEmitter junction S (height -ℤ at_scale S junction.elevation) emitter
     → (pos S *ℤ outflow_low here h) ≤ℤ ((demand +ℤ emitter) +ℤ pos (S * 20))
-outflow-follows-below network time S junction here h height demand emitter some is sound le takes gives =
+outflow-follows-below project time S junction here h height demand emitter some is sound le takes gives =
     let p : (pos S *ℤ (h -ℤ here.elevation)) ≤ℤ (height -ℤ (pos S *ℤ junction.elevation)) =
     rw times_minus (rw is.elevation (omega (arith, ints, le))) in
-    let a = demand-below network (demand_of network time junction) here.demand S (h -ℤ here.elevation)
+    let a = demand-below project (demand_of project time junction) here.demand S (h -ℤ here.elevation)
     (height -ℤ (pos S *ℤ junction.elevation)) demand
     is.demand some p takes in
     let b = emitter-below junction here.emitter S (h -ℤ here.elevation) (height -ℤ (pos S *ℤ junction.elevation))
@@ -51,16 +51,16 @@ outflow-follows-below network time S junction here h height demand emitter some 
     is.emitter sound some p gives in
     rw times_plus (omega (arith, ints, a, b))
 
-pub outflow-follows-above : (network : Project) (time S : ℕ) (junction : Junction) (here : GridJunction)
+pub outflow-follows-above : (project : Project) (time S : ℕ) (junction : Junction) (here : GridJunction)
     (h height demand emitter : ℤ) → 0 < S
-    → IsJunctionOf network time junction here → IfSome here.emitter IsSoundCapacity → height ≤ℤ (pos S *ℤ h)
-    → FollowsDemand network time junction S (height -ℤ at_scale S junction.elevation) demand
+    → IsJunctionOf project time junction here → IfSome here.emitter IsSoundCapacity → height ≤ℤ (pos S *ℤ h)
+    → FollowsDemand project time junction S (height -ℤ at_scale S junction.elevation) demand
     → FollowsEmitter junction S (height -ℤ at_scale S junction.elevation) emitter
     → (demand +ℤ emitter) ≤ℤ ((pos S *ℤ outflow_high here h) +ℤ pos (S * 20))
-outflow-follows-above network time S junction here h height demand emitter some is sound le takes gives =
+outflow-follows-above project time S junction here h height demand emitter some is sound le takes gives =
     let p : (height -ℤ (pos S *ℤ junction.elevation)) ≤ℤ (pos S *ℤ (h -ℤ here.elevation)) =
     rw times_minus (rw is.elevation (omega (arith, ints, le))) in
-    let a = demand-above network (demand_of network time junction) here.demand S (h -ℤ here.elevation)
+    let a = demand-above project (demand_of project time junction) here.demand S (h -ℤ here.elevation)
     (height -ℤ (pos S *ℤ junction.elevation)) demand
     is.demand some p takes in
     let b = emitter-above junction here.emitter S (h -ℤ here.elevation) (height -ℤ (pos S *ℤ junction.elevation))
@@ -68,23 +68,23 @@ outflow-follows-above network time S junction here h height demand emitter some 
     is.emitter sound some p gives in
     rw times_plus (omega (arith, ints, a, b))
 
-pub outflow-below : (network : Project) (time S : ℕ) (assignment : Assignment) (j : ℕ) (junction : Junction)
+pub outflow-below : (project : Project) (time S : ℕ) (assignment : Assignment) (j : ℕ) (junction : Junction)
     (here : GridJunction) (h : ℤ) → 0 < S
-    → IsJunctionOf network time junction here → IfSome here.emitter IsSoundCapacity
-    → (pos S *ℤ h) ≤ℤ head_at assignment.heads j → JunctionObeys network time S assignment j junction
+    → IsJunctionOf project time junction here → IfSome here.emitter IsSoundCapacity
+    → (pos S *ℤ h) ≤ℤ head_at assignment.heads j → JunctionObeys project time S assignment j junction
     → (pos S *ℤ outflow_low here h) ≤ℤ ((flow_at assignment.demands j +ℤ flow_at assignment.emitters j) +ℤ pos (S * 20))
-outflow-below network time S assignment j junction here h some is sound le obeys =
-    outflow-follows-below network time S junction here h (head_at assignment.heads j) (flow_at assignment.demands j)
+outflow-below project time S assignment j junction here h some is sound le obeys =
+    outflow-follows-below project time S junction here h (head_at assignment.heads j) (flow_at assignment.demands j)
     (flow_at assignment.emitters j) some is sound le obeys.demand obeys.emitter
 
-pub outflow-above : (network : Project) (time S : ℕ) (assignment : Assignment) (j : ℕ) (junction : Junction)
+pub outflow-above : (project : Project) (time S : ℕ) (assignment : Assignment) (j : ℕ) (junction : Junction)
     (here : GridJunction) (h : ℤ) → 0 < S
-    → IsJunctionOf network time junction here → IfSome here.emitter IsSoundCapacity
-    → head_at assignment.heads j ≤ℤ (pos S *ℤ h) → JunctionObeys network time S assignment j junction
+    → IsJunctionOf project time junction here → IfSome here.emitter IsSoundCapacity
+    → head_at assignment.heads j ≤ℤ (pos S *ℤ h) → JunctionObeys project time S assignment j junction
     → (flow_at assignment.demands j +ℤ flow_at assignment.emitters j)
     ≤ℤ ((pos S *ℤ outflow_high here h) +ℤ pos (S * 20))
-outflow-above network time S assignment j junction here h some is sound le obeys =
-    outflow-follows-above network time S junction here h (head_at assignment.heads j) (flow_at assignment.demands j)
+outflow-above project time S assignment j junction here h some is sound le obeys =
+    outflow-follows-above project time S junction here h (head_at assignment.heads j) (flow_at assignment.demands j)
     (flow_at assignment.emitters j) some is sound le obeys.demand obeys.emitter
 
 -- what passes leaves a net outflow that no balance allows
@@ -146,147 +146,147 @@ emitter_at (j ∷ js) (suc i) here all e = emitter_at js i here all.1 e
 -- ---- what a certificate can't have
 
 -- no junction of a certificate has an excess that is at least 0 and nowhere greater
-pub no_excess : (network : Project) (S time : ℕ) (intervals : List Interval) (levels : List ℤ)
+pub no_excess : (project : Project) (S time : ℕ) (intervals : List Interval) (levels : List ℤ)
     (tanks : List TankState) (links : List LinkState) (assignment : Assignment) (grid : Grid)
-    (problem : Problem) (u : List ℤ) (i : ℕ) → IsCompared network S time intervals levels tanks links assignment grid
+    (problem : Problem) (u : List ℤ) (i : ℕ) → IsCompared project S time intervals levels tanks links assignment grid
     → IsCertificate grid problem Upper u → i < length u
-    → IsPeak S (node_heads network S time levels assignment.heads) (all_heads grid problem Upper u) i
+    → IsPeak S (node_heads project S time levels assignment.heads) (all_heads grid problem Upper u) i
     → (pos S *ℤ head_at u i) ≤ℤ head_at assignment.heads i → ⊥
-no_excess network S time intervals levels tanks links assignment grid problem u i c certificate lt peak above =
-    let p = place_at (IsJunctionOf network time) network.junctions.list grid.junctions c.is_grid.junctions i
+no_excess project S time intervals levels tanks links assignment grid problem u i c certificate lt peak above =
+    let p = place_at (IsJunctionOf project time) project.junctions.list grid.junctions c.is_grid.junctions i
     (let e = certificate.one_each in omega (arith, lt)) in
     let obeys = c.assigned.junctions_obey i p.junction p.is_junction in
-    let sums = sum-upper network tanks S (node_heads network S time levels assignment.heads)
-    (all_heads grid problem Upper u) i c.some peak network.links.list links assignment.flows c.assigned.links_follow
+    let sums = sum-upper project tanks S (node_heads project S time levels assignment.heads)
+    (all_heads grid problem Upper u) i c.some peak project.links.list links assignment.flows c.assigned.links_follow
     (subst (λ (ls : List GridLink). AllByRecursion (λ (link : GridLink). IsSoundLaw link.law) ls) c.is_grid.links_are
     c.sound.links) in
     let turned = subst (λ (ls : List GridLink). (pos S *ℤ net low high (all_heads grid problem Upper u) i ls)
-    ≤ℤ (net_outflow i network.links.list assignment.flows +ℤ pos (link_ends i ls * (S * 10))))
+    ≤ℤ (net_outflow i project.links.list assignment.flows +ℤ pos (link_ends i ls * (S * 10))))
     (sym c.is_grid.links_are) sums in
-    let leaves = outflow-below network time S assignment i p.junction p.here (head_at u i) c.some p.holds
+    let leaves = outflow-below project time S assignment i p.junction p.here (head_at u i) c.some p.holds
     (emitter_at grid.junctions i p.here c.sound.emitters p.is_here) above obeys in
     too_much S (link_ends i grid.links) (net low high (all_heads grid problem Upper u) i grid.links)
     (outflow_low p.here (head_at u i))
-    (net_outflow i network.links.list assignment.flows) (flow_at assignment.demands i +ℤ flow_at assignment.emitters
+    (net_outflow i project.links.list assignment.flows) (flow_at assignment.demands i +ℤ flow_at assignment.emitters
     i) c.some turned leaves
     (let b = obeys.balance.low in omega (arith, ints, b)) (certificate.passes i p.here p.is_here)
 
-pub no_lack : (network : Project) (S time : ℕ) (intervals : List Interval) (levels : List ℤ) (tanks : List TankState)
+pub no_lack : (project : Project) (S time : ℕ) (intervals : List Interval) (levels : List ℤ) (tanks : List TankState)
     (links : List LinkState) (assignment : Assignment) (grid : Grid)
-    (problem : Problem) (u : List ℤ) (i : ℕ) → IsCompared network S time intervals levels tanks links assignment grid
+    (problem : Problem) (u : List ℤ) (i : ℕ) → IsCompared project S time intervals levels tanks links assignment grid
     → IsCertificate grid problem Lower u → i < length u
-    → IsDip S (node_heads network S time levels assignment.heads) (all_heads grid problem Lower u) i
+    → IsDip S (node_heads project S time levels assignment.heads) (all_heads grid problem Lower u) i
     → head_at assignment.heads i ≤ℤ (pos S *ℤ head_at u i) → ⊥
-no_lack network S time intervals levels tanks links assignment grid problem u i c certificate lt dip below =
-    let p = place_at (IsJunctionOf network time) network.junctions.list grid.junctions c.is_grid.junctions i
+no_lack project S time intervals levels tanks links assignment grid problem u i c certificate lt dip below =
+    let p = place_at (IsJunctionOf project time) project.junctions.list grid.junctions c.is_grid.junctions i
     (let e = certificate.one_each in omega (arith, lt)) in
     let obeys = c.assigned.junctions_obey i p.junction p.is_junction in
-    let sums = sum-lower network tanks S (node_heads network S time levels assignment.heads)
-    (all_heads grid problem Lower u) i c.some dip network.links.list links assignment.flows c.assigned.links_follow
+    let sums = sum-lower project tanks S (node_heads project S time levels assignment.heads)
+    (all_heads grid problem Lower u) i c.some dip project.links.list links assignment.flows c.assigned.links_follow
     (subst (λ (ls : List GridLink). AllByRecursion (λ (link : GridLink). IsSoundLaw link.law) ls) c.is_grid.links_are
     c.sound.links) in
-    let turned = subst (λ (ls : List GridLink). net_outflow i network.links.list assignment.flows
+    let turned = subst (λ (ls : List GridLink). net_outflow i project.links.list assignment.flows
     ≤ℤ ((pos S *ℤ net high low (all_heads grid problem Lower u) i ls) +ℤ pos (link_ends i ls * (S * 10))))
     (sym c.is_grid.links_are) sums in
-    let leaves = outflow-above network time S assignment i p.junction p.here (head_at u i) c.some p.holds
+    let leaves = outflow-above project time S assignment i p.junction p.here (head_at u i) c.some p.holds
     (emitter_at grid.junctions i p.here c.sound.emitters p.is_here) below obeys in
     too_little S (link_ends i grid.links) (net high low (all_heads grid problem Lower u) i grid.links)
     (outflow_high p.here (head_at u i))
-    (net_outflow i network.links.list assignment.flows) (flow_at assignment.demands i +ℤ flow_at assignment.emitters
+    (net_outflow i project.links.list assignment.flows) (flow_at assignment.demands i +ℤ flow_at assignment.emitters
     i) c.some turned leaves
     (let b = obeys.balance.high in omega (arith, ints, b)) (certificate.passes i p.here p.is_here)
 
 -- ---- all tanks alike
 
-pub fixed_below : (network : Project) (S time : ℕ) (intervals : List Interval) (levels : List ℤ)
+pub fixed_below : (project : Project) (S time : ℕ) (intervals : List Interval) (levels : List ℤ)
     (tanks : List TankState) (links : List LinkState) (grid : Grid) (t : ℤ)
-    → IsGrid network time intervals tanks links grid → LevelsLie S intervals levels → pos 0 ≤ℤ t → (m : ℕ)
-    → excess S (map (λ r. at_scale S (reservoir_head network time r)) network.reservoirs.list
-    ++ tank_heads S network.tanks.list levels) (fixed_heads grid Main Upper) m ≤ℤ t
-fixed_below network S time intervals levels tanks links grid t is lie above m =
-    rw (is.reservoirs, is.tank_heads) (reservoirs_below S (reservoir_head network time) network.reservoirs.list _ _ t
+    → IsGrid project time intervals tanks links grid → LevelsLie S intervals levels → pos 0 ≤ℤ t → (m : ℕ)
+    → excess S (map (λ r. at_scale S (reservoir_head project time r)) project.reservoirs.list
+    ++ tank_heads S project.tanks.list levels) (fixed_heads grid Main Upper) m ≤ℤ t
+fixed_below project S time intervals levels tanks links grid t is lie above m =
+    rw (is.reservoirs, is.tank_heads) (reservoirs_below S (reservoir_head project time) project.reservoirs.list _ _ t
     above
-    (λ k. let l = tanks_below S 0 network.tanks.list intervals levels lie k in omega (arith, ints, l)) m)
+    (λ k. let l = tanks_below S 0 project.tanks.list intervals levels lie k in omega (arith, ints, l)) m)
 
-pub fixed_above : (network : Project) (S time : ℕ) (intervals : List Interval) (levels : List ℤ)
+pub fixed_above : (project : Project) (S time : ℕ) (intervals : List Interval) (levels : List ℤ)
     (tanks : List TankState) (links : List LinkState) (grid : Grid) (t : ℤ)
-    → IsGrid network time intervals tanks links grid → LevelsLie S intervals levels → pos 0 ≤ℤ t → (m : ℕ)
-    → lack S (map (λ r. at_scale S (reservoir_head network time r)) network.reservoirs.list
-    ++ tank_heads S network.tanks.list levels) (fixed_heads grid Main Lower) m ≤ℤ t
-fixed_above network S time intervals levels tanks links grid t is lie above m =
-    rw (is.reservoirs, is.tank_heads) (reservoirs_above S (reservoir_head network time) network.reservoirs.list _ _ t
+    → IsGrid project time intervals tanks links grid → LevelsLie S intervals levels → pos 0 ≤ℤ t → (m : ℕ)
+    → lack S (map (λ r. at_scale S (reservoir_head project time r)) project.reservoirs.list
+    ++ tank_heads S project.tanks.list levels) (fixed_heads grid Main Lower) m ≤ℤ t
+fixed_above project S time intervals levels tanks links grid t is lie above m =
+    rw (is.reservoirs, is.tank_heads) (reservoirs_above S (reservoir_head project time) project.reservoirs.list _ _ t
     above
-    (λ k. let l = tanks_above S 0 network.tanks.list intervals levels lie k in omega (arith, ints, l)) m)
+    (λ k. let l = tanks_above S 0 project.tanks.list intervals levels lie k in omega (arith, ints, l)) m)
 
-pub one_each : (network : Project) (S time : ℕ) (intervals : List Interval) (levels : List ℤ) (tanks : List TankState)
+pub one_each : (project : Project) (S time : ℕ) (intervals : List Interval) (levels : List ℤ) (tanks : List TankState)
     (links : List LinkState) (assignment : Assignment) (grid : Grid)
-    (problem : Problem) (side : Side) (u : List ℤ) → IsCompared network S time intervals levels tanks links assignment
+    (problem : Problem) (side : Side) (u : List ℤ) → IsCompared project S time intervals levels tanks links assignment
     grid → IsCertificate grid problem side u → length assignment.heads ≡ length u
-one_each network S time intervals levels tanks links assignment grid problem side u c certificate =
-    let a = certificate.one_each in let b = place_long (IsJunctionOf network time) network.junctions.list
+one_each project S time intervals levels tanks links assignment grid problem side u c certificate =
+    let a = certificate.one_each in let b = place_long (IsJunctionOf project time) project.junctions.list
     grid.junctions c.is_grid.junctions in
     let d = c.assigned.head_each in omega (arith, a, b, d)
 
 -- no junction lies above an upper certificate
-none_above : (network : Project) (S time : ℕ) (intervals : List Interval) (levels : List ℤ) (tanks : List TankState)
+none_above : (project : Project) (S time : ℕ) (intervals : List Interval) (levels : List ℤ) (tanks : List TankState)
     (links : List LinkState) (assignment : Assignment) (grid : Grid) (u : List ℤ) (j i : ℕ)
-    → IsCompared network S time intervals levels tanks links assignment grid → IsCertificate grid Main Upper u
+    → IsCompared project S time intervals levels tanks links assignment grid → IsCertificate grid Main Upper u
     → j < length assignment.heads
     → (pos S *ℤ head_at u j) ≤ℤ head_at assignment.heads j → IsGreatestBelow (excess S assignment.heads u)
     (length assignment.heads) i → ⊥
-none_above network S time intervals levels tanks links assignment grid u j i c certificate lt ge best =
-    let same = one_each network S time intervals levels tanks links assignment grid Main Upper u c certificate in
+none_above project S time intervals levels tanks links assignment grid u j i c certificate lt ge best =
+    let same = one_each project S time intervals levels tanks links assignment grid Main Upper u c certificate in
     let top : excess S assignment.heads u j ≤ℤ excess S assignment.heads u i = best.each j lt in
     let t : pos 0 ≤ℤ excess S assignment.heads u i = omega (arith, ints, top, ge) in
     let front : i < length u = (let l = best.below in omega (arith, l, same)) in
-    no_excess network S time intervals levels tanks links assignment grid Main u i c certificate front
+    no_excess project S time intervals levels tanks links assignment grid Main u i c certificate front
     (λ m. rw (head_front assignment.heads _ i best.below, head_front u _ i front)
     (excess_after S assignment.heads u _ _ (excess S assignment.heads u i) same
-    (fixed_below network S time intervals levels tanks links grid (excess S assignment.heads u i) c.is_grid c.lie t) m
+    (fixed_below project S time intervals levels tanks links grid (excess S assignment.heads u i) c.is_grid c.lie t) m
     (λ lt. best.each m lt)))
     (omega (arith, ints, t))
 
-pub below_main : (network : Project) (S time : ℕ) (intervals : List Interval) (levels : List ℤ)
+pub below_main : (project : Project) (S time : ℕ) (intervals : List Interval) (levels : List ℤ)
     (tanks : List TankState) (links : List LinkState) (assignment : Assignment) (grid : Grid) (u : List ℤ)
-    → IsCompared network S time intervals levels tanks links assignment grid → IsCertificate grid Main Upper u
+    → IsCompared project S time intervals levels tanks links assignment grid → IsCertificate grid Main Upper u
     → Each assignment.heads (λ j h. h <ℤ at_scale S (head_at u j))
-below_main network S time intervals levels tanks links assignment grid u c certificate j h is = by_lt_z h
+below_main project S time intervals levels tanks links assignment grid u c certificate j h is = by_lt_z h
     (pos S *ℤ head_at u j) (λ lt. lt)
     (λ ge.
     let inside = slice_get_within assignment.heads j h is in
     let (i, best) = greatest_below (excess S assignment.heads u) (length assignment.heads) (omega (arith, inside)) in
-    absurd (none_above network S time intervals levels tanks links assignment grid u j i c certificate inside
+    absurd (none_above project S time intervals levels tanks links assignment grid u j i c certificate inside
     (let e : head_at assignment.heads j ≡ h = get_or_from_slice_get assignment.heads j h (pos 0) is in
     omega (arith, ints, e, ge)) best))
 
 -- none below a lower one
-none_below : (network : Project) (S time : ℕ) (intervals : List Interval) (levels : List ℤ) (tanks : List TankState)
+none_below : (project : Project) (S time : ℕ) (intervals : List Interval) (levels : List ℤ) (tanks : List TankState)
     (links : List LinkState) (assignment : Assignment) (grid : Grid) (u : List ℤ) (j i : ℕ)
-    → IsCompared network S time intervals levels tanks links assignment grid → IsCertificate grid Main Lower u
+    → IsCompared project S time intervals levels tanks links assignment grid → IsCertificate grid Main Lower u
     → j < length assignment.heads
     → head_at assignment.heads j ≤ℤ (pos S *ℤ head_at u j) → IsGreatestBelow (lack S assignment.heads u)
     (length assignment.heads) i → ⊥
-none_below network S time intervals levels tanks links assignment grid u j i c certificate lt ge best =
-    let same = one_each network S time intervals levels tanks links assignment grid Main Lower u c certificate in
+none_below project S time intervals levels tanks links assignment grid u j i c certificate lt ge best =
+    let same = one_each project S time intervals levels tanks links assignment grid Main Lower u c certificate in
     let top : lack S assignment.heads u j ≤ℤ lack S assignment.heads u i = best.each j lt in
     let t : pos 0 ≤ℤ lack S assignment.heads u i = omega (arith, ints, top, ge) in
     let front : i < length u = (let l = best.below in omega (arith, l, same)) in
-    no_lack network S time intervals levels tanks links assignment grid Main u i c certificate front
+    no_lack project S time intervals levels tanks links assignment grid Main u i c certificate front
     (λ m. rw (head_front assignment.heads _ i best.below, head_front u _ i front)
     (lack_after S assignment.heads u _ _ (lack S assignment.heads u i) same
-    (fixed_above network S time intervals levels tanks links grid (lack S assignment.heads u i) c.is_grid c.lie t) m
+    (fixed_above project S time intervals levels tanks links grid (lack S assignment.heads u i) c.is_grid c.lie t) m
     (λ lt. best.each m lt)))
     (omega (arith, ints, t))
 
-pub above_main : (network : Project) (S time : ℕ) (intervals : List Interval) (levels : List ℤ)
+pub above_main : (project : Project) (S time : ℕ) (intervals : List Interval) (levels : List ℤ)
     (tanks : List TankState) (links : List LinkState) (assignment : Assignment) (grid : Grid) (u : List ℤ)
-    → IsCompared network S time intervals levels tanks links assignment grid → IsCertificate grid Main Lower u
+    → IsCompared project S time intervals levels tanks links assignment grid → IsCertificate grid Main Lower u
     → Each assignment.heads (λ j h. at_scale S (head_at u j) <ℤ h)
-above_main network S time intervals levels tanks links assignment grid u c certificate j h is =
+above_main project S time intervals levels tanks links assignment grid u c certificate j h is =
     by_lt_z (pos S *ℤ head_at u j) h (λ lt. lt)
     (λ ge.
     let inside = slice_get_within assignment.heads j h is in
     let (i, best) = greatest_below (lack S assignment.heads u) (length assignment.heads) (omega (arith, inside)) in
-    absurd (none_below network S time intervals levels tanks links assignment grid u j i c certificate inside
+    absurd (none_below project S time intervals levels tanks links assignment grid u j i c certificate inside
     (let e : head_at assignment.heads j ≡ h = get_or_from_slice_get assignment.heads j h (pos 0) is in
     omega (arith, ints, e, ge)) best))

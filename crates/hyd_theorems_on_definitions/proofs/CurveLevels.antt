@@ -1,6 +1,6 @@
 -- The level at a volume and the volume at a level undo each other along a curve whose levels and volumes rise.
-use Rattle.std.proofs.Common.{◌≡◌, ℕ, ◌*◌, ◌<◌, ℤ, pos, ◌+ℤ◌, ◌-ℤ◌, ◌*ℤ◌, ◌<ℤ◌, sym, ap, subst, ◌∙◌, arith, Bool, true}
-use Rattle.std.proofs.Common.{List, [], ◌∷◌}
+use Rattle.std.proofs.Common.{◌≡◌, ℕ, ◌*◌, ◌<◌, ℤ, pos, ◌+ℤ◌, ◌-ℤ◌, ◌*ℤ◌, ◌<ℤ◌, sym, ap, subst, ◌∙◌, arith, Bool, List}
+use Rattle.std.proofs.Common.{[], ◌∷◌}
 use Rattle.std.specs.Prelude.{⊤, unsigned_abs, int_lt, if◌then◌else◌}
 use Rattle.std.proofs.Math.IntN.{*ℤ_comm}
 use Rattle.std.proofs.lemmas.Int.{ints}
@@ -11,9 +11,9 @@ use Rattle.hyd_net.specs.Curves.{Knot, on_line, between, value_from, volume_knot
 use Rattle.hyd_spec.specs.ProgramTypes.{VolumePoint}
 use Rattle.hyd_spec.specs.Tank.{level_knots}
 use Rattle.hyd_lemmas.proofs.Integers.{exchanged}
+use Rattle.hyd_lemmas.proofs.Trials.{lt-from, lt-no, lt-yes}
 use Rattle.hyd_theorems_on_definitions.proofs.RisingLines.{Follows, AreClimbing, line, line-is, spread, difference-is}
-use Rattle.hyd_theorems_on_definitions.proofs.RisingLines.{from-first}
-use Rattle.hyd_theorems_on_definitions.proofs.RisingLines.{some-den, lt-yes, lt-no}
+use Rattle.hyd_theorems_on_definitions.proofs.RisingLines.{from-first, some-den}
 
 -- two numbers are one, or both above 0, or both below
 pub data AreAlike (a b : ℤ) : Type 0 where
@@ -67,9 +67,6 @@ width-of knot next = unsigned_abs (next.place -ℤ knot.place)
 
 abbrev rise-of : Knot → Knot → ℕ
 rise-of knot next = unsigned_abs (next.value -ℤ knot.value)
-
-lt-from : (a b : ℤ) → a <ℤ b → int_lt a b ≡ true
-lt-from a b lt = grind (arith, ints)
 
 -- what two neighbours that lie apart have is a line
 between-is : (T : ℕ) (knot next : Knot) (x : ℤ) → Follows knot next → knot.place <ℤ next.place

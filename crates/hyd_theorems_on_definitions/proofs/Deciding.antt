@@ -1,12 +1,12 @@
 -- What is decided by the ends of intervals is so at every point between them.
-use Rattle.std.proofs.Common.{◌≡◌, ℕ, ◌<◌, ◌≤◌, ◌⊎◌, ℤ, pos, ◌*ℤ◌, ◌≤ℤ◌, ◌<ℤ◌, refl, sym, subst, arith, Bool, true}
-use Rattle.std.proofs.Common.{false, ◌&&◌, ◌||◌, List, [], ◌∷◌, inl, inr}
-use Rattle.std.specs.Prelude.{int_lt, map, if◌then◌else◌}
+use Rattle.std.proofs.Common.{◌≡◌, ℕ, ◌<◌, ◌≤◌, ◌⊎◌, ℤ, pos, ◌*ℤ◌, ◌≤ℤ◌, refl, sym, subst, arith, Bool, true, false}
+use Rattle.std.proofs.Common.{◌&&◌, ◌||◌, List, [], ◌∷◌, inl, inr}
+use Rattle.std.specs.Prelude.{map, if◌then◌else◌}
 use Rattle.std.specs.List.{AllByRecursion, list_any, list_all}
 use Rattle.std.proofs.Math.IntN.{*ℤ_comm}
 use Rattle.std.proofs.lemmas.Int.{ints}
 use Rattle.std.proofs.lemmas.Bool.{cases_Bool}
-use Rattle.hyd_num.proofs.Integers.{times_rises, times_reflects}
+use Rattle.hyd_num.proofs.Integers.{times_rises, times_reflects, one_times}
 use Rattle.hyd_num.specs.Rational.{Rational, is_at_most, is_less, whole}
 use Rattle.hyd_spec.specs.ProgramTypes.{Tank, Clause, Relation, Less, NotMore, More, NotLess, Equal, Unequal}
 use Rattle.hyd_spec_certificates.specs.Interval.{Interval}
@@ -16,21 +16,17 @@ use Rattle.hyd_spec.specs.Rules.{compares}
 use Rattle.hyd_spec_certificates.specs.Stocks.{Stocks, least_stock, greatest_stock, may_reach, must_reach}
 use Rattle.hyd_spec_certificates.specs.FirstSeconds.{IsFirstSecond}
 use Rattle.hyd_spec_certificates.specs.ThreeValuedLogic.{Verdict, Yes, No, Unknown, at_both_ends, either, both}
-use Rattle.hyd_spec_certificates.specs.ThreeValuedLogic.{some_holds}
-use Rattle.hyd_spec_certificates.specs.ThreeValuedLogic.{all_hold}
+use Rattle.hyd_spec_certificates.specs.ThreeValuedLogic.{some_holds, all_hold}
 use Rattle.hyd_spec_certificates.specs.Decided.{control_truth}
 use Rattle.hyd_theorems_on_definitions.specs.TermsOfTheorems.{LiesIn, IsVessel, StockLies, AreInside, IsInside}
-use Rattle.hyd_theorems_on_definitions.specs.TermsOfTheorems.{HasStock, IsAtMost}
-use Rattle.hyd_theorems_on_definitions.specs.TermsOfTheorems.{IsOneWay}
-use Rattle.hyd_theorems_on_definitions.specs.TermsOfTheorems.{Tells, TellEach}
+use Rattle.hyd_theorems_on_definitions.specs.TermsOfTheorems.{HasStock, IsAtMost, IsOneWay, Tells, TellEach}
 use Rattle.hyd_lemmas.proofs.Integers.{exchanged}
-use Rattle.hyd_theorems_on_definitions.proofs.Outflows.{le-yes}
+use Rattle.hyd_lemmas.proofs.Trials.{le-from, le-yes, lt-no, lt-yes}
 use Rattle.hyd_net.specs.Curves.{volume_at}
-use Rattle.hyd_theorems_on_definitions.proofs.Leading.{Leads, one_times, passes-up, passes-down}
-use Rattle.hyd_theorems_on_definitions.proofs.Placing.{above-yes, below-yes, above-from, below-from, le-from}
+use Rattle.hyd_theorems_on_definitions.proofs.Leading.{Leads, passes-up, passes-down}
+use Rattle.hyd_theorems_on_definitions.proofs.Placing.{above-yes, below-yes, above-from, below-from}
 use Rattle.hyd_theorems_on_definitions.proofs.Levelling.{exact-some, content-leads, carried-some, carried-leads}
-use Rattle.hyd_theorems_on_definitions.proofs.Levelling.{content-low}
-use Rattle.hyd_theorems_on_definitions.proofs.Levelling.{content-high, content-up}
+use Rattle.hyd_theorems_on_definitions.proofs.Levelling.{content-low, content-high, content-up}
 
 -- ---- values
 
@@ -62,15 +58,6 @@ most-yes x y e = record { crossed = le-yes (x.num *ℤ pos y.den) (y.num *ℤ po
 
 most-from : (x y : Rational) → IsAtMost x y → is_at_most x y ≡ true
 most-from x y h = le-from (x.num *ℤ pos y.den) (y.num *ℤ pos x.den) h.crossed
-
-most-no : (x y : Rational) → is_at_most x y ≡ false → IsAtMost x y → ⊥
-most-no x y e h = let a = most-from x y h in absurd (cc)
-
-lt-yes : (a b : ℤ) → int_lt a b ≡ true → a <ℤ b
-lt-yes a b e = grind (arith, ints)
-
-lt-no : (a b : ℤ) → int_lt a b ≡ false → b ≤ℤ a
-lt-no a b e = grind (arith, ints)
 
 -- less is not at least
 less-yes : (x y : Rational) → is_less x y ≡ true → IsAtMost y x → ⊥

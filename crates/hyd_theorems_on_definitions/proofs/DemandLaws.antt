@@ -18,10 +18,10 @@ use Rattle.hyd_lemmas.proofs.Integers.{floor_low, ceiling_high, floor_greatest, 
 use Rattle.hyd_lemmas.proofs.Integers.{min_left, min_right, min_is}
 use Rattle.hyd_theorems_on_definitions.specs.TermsOfTheorems.{IsLaw, IsSoundCapacity}
 use Rattle.hyd_theorems_on_definitions.specs.PressureDrivenDemand.{steps_at_least, steps_at_most}
+use Rattle.hyd_lemmas.proofs.Trials.{le-yes, le-no}
 use Rattle.hyd_theorems_on_definitions.proofs.LinkLaws.{IsLaw-lifted}
 use Rattle.hyd_theorems_on_definitions.proofs.EachLaw.{IsLaw-quad}
-use Rattle.hyd_theorems_on_definitions.proofs.Outflows.{le-yes, le-no, high-positive, under, over_it, not_under}
-use Rattle.hyd_theorems_on_definitions.proofs.Outflows.{not_over}
+use Rattle.hyd_theorems_on_definitions.proofs.Outflows.{high-positive, under, over_it, not_under, not_over}
 use Rattle.hyd_theorems_on_definitions.proofs.Outflows.{twice_negated, begins_at, ends_at, pressure-above}
 use Rattle.hyd_theorems_on_definitions.proofs.Rising.{AreRising-demand}
 

@@ -11,13 +11,13 @@ use Rattle.hyd_num.specs.FileQuantity.{billionths, feet, feet_across, is_us_unit
 use borrow.Author.Differences.{up}
 use Rattle.std.specs.Prelude.{Bool, true, false, unsigned_abs}
 use Rattle.hyd_net.specs.Curves.{Knot, value_at}
+use Rattle.hyd_num.proofs.Ends.{denominator_positive, numerator_positive}
 use Rattle.hyd_lemmas.proofs.Enclosures.{IsEnclosure-made}
 use Rattle.hyd_lemmas.proofs.SquaredFlows.{ratio-above}
 use Rattle.hyd_spec.specs.ProgramTypes.{Capacity, Origin, Pipe, Valve, Pump, Emitter, PressureDemand}
 use Rattle.hyd_spec_certificates.specs.EnclosingFunctions.{quadratic_low, quadratic_high, low, high}
 use Rattle.hyd_spec.specs.Law.{Law, Shut, QuadraticLaw, LinearLaw, Lifted, ForwardOnly, ReverseOnly, Capped, Bent, Held}
 use Rattle.hyd_spec.specs.Law.{odd_at_least, odd_at_most, flow_at_least, flow_at_most, loss_at_most, loss_at_least}
-use Rattle.hyd_lemmas.proofs.Enclosing.{numerator_above, denominator_above}
 use Rattle.hyd_theorems_on_definitions.specs.TermsOfTheorems.{IsLaw, IsSoundCapacity, IsSoundLaw, AreInOrder}
 use Rattle.hyd_theorems_on_definitions.specs.TermsOfTheorems.{HasPositiveNumbers}
 use Rattle.hyd_lemmas.proofs.Integers.{exchanged, floor_low, ceiling_high, floor_greatest, ceiling_least}
@@ -26,11 +26,9 @@ use Rattle.hyd_theorems_on_definitions.proofs.LossLaws.{IsLossLaw-origin}
 use Rattle.hyd_theorems_on_definitions.proofs.Leading.{Leads, raised, lowered, above-too, below-too}
 use Rattle.hyd_theorems_on_definitions.proofs.RisingLines.{value-den, value-rises}
 use Rattle.hyd_theorems_on_definitions.proofs.LinkLaws.{IsLaw-shut, IsLaw-forward, IsLaw-reverse, IsLaw-capped}
-use Rattle.hyd_theorems_on_definitions.proofs.LinkLaws.{IsLaw-held}
-use Rattle.hyd_theorems_on_definitions.proofs.LinkLaws.{IsLaw-lifted, odd-consistent, odd-downward, odd-upward}
-use Rattle.hyd_theorems_on_definitions.proofs.LinkLaws.{quad-below}
-use Rattle.hyd_theorems_on_definitions.proofs.LinkLaws.{quad-above, low-rises, high-rises, roots-ordered, roots_low}
-use Rattle.hyd_theorems_on_definitions.proofs.LinkLaws.{roots_high}
+use Rattle.hyd_theorems_on_definitions.proofs.LinkLaws.{IsLaw-held, IsLaw-lifted, odd-consistent, odd-downward}
+use Rattle.hyd_theorems_on_definitions.proofs.LinkLaws.{odd-upward, quad-below, quad-above, low-rises, high-rises}
+use Rattle.hyd_theorems_on_definitions.proofs.LinkLaws.{roots-ordered, roots_low, roots_high}
 
 pub low_is : (c : Capacity) (d : ℤ) → quadratic_low c d ≡ roots_low (numerator c.lo) (denominator c.lo)
     (numerator c.hi) (denominator c.hi) d
@@ -47,20 +45,21 @@ pub IsLaw-quad : (c : Capacity) → IsSoundCapacity c
     (odd_at_most (loss_at_most c.origin) (loss_at_least c.origin)) (quadratic_low c) (quadratic_high c)
 IsLaw-quad c sound = record {
   low_rises = λ x d le. rw (low_is c x, low_is c d) (low-rises (numerator c.lo) (denominator c.lo) (numerator c.hi)
-      (denominator c.hi) (denominator_above c.lo) (denominator_above c.hi) x d le);
+      (denominator c.hi) (denominator_positive c.lo) (denominator_positive c.hi) x d le);
   high_rises = λ x d le. rw (high_is c x, high_is c d) (high-rises (numerator c.lo) (denominator c.lo)
-      (numerator c.hi) (denominator c.hi) (denominator_above c.lo) (denominator_above c.hi) x d le);
+      (numerator c.hi) (denominator c.hi) (denominator_positive c.lo) (denominator_positive c.hi) x d le);
   ordered = λ d. rw (low_is c d, high_is c d) (roots-ordered (numerator c.lo) (denominator c.lo) (numerator c.hi)
-      (denominator c.hi) (denominator_above c.lo) (denominator_above c.hi) c.ordered d);
+      (denominator c.hi) (denominator_positive c.lo) (denominator_positive c.hi) c.ordered d);
   encloses_below = λ S d x some le. rw (low_is c d)
       (quad-below (loss_at_most c.origin) (loss_at_least c.origin) (numerator c.lo) (denominator c.lo)
       (numerator c.hi) (denominator c.hi)
-      (denominator_above c.lo) (numerator_above c.hi) (denominator_above c.hi) sound.enclosure.at_most
+      (denominator_positive c.lo) (numerator_positive c.hi) (denominator_positive c.hi) sound.enclosure.at_most
       sound.enclosure.at_least S d x some le);
   encloses_above = λ S d x some le. rw (high_is c d)
       (quad-above (loss_at_most c.origin) (loss_at_least c.origin) (numerator c.lo) (denominator c.lo)
       (numerator c.hi) (denominator c.hi)
-      (denominator_above c.lo) (denominator_above c.hi) sound.enclosure.at_most sound.enclosure.at_least S d x some le);
+      (denominator_positive c.lo) (denominator_positive c.hi) sound.enclosure.at_most sound.enclosure.at_least S d x
+      some le);
   consistent = odd-consistent (loss_at_most c.origin) (loss_at_least c.origin)
       (IsLossLaw-origin c.origin sound.numbers);
   downward = odd-downward (loss_at_most c.origin) (loss_at_least c.origin) (IsLossLaw-origin c.origin sound.numbers);

@@ -105,45 +105,45 @@ ways-sound forward reverse own sound =
     cond_both reverse (ForwardOnly (if forward then ReverseOnly own else own)) (if forward then ReverseOnly own
     else own) IsSoundLaw (λ e. inner) (λ e. inner)
 
-links-sound : (network : Project) (tanks : List TankState) (links : List Link) (states : List LinkState)
-    → AllByRecursion (λ (l : Link). IsKindMade network.options.unit l.kind) links
-    → AllByRecursion (λ (l : Link). HasSizes network.options.unit network.patterns.list network.bends.list l.kind)
-    links → AllByRecursion (IsStateMade network.options.unit) states
-    → AllByRecursion (λ (link : GridLink). IsSoundLaw link.law) (grid_links network tanks links states)
-links-sound network tanks [] states kinds sizes made = tt
-links-sound network tanks (link ∷ links) [] kinds sizes made = tt
-links-sound network tanks (link ∷ links) (state ∷ states) kinds sizes made = (
-  ways-sound (forbids_forward network tanks link) (forbids_reverse network tanks link)
-      (own_law (is_us network) network.bends.list link.kind state)
-      (own-sound (is_us network) network.options.unit network.patterns.list network.bends.list link.kind state kinds.0
+links-sound : (project : Project) (tanks : List TankState) (links : List Link) (states : List LinkState)
+    → AllByRecursion (λ (l : Link). IsKindMade project.options.unit l.kind) links
+    → AllByRecursion (λ (l : Link). HasSizes project.options.unit project.patterns.list project.bends.list l.kind)
+    links → AllByRecursion (IsStateMade project.options.unit) states
+    → AllByRecursion (λ (link : GridLink). IsSoundLaw link.law) (grid_links project tanks links states)
+links-sound project tanks [] states kinds sizes made = tt
+links-sound project tanks (link ∷ links) [] kinds sizes made = tt
+links-sound project tanks (link ∷ links) (state ∷ states) kinds sizes made = (
+  ways-sound (forbids_forward project tanks link) (forbids_reverse project tanks link)
+      (own_law (is_us project) project.bends.list link.kind state)
+      (own-sound (is_us project) project.options.unit project.patterns.list project.bends.list link.kind state kinds.0
       sizes.0 made.0),
-  links-sound network tanks links states kinds.1 sizes.1 made.1,
+  links-sound project tanks links states kinds.1 sizes.1 made.1,
 )
 
 emitter-sound : (e : Option Capacity) → IfSome e IsMade → IfSome e IsSoundCapacity
 emitter-sound None made = tt
 emitter-sound (Some c) made = IsSoundCapacity-made c made
 
-emitters-sound : (network : Project) (time : ℕ) (xs : List Junction) (ys : List GridJunction)
-    → AllZip (IsJunctionOf network time) xs ys
+emitters-sound : (project : Project) (time : ℕ) (xs : List Junction) (ys : List GridJunction)
+    → AllZip (IsJunctionOf project time) xs ys
     → AllByRecursion (λ (j : Junction). IfSome j.emitter IsMade) xs
     → AllByRecursion (λ (j : GridJunction). IfSome j.emitter IsSoundCapacity) ys
-emitters-sound network time [] [] all made = tt
-emitters-sound network time [] (y ∷ ys) all made = absurd all
-emitters-sound network time (x ∷ xs) [] all made = absurd all
-emitters-sound network time (x ∷ xs) (y ∷ ys) all made = (
+emitters-sound project time [] [] all made = tt
+emitters-sound project time [] (y ∷ ys) all made = absurd all
+emitters-sound project time (x ∷ xs) [] all made = absurd all
+emitters-sound project time (x ∷ xs) (y ∷ ys) all made = (
   subst (λ (e : Option Capacity). IfSome e IsSoundCapacity) (sym all.0.emitter) (emitter-sound x.emitter made.0),
-  emitters-sound network time xs ys all.1 made.1,
+  emitters-sound project time xs ys all.1 made.1,
 )
 
-pub IsSoundGrid-made : (network : Project) (time : ℕ) (intervals : List Interval) (tanks : List TankState)
+pub IsSoundGrid-made : (project : Project) (time : ℕ) (intervals : List Interval) (tanks : List TankState)
     (links : List LinkState) (grid : Grid)
-    → IsGrid network time intervals tanks links grid → AreCapacitiesMade network links → IsSoundGrid grid
-IsSoundGrid-made network time intervals tanks links grid is made = record {
+    → IsGrid project time intervals tanks links grid → AreCapacitiesMade project links → IsSoundGrid grid
+IsSoundGrid-made project time intervals tanks links grid is made = record {
   links = subst (λ (ls : List GridLink). AllByRecursion (λ (link : GridLink). IsSoundLaw link.law) ls)
       (sym is.links_are)
-      (links-sound network tanks network.links.list links (recursion_from_All _ _ made.kinds)
+      (links-sound project tanks project.links.list links (recursion_from_All _ _ made.kinds)
       (recursion_from_All _ _ made.sizes) (recursion_from_All _ _ made.states));
-  emitters = emitters-sound network time network.junctions.list grid.junctions is.junctions
+  emitters = emitters-sound project time project.junctions.list grid.junctions is.junctions
       (recursion_from_All _ _ made.emitters);
 }

@@ -89,18 +89,18 @@ lower-miss : (S ends : ℕ) (n o out flows q : ℤ) → out ≤ℤ ((pos S *ℤ 
     → neg_ℤ ((pos S *ℤ (n +ℤ o)) +ℤ q) ≤ℤ (pos S *ℤ pos ((ends + 3) * 10))
 lower-miss S ends n o out flows q links leaves balance = omega (arith, ints, links, leaves, balance, times_plus S n o)
 
-module _ (network : Project) (S time : ℕ) (intervals : List Interval) (levels : List ℤ) (tanks : List TankState)
+module _ (project : Project) (S time : ℕ) (intervals : List Interval) (levels : List ℤ) (tanks : List TankState)
     (links : List LinkState) (place : ℕ) (q : ℤ) (assignment : Assignment) (grid : Grid)
-    (c : IsComparedDrawing network S time intervals levels tanks links place q assignment grid) where
+    (c : IsComparedDrawing project S time intervals levels tanks links place q assignment grid) where
   abbrev pub heads : List ℤ
-  heads = node_heads network S time levels assignment.heads
+  heads = node_heads project S time levels assignment.heads
 
   -- what is drawn at a junction
   abbrev pub drawn : ℕ → ℤ
   drawn i = where_so (i == place) q
 
   sound-links : AllByRecursion (λ (link : GridLink). IsSoundLaw link.law)
-      (grid_links network tanks network.links.list links)
+      (grid_links project tanks project.links.list links)
   sound-links = subst (λ (ls : List GridLink). AllByRecursion
       (λ (link : GridLink). IsSoundLaw link.law) ls) c.is_grid.links_are c.sound.links
 
@@ -109,47 +109,47 @@ module _ (network : Project) (S time : ℕ) (intervals : List Interval) (levels 
   -- at the junction that lies farthest beyond a vector the net outflow on that side, with the draw, is within the
   -- margin
   pub within-margin : (side : Side) (u : List ℤ) (i : ℕ) (p : IsPlace
-      (IsJunctionOf network time) network.junctions.list grid.junctions i)
+      (IsJunctionOf project time) project.junctions.list grid.junctions i)
       → IsFarthest side S heads (all_heads grid Main side u) i → pos 0 ≤ℤ ahead side S assignment.heads u i
       → along side ((pos S *ℤ net_on grid side u i p.here) +ℤ drawn i) ≤ℤ (pos S *ℤ margin grid i)
   within-margin Upper u i p farthest beyond =
       let obeys = c.assigned.junctions_obey i p.junction p.is_junction in
-      let sums = sum-upper network tanks S heads (all_heads grid Main Upper u) i c.some
-      (λ m. farthest m) network.links.list links
+      let sums = sum-upper project tanks S heads (all_heads grid Main Upper u) i c.some
+      (λ m. farthest m) project.links.list links
       assignment.flows c.assigned.links_follow sound-links in
       let turned = subst (λ (ls : List GridLink). (pos S *ℤ net low high (all_heads grid Main Upper u) i ls)
-      ≤ℤ (net_outflow i network.links.list assignment.flows +ℤ pos (link_ends i ls * (S * 10))))
+      ≤ℤ (net_outflow i project.links.list assignment.flows +ℤ pos (link_ends i ls * (S * 10))))
       (sym c.is_grid.links_are) sums in
-      let leaves = outflow-follows-below network time S p.junction p.here (head_at u i) (head_at assignment.heads i)
+      let leaves = outflow-follows-below project time S p.junction p.here (head_at u i) (head_at assignment.heads i)
       (flow_at assignment.demands i) (flow_at assignment.emitters i) c.some p.holds
       (emitter_at grid.junctions i p.here c.sound.emitters p.is_here)
       (omega (arith, ints, beyond)) obeys.demand obeys.emitter in
       upper-miss S (link_ends i grid.links) (net low high (all_heads grid Main Upper u) i grid.links)
       (outflow_low p.here (head_at u i))
-      (net_outflow i network.links.list assignment.flows)
+      (net_outflow i project.links.list assignment.flows)
       (flow_at assignment.demands i +ℤ flow_at assignment.emitters i) (drawn i)
       turned leaves (let b = obeys.balance.low in omega (arith, ints, b))
   within-margin Lower u i p farthest beyond =
       let obeys = c.assigned.junctions_obey i p.junction p.is_junction in
-      let sums = sum-lower network tanks S heads (all_heads grid Main Lower u) i c.some
+      let sums = sum-lower project tanks S heads (all_heads grid Main Lower u) i c.some
       (as-dip S heads (all_heads grid Main Lower u) i farthest)
-      network.links.list links assignment.flows c.assigned.links_follow sound-links in
-      let turned = subst (λ (ls : List GridLink). net_outflow i network.links.list assignment.flows
+      project.links.list links assignment.flows c.assigned.links_follow sound-links in
+      let turned = subst (λ (ls : List GridLink). net_outflow i project.links.list assignment.flows
       ≤ℤ ((pos S *ℤ net high low (all_heads grid Main Lower u) i ls) +ℤ pos (link_ends i ls * (S * 10))))
       (sym c.is_grid.links_are) sums in
-      let leaves = outflow-follows-above network time S p.junction p.here (head_at u i) (head_at assignment.heads i)
+      let leaves = outflow-follows-above project time S p.junction p.here (head_at u i) (head_at assignment.heads i)
       (flow_at assignment.demands i) (flow_at assignment.emitters i) c.some p.holds
       (emitter_at grid.junctions i p.here c.sound.emitters p.is_here)
       (let e = ahead-lack S assignment.heads u i in omega (arith, ints, beyond, e)) obeys.demand obeys.emitter in
       lower-miss S (link_ends i grid.links) (net high low (all_heads grid Main Lower u) i grid.links)
       (outflow_high p.here (head_at u i))
-      (net_outflow i network.links.list assignment.flows)
+      (net_outflow i project.links.list assignment.flows)
       (flow_at assignment.demands i +ℤ flow_at assignment.emitters i) (drawn i)
       turned leaves (let b = obeys.balance.high in omega (arith, ints, b))
 
   -- so nothing is drawn where it passes
   no-pass : (side : Side) (u : List ℤ) (i : ℕ)
-      (p : IsPlace (IsJunctionOf network time) network.junctions.list grid.junctions i)
+      (p : IsPlace (IsJunctionOf project time) project.junctions.list grid.junctions i)
       → IsFarthest side S heads (all_heads grid Main side u) i → pos 0 ≤ℤ ahead side S assignment.heads u i
       → (i == place) ≡ false → Passes grid Main side u i p.here → ⊥
   no-pass side u i p farthest beyond elsewhere passes =
@@ -183,14 +183,14 @@ module _ (network : Project) (S time : ℕ) (intervals : List Interval) (levels 
   fixed-ahead : (side : Side) (t : ℤ) → pos 0 ≤ℤ t → (m : ℕ)
       → ahead side S
       (map (λ r. at_scale S
-      (reservoir_head network time r)) network.reservoirs.list ++ tank_heads S network.tanks.list levels)
+      (reservoir_head project time r)) project.reservoirs.list ++ tank_heads S project.tanks.list levels)
       (fixed_heads grid Main side) m ≤ℤ t
-  fixed-ahead Upper t some m = fixed_below network S time intervals levels tanks links grid t c.is_grid c.lie some m
+  fixed-ahead Upper t some m = fixed_below project S time intervals levels tanks links grid t c.is_grid c.lie some m
   fixed-ahead Lower t some m =
-      let f = fixed_above network S time intervals levels tanks links grid t c.is_grid c.lie some m in
+      let f = fixed_above project S time intervals levels tanks links grid t c.is_grid c.lie some m in
       let e = ahead-lack S
       (map (λ r. at_scale S
-      (reservoir_head network time r)) network.reservoirs.list ++ tank_heads S network.tanks.list levels)
+      (reservoir_head project time r)) project.reservoirs.list ++ tank_heads S project.tanks.list levels)
       (fixed_heads grid Main Lower) m in
       omega (arith, ints, f, e)
 
@@ -220,7 +220,7 @@ module _ (network : Project) (S time : ℕ) (intervals : List Interval) (levels 
         | inr ne ↦
             let long = certificate.one_each in
             let below = best.below in
-            let p = place_at (IsJunctionOf network time) network.junctions.list grid.junctions c.is_grid.junctions i
+            let p = place_at (IsJunctionOf project time) project.junctions.list grid.junctions c.is_grid.junctions i
             (omega (arith, below, same, long)) in
             let ahead_i : pos 0 ≤ℤ ahead side S assignment.heads u i = omega (arith, ints, most, beyond) in
             absurd (no-pass side u i p (farthest-of side u i same ahead_i best) ahead_i (ne_eqb i place ne)

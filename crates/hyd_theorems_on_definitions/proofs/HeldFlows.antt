@@ -40,9 +40,9 @@ at-head grid side place h u here certificate at =
 
 -- ---- under a draw
 
-module _ (network : Project) (S time : ℕ) (intervals : List Interval) (levels : List ℤ) (tanks : List TankState)
+module _ (project : Project) (S time : ℕ) (intervals : List Interval) (levels : List ℤ) (tanks : List TankState)
     (links : List LinkState) (place : ℕ) (q : ℤ) (assignment : Assignment) (grid : Grid)
-    (c : IsComparedDrawing network S time intervals levels tanks links place q assignment grid) where
+    (c : IsComparedDrawing project S time intervals levels tanks links place q assignment grid) where
   -- the balance of a vector at a junction, with the draw with which it passes
   with-draw : (side : Side) (u : List ℤ) (i : ℕ) (here : GridJunction)
       → along side (pos S *ℤ passing_draw grid side u i here)
@@ -64,19 +64,19 @@ module _ (network : Project) (S time : ℕ) (intervals : List Interval) (levels 
       let stands = at-head grid side place h u here certificate at in
       let own = certificate.one_each in
       let each = c.assigned.head_each in
-      let long = place_long (IsJunctionOf network time) network.junctions.list grid.junctions c.is_grid.junctions in
+      let long = place_long (IsJunctionOf project time) project.junctions.list grid.junctions c.is_grid.junctions in
       let inside = slice_get_within grid.junctions place here at in
       let same : length assignment.heads ≡ length u = omega (arith, own, each, long) in
       let turned = along-times side S (head_at u place) in
       let there = ap (λ (z : ℤ). along side (pos S *ℤ z)) stands in
       let beyond : pos 0 ≤ℤ ahead side S assignment.heads u place = omega (arith, ints, ge, turned, there) in
       let farthest =
-      held-farthest network S time intervals levels tanks links place q assignment grid c side h u certificate
+      held-farthest project S time intervals levels tanks links place q assignment grid c side h u certificate
       (omega (arith, inside, each, long)) same beyond in
       let p = place-at place here inside at in
       let within = subst (λ (j : GridJunction). along side ((pos S *ℤ net_on grid side u place j) +ℤ where_so
       (place == place) q) ≤ℤ (pos S *ℤ margin grid place))
-      p.1 (within-margin network S time intervals levels tanks links place q assignment grid c side u place p.0
+      p.1 (within-margin project S time intervals levels tanks links place q assignment grid c side u place p.0
       farthest beyond) in
       let draws : where_so (place == place) q ≡ q = ap (λ (b : Bool). where_so b q) (eq-eqb place place refl) in
       let drawn_along = ap (along side) draws in
@@ -97,19 +97,19 @@ module _ (network : Project) (S time : ℕ) (intervals : List Interval) (levels 
       )))
     where
       place-at : (i : ℕ) (here : GridJunction) → i < length grid.junctions → slice_get grid.junctions i ≡ Some here
-          → (p : IsPlace (IsJunctionOf network time) network.junctions.list grid.junctions i) × (p.here ≡ here)
+          → (p : IsPlace (IsJunctionOf project time) project.junctions.list grid.junctions i) × (p.here ≡ here)
       place-at i here inside at =
           let p = place_at
-          (IsJunctionOf network time) network.junctions.list grid.junctions c.is_grid.junctions i inside in
+          (IsJunctionOf project time) project.junctions.list grid.junctions c.is_grid.junctions i inside in
           (p, (let e = p.is_here in let same : p.here ≡ here = cc in same))
 
 -- ---- without one
 
-undrawn : (network : Project) (S time : ℕ) (intervals : List Interval) (levels : List ℤ) (tanks : List TankState)
+undrawn : (project : Project) (S time : ℕ) (intervals : List Interval) (levels : List ℤ) (tanks : List TankState)
     (links : List LinkState) (place : ℕ) (assignment : Assignment) (grid : Grid)
-    → IsCompared network S time intervals levels tanks links assignment grid
-    → IsComparedDrawing network S time intervals levels tanks links place (pos 0) assignment grid
-undrawn network S time intervals levels tanks links place assignment grid c = record {
+    → IsCompared project S time intervals levels tanks links assignment grid
+    → IsComparedDrawing project S time intervals levels tanks links place (pos 0) assignment grid
+undrawn project S time intervals levels tanks links place assignment grid c = record {
   some = c.some;
   is_grid = c.is_grid;
   sound = c.sound;
@@ -126,8 +126,8 @@ undrawn network S time intervals levels tanks links place assignment grid c = re
   };
 }
   where
-    obeys : (b : Bool) (j : ℕ) (junction : Junction) → JunctionObeys network time S assignment j junction
-        → JunctionObeysDrawing network time S assignment (where_so b (pos 0)) j junction
+    obeys : (b : Bool) (j : ℕ) (junction : Junction) → JunctionObeys project time S assignment j junction
+        → JunctionObeysDrawing project time S assignment (where_so b (pos 0)) j junction
     obeys true j junction is = record {
       demand = is.demand;
       emitter = is.emitter;
@@ -147,12 +147,12 @@ undrawn network S time intervals levels tanks links place assignment grid c = re
       };
     }
 
-module _ (network : Project) (S time : ℕ) (intervals : List Interval) (levels : List ℤ) (tanks : List TankState)
+module _ (project : Project) (S time : ℕ) (intervals : List Interval) (levels : List ℤ) (tanks : List TankState)
     (links : List LinkState) (assignment : Assignment) (grid : Grid)
-    (c : IsCompared network S time intervals levels tanks links assignment grid) where
+    (c : IsCompared project S time intervals levels tanks links assignment grid) where
   same-long : (u : List ℤ) → length u ≡ length grid.junctions → length assignment.heads ≡ length u
   same-long u own =
-      let long = place_long (IsJunctionOf network time) network.junctions.list grid.junctions c.is_grid.junctions in
+      let long = place_long (IsJunctionOf project time) project.junctions.list grid.junctions c.is_grid.junctions in
       let each = c.assigned.head_each in
       omega (arith, own, long, each)
 
@@ -161,13 +161,13 @@ module _ (network : Project) (S time : ℕ) (intervals : List Interval) (levels 
       (Some (record { junction = place; head = h })) grid Main side u
       → place < length grid.junctions → m < length grid.junctions → pos 0 ≤ℤ ahead side S assignment.heads u place
       → (pos S *ℤ (along side (head_at u place) -ℤ along side (head_at u m)))
-      ≤ℤ (along side (head_at (node_heads network S time levels assignment.heads) place) -ℤ along side
-      (head_at (node_heads network S time levels assignment.heads) m))
+      ≤ℤ (along side (head_at (node_heads project S time levels assignment.heads) place) -ℤ along side
+      (head_at (node_heads project S time levels assignment.heads) m))
   difference-along side place m h u certificate from to beyond =
       let same = same-long u certificate.one_each in
       let own = certificate.one_each in
-      let f = held-farthest network S time intervals levels tanks links place (pos 0) assignment grid
-      (undrawn network S time intervals levels tanks links place assignment grid c) side h u certificate
+      let f = held-farthest project S time intervals levels tanks links place (pos 0) assignment grid
+      (undrawn project S time intervals levels tanks links place assignment grid c) side h u certificate
       (omega (arith, from, same, own)) same beyond m in
       let p = ap (along side) (head_front u (fixed_heads grid Main side) place (omega (arith, from, own))) in
       let r = ap (along side) (head_front u (fixed_heads grid Main side) m (omega (arith, to, own))) in
@@ -176,10 +176,10 @@ module _ (network : Project) (S time : ℕ) (intervals : List Interval) (levels 
       omega (arith, ints, f, sp, sr, times_minus S (along side (head_at u place)) (along side (head_at u m)))
 
   follows-at : (l : ℕ) (link : GridLink) → slice_get grid.links l ≡ Some link
-      → IsFollowed S (node_heads network S time levels assignment.heads) link (flow_at assignment.flows l)
+      → IsFollowed S (node_heads project S time levels assignment.heads) link (flow_at assignment.flows l)
   follows-at l link is =
-      followed_at network tanks S
-      (node_heads network S time levels assignment.heads) network.links.list links assignment.flows
+      followed_at project tanks S
+      (node_heads project S time levels assignment.heads) project.links.list links assignment.flows
       c.assigned.links_follow
       (subst (λ (ls : List GridLink). AllByRecursion (λ (link : GridLink).
       IsSoundLaw link.law) ls) c.is_grid.links_are c.sound.links)
@@ -213,10 +213,10 @@ module _ (network : Project) (S time : ℕ) (intervals : List Interval) (levels 
   }
     where
       x : ℤ
-      x = head_at (node_heads network S time levels assignment.heads) link.from -ℤ head_at
-          (node_heads network S time levels assignment.heads) link.to
+      x = head_at (node_heads project S time levels assignment.heads) link.from -ℤ head_at
+          (node_heads project S time levels assignment.heads) link.to
 
-      f : IsFollowed S (node_heads network S time levels assignment.heads) link (flow_at assignment.flows l)
+      f : IsFollowed S (node_heads project S time levels assignment.heads) link (flow_at assignment.flows l)
       f = follows-at l link is
 
       here : (junction : GridJunction) × (slice_get grid.junctions link.from ≡ Some junction)
@@ -228,7 +228,7 @@ module _ (network : Project) (S time : ℕ) (intervals : List Interval) (levels 
       ahead-below : pos 0 ≤ℤ ahead Upper S assignment.heads held_above link.from
       ahead-below =
           let over_it =
-          above_main network S time intervals levels tanks links assignment grid below c under link.from _
+          above_main project S time intervals levels tanks links assignment grid below c under link.from _
           (slice_get-get_or assignment.heads link.from (pos 0) inside) in
           let e = ap (λ (z : ℤ). pos S *ℤ z) (at-head grid Upper link.from
           (head_at below link.from) held_above here.0 upper here.1) in
@@ -237,25 +237,25 @@ module _ (network : Project) (S time : ℕ) (intervals : List Interval) (levels 
       ahead-above : pos 0 ≤ℤ ahead Lower S assignment.heads held_below link.from
       ahead-above =
           let under_it =
-          below_main network S time intervals levels tanks links assignment grid above c over link.from _
+          below_main project S time intervals levels tanks links assignment grid above c over link.from _
           (slice_get-get_or assignment.heads link.from (pos 0) inside) in
           let e = ap (λ (z : ℤ). pos S *ℤ z) (at-head grid Lower link.from
           (head_at above link.from) held_below here.0 lower here.1) in
           let turned = times_neg S (head_at held_below link.from) in
           omega (arith, ints, under_it, e, turned)
 
-pub held_flow : (network : Project) (S time : ℕ) (intervals : List Interval) (levels : List ℤ) (tanks : List TankState)
+pub held_flow : (project : Project) (S time : ℕ) (intervals : List Interval) (levels : List ℤ) (tanks : List TankState)
     (links : List LinkState) (assignment : Assignment) (grid : Grid) (below above held_below held_above : List ℤ)
     (l : ℕ)
-    (link : GridLink) → IsCompared network S time intervals levels tanks links assignment grid
+    (link : GridLink) → IsCompared project S time intervals levels tanks links assignment grid
     → IsCertificate grid Main Lower below → IsCertificate grid Main Upper above
     → slice_get grid.links l ≡ Some link → link.from < length grid.junctions → link.to < length grid.junctions
     → IsCertificateHolding (Some (held_in above link.from)) grid Main Lower held_below
     → IsCertificateHolding (Some (held_in below link.from)) grid Main Upper held_above
     → LiesIn S (held_flow_box link held_below held_above) (flow_at assignment.flows l)
-held_flow network S time intervals levels tanks links assignment grid below above held_below held_above l link c under
+held_flow project S time intervals levels tanks links assignment grid below above held_below held_above l link c under
     over is
     from to lower upper =
-    held_flow_lies network S time intervals levels tanks links assignment grid c below above held_below held_above
+    held_flow_lies project S time intervals levels tanks links assignment grid c below above held_below held_above
     under over l
     link is from to lower upper

@@ -1,7 +1,7 @@
 -- Values at two scales: one in T-th parts at most another in U-th parts.
 use Rattle.std.proofs.Common.{◌≡◌, ℕ, ◌*◌, ◌<◌, ℤ, pos, ◌*ℤ◌, ◌≤ℤ◌, sym, ap, subst, ◌∙◌, arith}
 use Rattle.std.proofs.lemmas.Int.{ints}
-use Rattle.hyd_num.proofs.Integers.{times_rises, times_reflects, times_times}
+use Rattle.hyd_num.proofs.Integers.{times_rises, times_reflects, times_times, one_times}
 use Rattle.hyd_num.specs.Rational.{Rational}
 use Rattle.hyd_lemmas.proofs.Integers.{exchanged}
 
@@ -35,9 +35,6 @@ through T U r s v most least = record {
       *ℤ (pos T *ℤ (pos s.den *ℤ (pos U *ℤ v))) = moved s.den U r.den T v in
       omega (arith, ints, a, b, same);
 }
-
-pub one_times : (z : ℤ) → pos 1 *ℤ z ≡ z
-one_times z = omega (arith, ints)
 
 pub one-within : (n : ℕ) (z : ℤ) → pos n *ℤ (pos 1 *ℤ z) ≡ pos n *ℤ z
 one-within n z = ap (λ (w : ℤ). pos n *ℤ w) (one_times z)

@@ -3,7 +3,7 @@ use Rattle.std.proofs.Common.{◌≡◌, ℕ, suc, ◌*◌, ◌^◌, ◌<◌, �
 use Rattle.std.proofs.Common.{◌∙◌, arith, Bool, true, false, mul-pos, List, [], ◌∷◌}
 use Rattle.std.specs.Prelude.{Some, int_le, if◌then◌else◌, map, AllPairs}
 use Rattle.std.proofs.lemmas.Int.{ints}
-use Rattle.hyd_num.proofs.Integers.{times_plus, times_rises, times_reflects, times_times}
+use Rattle.hyd_num.proofs.Integers.{times_plus, times_rises, times_reflects, times_times, one_times}
 use Rattle.hyd_num.specs.Rational.{Rational, whole}
 use Rattle.hyd_net.specs.Curves.{Knot, value_at, AreRising}
 use Rattle.hyd_spec.specs.ProgramTypes.{Tank, VolumePoint}
@@ -18,20 +18,15 @@ use Rattle.hyd_spec_certificates.specs.Stocks.{Stocks, least_stock, greatest_sto
 use Rattle.hyd_spec_certificates.specs.Stocks.{lower_level, upper_level, contents_after, carried_levels, levels_at}
 use Rattle.hyd_spec_certificates.specs.Stocks.{next_stocks, shared_state, state_of}
 use Rattle.hyd_theorems_on_definitions.specs.TermsOfTheorems.{LiesIn, LiesAround, IsVessel, HoldWater, StockLies}
-use Rattle.hyd_theorems_on_definitions.specs.TermsOfTheorems.{AreInside}
-use Rattle.hyd_theorems_on_definitions.specs.TermsOfTheorems.{IsInside}
-use Rattle.hyd_theorems_on_definitions.specs.TermsOfTheorems.{IsWithin}
-use Rattle.hyd_theorems_on_definitions.specs.TermsOfTheorems.{HasStock}
+use Rattle.hyd_theorems_on_definitions.specs.TermsOfTheorems.{AreInside, IsInside, IsWithin, HasStock}
 use Rattle.hyd_lemmas.proofs.Integers.{exchanged}
-use Rattle.hyd_theorems_on_definitions.proofs.Outflows.{le-yes}
-use Rattle.hyd_theorems_on_definitions.proofs.Leading.{Leads, one_times}
+use Rattle.hyd_lemmas.proofs.Trials.{le-from, le-yes}
+use Rattle.hyd_theorems_on_definitions.proofs.Leading.{Leads}
 use Rattle.hyd_theorems_on_definitions.proofs.RisingLines.{AreClimbing, from-rises, some-den}
-use Rattle.hyd_theorems_on_definitions.proofs.Placing.{le-from, Fits, FitsAt, ends-ordered, lower-least, lower-most}
-use Rattle.hyd_theorems_on_definitions.proofs.Placing.{upper-least}
+use Rattle.hyd_theorems_on_definitions.proofs.Placing.{Fits, FitsAt, ends-ordered, lower-least, lower-most, upper-least}
 use Rattle.hyd_theorems_on_definitions.proofs.Placing.{upper-most, next-low, next-high, placed-low, placed-high}
-use Rattle.hyd_theorems_on_definitions.proofs.Placing.{lower-rises}
-use Rattle.hyd_theorems_on_definitions.proofs.Placing.{upper-rises, placed-rises, placed-most, placed-least}
-use Rattle.hyd_theorems_on_definitions.proofs.Placing.{placed-some}
+use Rattle.hyd_theorems_on_definitions.proofs.Placing.{lower-rises, upper-rises, placed-rises, placed-most}
+use Rattle.hyd_theorems_on_definitions.proofs.Placing.{placed-least, placed-some}
 
 -- ---- levels by a volume curve
 

@@ -39,3 +39,4 @@ pub mod OneRefusal
 pub mod Vessels
 pub mod CurveLevels
 pub mod Targets
+pub mod HeadLists

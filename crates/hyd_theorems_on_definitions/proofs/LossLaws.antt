@@ -2,7 +2,6 @@
 use Rattle.std.proofs.Common.{◌≡◌, ◌≢◌, ℕ, zero, suc, ◌-◌, ◌*◌, ◌^◌, ◌<◌, ◌≤◌, Bool, true, false, ℤ, pos, ◌-ℤ◌}
 use Rattle.std.proofs.Common.{unsigned_abs, refl, ap, ◌∙◌, arith, mul-pos, pow-suc, inl, inr}
 use Rattle.std.proofs.Math.Nat.{mul-le-mul_right, mul-le-mul_left, le_of_mul-le-mul_right, one-le-pow, pow-lt-pow_left}
-use Rattle.std.proofs.Math.Nat.{mul-sub, mul_comm}
 use Rattle.std.proofs.lemmas.Nat.{mul-pow, mul-le}
 use Rattle.std.proofs.lemmas.Bool.{cases_lt}
 use Rattle.hyd_num.specs.Fraction.{Fraction, fraction, times, minus, power, AtMost}
@@ -12,11 +11,13 @@ use Rattle.hyd_num.specs.declared.flow_units.FlowUnit.{FlowUnit}
 use Rattle.hyd_num.specs.declared.flow_units.FlowUnit.TheVariants.{Cfs, Gpm, Mgd, Imgd, Afd, Lps, Lpm, Mld, Cmh, Cmd}
 use Rattle.hyd_num.specs.FileQuantity.{billionths, feet, feet_across, is_us_unit, head_ticks, flow_factor}
 use Rattle.hyd_num.specs.FileQuantity.{flow_fraction}
-use Rattle.hyd_num.specs.FileQuantity.{pressure_fraction}
 use Rattle.hyd_spec.specs.ProgramTypes.{Origin, Pipe, Valve, Pump, Emitter, PressureDemand}
 use Rattle.hyd_spec.specs.Law.{loss_at_most, loss_at_least, pump_resistance, emitter_resistance, pressure_resistance}
 use Rattle.hyd_lemmas.proofs.Fractions.{AtMost-along, times-rises, power-rises, AtMost-itself}
 use Rattle.hyd_theorems_on_definitions.specs.TermsOfTheorems.{IsLossLaw, HasPositiveNumbers}
+use Rattle.hyd_lemmas.proofs.Losses.{difference_times}
+use Rattle.hyd_lemmas.proofs.FeetLost.{feet_above}
+use Rattle.hyd_lemmas.proofs.PressurePairs.{pressure-some}
 use Rattle.hyd_theorems_on_definitions.proofs.Roots.{square_reflects}
 use Rattle.hyd_spec.specs.Loss.{SquareLossAtMost, SquareLossAtLeast, ValveLossAtMost, ValveLossAtLeast, PipeLossAtMost}
 use Rattle.hyd_spec.specs.Loss.{PipeLossAtLeast, head_in_feet, flow_in_cfs, friction, minor_loss}
@@ -59,9 +60,6 @@ factor-reflects m f g some above h = record {
       omega (arith, h.crossed) in l)
       (mul-pos some above);
 }
-
-difference_times : (a b k : ℕ) → (a - b) * k ≡ a * k - b * k
-difference_times a b k = mul_comm (a - b) k ∙ mul-sub k a b ∙ omega arith
 
 minus-falls : (h m f g : Fraction) → AtMost f g → AtMost (minus h (times m g)) (minus h (times m f))
 minus-falls h m f g le = record {
@@ -189,17 +187,13 @@ across-above : (us : Bool) (v : ℕ) → 0 < (feet_across us v).den
 across-above true v = omega arith
 across-above false v = omega arith
 
-feet-above : (us : Bool) (v : ℕ) → 0 < (feet us v).den
-feet-above true v = omega arith
-feet-above false v = omega arith
-
 feet-any : (us : Bool) (v : ℕ) → 0 < v → 0 < (feet us v).num
 feet-any true v above = above
 feet-any false v above = omega arith
 
 friction-above : (us : Bool) (length roughness : Decimal) → 0 < (friction us length roughness).den
 friction-above us length roughness = mul-pos (let a : 0 < 100 * (10 ^ 9) ^ 2 = omega arith in
-    a) (feet-above us (billionths length))
+    a) (feet_above us (billionths length))
 
 friction-any : (us : Bool) (length roughness : Decimal) → 0 < billionths length → 0 < billionths roughness
     → 0 < (friction us length roughness).num
@@ -284,10 +278,6 @@ factor-above Cmd = omega arith
 flow-above : (unit : FlowUnit) (v : ℕ) → 0 < (power (flow_fraction unit v) 2).den
 flow-above unit v = one-le-pow 2 (100 * (flow_factor unit).den) (mul-pos (omega arith) (factor-above unit))
 
-pressure-any : (us : Bool) (v : ℕ) → 0 < v → 0 < (pressure_fraction us v).num
-pressure-any true v above = omega arith
-pressure-any false v above = omega arith
-
 -- the loss of numbers that are above 0 where they have to be
 pub IsLossLaw-origin : (origin : Origin) → HasPositiveNumbers origin
     → IsLossLaw (loss_at_most origin) (loss_at_least origin)
@@ -297,7 +287,7 @@ IsLossLaw-origin (Valve diameter k us) h = IsLossLaw-valve us diameter k h.0 h.1
 IsLossLaw-origin (Pump flow drop thirds unit) h = IsLossLaw-square (pump_resistance flow drop thirds unit)
     (mul-pos (ticks-any (is_us_unit unit) drop.nano h) (flow-above unit (billionths flow)))
 IsLossLaw-origin (Emitter coefficient unit) h = IsLossLaw-square (emitter_resistance coefficient unit)
-    (mul-pos (pressure-any (is_us_unit unit) (10 ^ 9) (omega arith)) (flow-above unit (billionths coefficient)))
+    (mul-pos (pressure-some (is_us_unit unit) (10 ^ 9) (omega arith)) (flow-above unit (billionths coefficient)))
 IsLossLaw-origin (PressureDemand demand minimum required us) h = IsLossLaw-square
     (pressure_resistance demand minimum required us)
-    (mul-pos (pressure-any us (unsigned_abs (required.nano -ℤ minimum.nano)) h) (omega arith))
+    (mul-pos (pressure-some us (unsigned_abs (required.nano -ℤ minimum.nano)) h) (omega arith))

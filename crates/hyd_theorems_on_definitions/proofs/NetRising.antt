@@ -1,7 +1,7 @@
 -- At the node where one vector of heads exceeds another by most, more flows out under it.
 use Rattle.std.proofs.Common.{◌≡◌, ℕ, zero, suc, ◌<◌, ℤ, ◌-ℤ◌, ◌≤ℤ◌, refl, subst, arith, Bool, true, false, ◌==◌, List}
 use Rattle.std.proofs.Common.{[], ◌∷◌, length}
-use Rattle.std.specs.Prelude.{Option, Some, slice_get}
+use Rattle.std.specs.Prelude.{Some, slice_get}
 use Rattle.std.specs.List.{AllByRecursion}
 use Rattle.std.proofs.lemmas.Int.{ints}
 use Rattle.hyd_spec.specs.Law.{Law}
@@ -10,6 +10,7 @@ use Rattle.hyd_spec_certificates.specs.EnclosingFunctions.{low, high}
 use Rattle.hyd_spec_certificates.specs.PeriodNetwork.{GridLink, GridJunction}
 use Rattle.hyd_spec_certificates.specs.NetOutflow.{net, outflow_low, outflow_high}
 use Rattle.hyd_theorems_on_definitions.specs.TermsOfTheorems.{IsSoundLaw, IsSoundDemand}
+use Rattle.hyd_lemmas.proofs.ListsAndOptions.{same_item}
 use Rattle.hyd_theorems_on_definitions.proofs.EachLaw.{IsLaw-each}
 use Rattle.hyd_theorems_on_definitions.proofs.Rising.{AreRising-demand, AreRising-emitter}
 
@@ -94,9 +95,6 @@ outflow-rises here h k sound le =
     omega (arith, ints, a, b, c)
 
 -- ---- an item of a list
-
-pub same_item : (X : Type 0) (x y : X) → ◌≡◌ {A = Option X} (Some x) (Some y) → x ≡ y
-same_item X x y e = cc
 
 pub demand-at : (js : List GridJunction) (i : ℕ) (here : GridJunction)
     → AllByRecursion (λ (j : GridJunction). IsSoundDemand j.demand) js → slice_get js i ≡ Some here

@@ -30,32 +30,32 @@ found_passes : (X : Type 0) (test : X → Bool) (xs : List X) (k : ℕ) (d : X) 
     → list_any test xs ≡ true
 found_passes X test xs k d e = let found = position-Some test xs k d e in any_here X test xs k d found.0 found.1
 
-module _ (network : Project) (grid : Grid) (standing : Standing) (row : Record) where
+module _ (project : Project) (grid : Grid) (standing : Standing) (row : Record) where
   abbrev pub Ends : End → Type 0
-  Ends e = EndsBy network grid standing row e
+  Ends e = EndsBy project grid standing row e
 
   -- rules matter by the earliest end or they don't
-  not_both : (s e : ℕ) → IsFirstMatter network grid standing row s → NoRuleMatters network grid standing row e → ⊥
+  not_both : (s e : ℕ) → IsFirstMatter project grid standing row s → NoRuleMatters project grid standing row e → ⊥
   not_both s e m n =
       let same = least_is_one _ m.earliest e m.is_earliest n.is_earliest in
       let l = n.none s m.first.holds in
       let within = m.in_time in
       omega (arith, same, l, within)
 
-  not_open : (s t : ℕ) (open_rule : OpenRule) → IsFirstMatter network grid standing row s
-      → IsFirstMatter network grid standing row t
-      → IsFalse (list_any is_unknown (rule_truths network grid standing row s))
-      → IsOpenRule network grid standing row t open_rule → ⊥
+  not_open : (s t : ℕ) (open_rule : OpenRule) → IsFirstMatter project grid standing row s
+      → IsFirstMatter project grid standing row t
+      → IsFalse (list_any is_unknown (rule_truths project grid standing row s))
+      → IsOpenRule project grid standing row t open_rule → ⊥
   not_open s t open_rule m n decided is =
       let same = least_is_one _ s t m.first n.first in
-      let found = found_passes _ is_unknown (rule_truths network grid standing row t) open_rule.rule Unknown
+      let found = found_passes _ is_unknown (rule_truths project grid standing row t) open_rule.rule Unknown
       is.first_rule in
-      let other = subst (λ (k : ℕ). list_any is_unknown (rule_truths network grid standing row k) ≡ false) same
+      let other = subst (λ (k : ℕ). list_any is_unknown (rule_truths project grid standing row k) ≡ false) same
       decided in
       cc
 
-  same_rule : (s : ℕ) (a b : OpenRule) → IsOpenRule network grid standing row s a
-      → IsOpenRule network grid standing row s b → a ≡ b
+  same_rule : (s : ℕ) (a b : OpenRule) → IsOpenRule project grid standing row s a
+      → IsOpenRule project grid standing row s b → a ≡ b
   same_rule s a b x y =
       let rule : a.rule ≡ b.rule = (let p = x.first_rule in let q = y.first_rule in cc) in
       let rules : x.rule ≡ y.rule = (let p = x.is_rule in let q = y.is_rule in cc) in
@@ -63,10 +63,10 @@ module _ (network : Project) (grid : Grid) (standing : Standing) (row : Record) 
       let each : x.clause_is.each ≡ y.clause_is.each = (let p = x.clause_is.is_clause in
       let q = y.clause_is.is_clause in cc) in
       let lo : a.lo ≡ b.lo = x.clause_is.lo_is
-      ∙ (ap (λ (c : RuleClause). floor (measured network 1 (readings_below network grid standing row s)
+      ∙ (ap (λ (c : RuleClause). floor (measured project 1 (readings_below project grid standing row s)
       c.clause.what)) each ∙ sym y.clause_is.lo_is) in
       let hi : a.hi ≡ b.hi = x.clause_is.hi_is
-      ∙ (ap (λ (c : RuleClause). ceiling (measured network 1 (readings_above network grid standing row s)
+      ∙ (ap (λ (c : RuleClause). ceiling (measured project 1 (readings_above project grid standing row s)
       c.clause.what)) each ∙ sym y.clause_is.hi_is) in
       λ i. record { rule = rule i; clause = clause i; lo = lo i; hi = hi i }
 
@@ -80,7 +80,7 @@ module _ (network : Project) (grid : Grid) (standing : Standing) (row : Record) 
   one_end _ _ (rule_is_open {seconds = s} {open_rule = o} m is) (by_rules {seconds = t} n g) =
       absurd (not_open t s o n m g is)
   one_end _ _ (rule_is_open {seconds = s} {open_rule = a} m is) (rule_is_open {seconds = t} {open_rule = b} n too) =
-      ap RuleIsOpen (same_rule s a b is (subst (λ (k : ℕ). IsOpenRule network grid standing row k b)
+      ap RuleIsOpen (same_rule s a b is (subst (λ (k : ℕ). IsOpenRule project grid standing row k b)
       (sym (least_is_one _ s t m.first n.first)) too))
   one_end _ _ (rule_is_open {seconds = s} m is) (by_clock {second = e} n l) = absurd (not_both s e m n)
   one_end _ _ (rule_is_open {seconds = s} m is) (event_is_open {earliest = e} n l ne) = absurd (not_both s e m n)

@@ -11,13 +11,13 @@ use Rattle.hyd_spec_certificates.specs.Valid.{LeavesLinks, by_rules as left_by_r
 use Rattle.hyd_spec_certificates.specs.Valid.{LeadsOn, continues, finishes}
 use Rattle.hyd_theorems_on_definitions.proofs.OneAnswer.{one_end}
 
-module _ (network : Project) (grid : Grid) (standing : Standing) where
+module _ (project : Project) (grid : Grid) (standing : Standing) where
   -- the same record with another length
   abbrev again : Record → ℕ → Record
   again row m = record row { length = m }
 
-  may_again : (row : Record) (m s : ℕ) → SomeMayReach network grid standing row s
-      → SomeMayReach network grid standing (again row m) s
+  may_again : (row : Record) (m s : ℕ) → SomeMayReach project grid standing row s
+      → SomeMayReach project grid standing (again row m) s
   may_again row m s r = record {
     watch = r.watch;
     is_watched = r.is_watched;
@@ -26,8 +26,8 @@ module _ (network : Project) (grid : Grid) (standing : Standing) where
     reached = r.reached;
   }
 
-  must_again : (row : Record) (m s : ℕ) → SomeMustReach network grid standing row s
-      → SomeMustReach network grid standing (again row m) s
+  must_again : (row : Record) (m s : ℕ) → SomeMustReach project grid standing row s
+      → SomeMustReach project grid standing (again row m) s
   must_again row m s r = record {
     watch = r.watch;
     is_watched = r.is_watched;
@@ -36,40 +36,40 @@ module _ (network : Project) (grid : Grid) (standing : Standing) where
     reached = r.reached;
   }
 
-  matters_again : (row : Record) (m s : ℕ) → RulesMatter network grid standing row s
-      → RulesMatter network grid standing (again row m) s
+  matters_again : (row : Record) (m s : ℕ) → RulesMatter project grid standing row s
+      → RulesMatter project grid standing (again row m) s
   matters_again row m s r = record { tried = r.tried; matters = r.matters }
 
-  may_end_again : (row : Record) (m s : ℕ) → IsClockLength network standing.time s
-      ⊎ ((1 ≤ s) × SomeMayReach network grid standing row s)
-      → IsClockLength network standing.time s ⊎ ((1 ≤ s) × SomeMayReach network grid standing (again row m) s)
+  may_end_again : (row : Record) (m s : ℕ) → IsClockLength project standing.time s
+      ⊎ ((1 ≤ s) × SomeMayReach project grid standing row s)
+      → IsClockLength project standing.time s ⊎ ((1 ≤ s) × SomeMayReach project grid standing (again row m) s)
   may_end_again row m s (inl c) = inl c
   may_end_again row m s (inr r) = inr (r.0, may_again row m s r.1)
 
-  must_end_again : (row : Record) (m s : ℕ) → IsClockLength network standing.time s
-      ⊎ ((1 ≤ s) × SomeMustReach network grid standing row s)
-      → IsClockLength network standing.time s ⊎ ((1 ≤ s) × SomeMustReach network grid standing (again row m) s)
+  must_end_again : (row : Record) (m s : ℕ) → IsClockLength project standing.time s
+      ⊎ ((1 ≤ s) × SomeMustReach project grid standing row s)
+      → IsClockLength project standing.time s ⊎ ((1 ≤ s) × SomeMustReach project grid standing (again row m) s)
   must_end_again row m s (inl c) = inl c
   must_end_again row m s (inr r) = inr (r.0, must_again row m s r.1)
 
-  earliest_again : (row : Record) (m e : ℕ) → IsEarliestEnd network grid standing row e
-      → IsEarliestEnd network grid standing (again row m) e
+  earliest_again : (row : Record) (m e : ℕ) → IsEarliestEnd project grid standing row e
+      → IsEarliestEnd project grid standing (again row m) e
   earliest_again row m e is =
       record {
         holds = may_end_again row m e is.holds;
         least = λ s ends. is.least s (may_end_again (again row m) row.length s ends);
       }
 
-  latest_again : (row : Record) (m e : ℕ) → IsLatestEnd network grid standing row e
-      → IsLatestEnd network grid standing (again row m) e
+  latest_again : (row : Record) (m e : ℕ) → IsLatestEnd project grid standing row e
+      → IsLatestEnd project grid standing (again row m) e
   latest_again row m e is =
       record {
         holds = must_end_again row m e is.holds;
         least = λ s ends. is.least s (must_end_again (again row m) row.length s ends);
       }
 
-  first_again : (row : Record) (m s : ℕ) → IsFirstMatter network grid standing row s
-      → IsFirstMatter network grid standing (again row m) s
+  first_again : (row : Record) (m s : ℕ) → IsFirstMatter project grid standing row s
+      → IsFirstMatter project grid standing (again row m) s
   first_again row m s is = record {
     not_last = is.not_last;
     earliest = is.earliest;
@@ -81,16 +81,16 @@ module _ (network : Project) (grid : Grid) (standing : Standing) where
     };
   }
 
-  none_again : (row : Record) (m e : ℕ) → NoRuleMatters network grid standing row e
-      → NoRuleMatters network grid standing (again row m) e
+  none_again : (row : Record) (m e : ℕ) → NoRuleMatters project grid standing row e
+      → NoRuleMatters project grid standing (again row m) e
   none_again row m e is = record {
     not_last = is.not_last;
     is_earliest = earliest_again row m e is.is_earliest;
     none = λ s matters. is.none s (matters_again (again row m) row.length s matters);
   }
 
-  open_again : (row : Record) (m s : ℕ) (open_rule : OpenRule) → IsOpenRule network grid standing row s open_rule
-      → IsOpenRule network grid standing (again row m) s open_rule
+  open_again : (row : Record) (m s : ℕ) (open_rule : OpenRule) → IsOpenRule project grid standing row s open_rule
+      → IsOpenRule project grid standing (again row m) s open_rule
   open_again row m s open_rule is = record {
     first_rule = is.first_rule;
     rule = is.rule;
@@ -98,8 +98,8 @@ module _ (network : Project) (grid : Grid) (standing : Standing) where
     clause_is = is.clause_is;
   }
 
-  pub ends_again : (row : Record) (m : ℕ) (e : End) → EndsBy network grid standing row e
-      → EndsBy network grid standing (again row m) e
+  pub ends_again : (row : Record) (m : ℕ) (e : End) → EndsBy project grid standing row e
+      → EndsBy project grid standing (again row m) e
   ends_again row m _ (by_rules {seconds = s} is closed) = by_rules (first_again row m s is) closed
   ends_again row m _ (rule_is_open {seconds = s} {open_rule = o} is found) = rule_is_open (first_again row m s is)
       (open_again row m s o found)
@@ -112,26 +112,26 @@ module _ (network : Project) (grid : Grid) (standing : Standing) where
 
   -- How a period that isn't the last ends, by its length.
   data EndsAfter (row : Record) (n : ℕ) : Type 0 where
-    rules : EndsBy network grid standing row (ByRules n) → EndsAfter row n
-    clock : EndsBy network grid standing row (WithoutRules n) → EndsAfter row n
+    rules : EndsBy project grid standing row (ByRules n) → EndsAfter row n
+    clock : EndsBy project grid standing row (WithoutRules n) → EndsAfter row n
 
-  ends_after : (row : Record) (n : ℕ) (links : List LinkState) → LeavesLinks network grid standing row n links
+  ends_after : (row : Record) (n : ℕ) (links : List LinkState) → LeavesLinks project grid standing row n links
       → EndsAfter row n
   ends_after row n _ (left_by_rules e) = rules e
   ends_after row n _ (left_by_clock e) = clock e
 
   same_after : (row : Record) (n m : ℕ) → EndsAfter row n → EndsAfter (again row m) m → n ≡ m
-  same_after row n m (rules e) (rules f) = let same = one_end network grid standing row (ByRules n) (ByRules m) e
+  same_after row n m (rules e) (rules f) = let same = one_end project grid standing row (ByRules n) (ByRules m) e
       (ends_again (again row m) row.length (ByRules m) f) in cc
-  same_after row n m (rules e) (clock f) = absurd (let same = one_end network grid standing row (ByRules n)
+  same_after row n m (rules e) (clock f) = absurd (let same = one_end project grid standing row (ByRules n)
       (WithoutRules m) e (ends_again (again row m) row.length (WithoutRules m) f) in cc)
-  same_after row n m (clock e) (rules f) = absurd (let same = one_end network grid standing row (WithoutRules n)
+  same_after row n m (clock e) (rules f) = absurd (let same = one_end project grid standing row (WithoutRules n)
       (ByRules m) e (ends_again (again row m) row.length (ByRules m) f) in cc)
-  same_after row n m (clock e) (clock f) = let same = one_end network grid standing row (WithoutRules n)
+  same_after row n m (clock e) (clock f) = let same = one_end project grid standing row (WithoutRules n)
       (WithoutRules m) e (ends_again (again row m) row.length (WithoutRules m) f) in cc
 
-  pub one_length : (row : Record) (m : ℕ) (next other : Standing) → LeadsOn network grid standing row next
-      → LeadsOn network grid standing (again row m) other
+  pub one_length : (row : Record) (m : ℕ) (next other : Standing) → LeadsOn project grid standing row next
+      → LeadsOn project grid standing (again row m) other
       → row.length ≡ m
   one_length row m next other (continues c) (continues d) =
       same_after row row.length m (ends_after row row.length next.commanded c.leaves_links)

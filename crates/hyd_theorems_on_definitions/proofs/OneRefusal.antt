@@ -92,16 +92,16 @@ same-turn (Pinned k) (Pinned m) Upper Lower e = absurd (omega (arith, e))
 same-turn (Pinned k) (Pinned m) Lower Upper e = absurd (omega (arith, e))
 same-turn (Pinned k) (Pinned m) Lower Lower e = (ap Pinned (omega (arith, e)), refl)
 
-module _ (network : Project) (grid : Grid) (row : Record) where
-  first-fails : (p : Problem) (s : Side) (i : ℕ) → IsFirstToFail network grid row p s i → IsCertificate grid p s
+module _ (project : Project) (grid : Grid) (row : Record) where
+  first-fails : (p : Problem) (s : Side) (i : ℕ) → IsFirstToFail project grid row p s i → IsCertificate grid p s
       (vector_of row p s) → ⊥
   first-fails p s i first is = fails-no-certificate None grid p s (vector_of row p s) i first.fails is
 
   abbrev AreOne : Problem → Problem → Side → Side → ℕ → ℕ → Type 0
   AreOne p q s t i j = (p ≡ q) × ((s ≡ t) × (i ≡ j))
 
-  one-to-fail : (p q : Problem) (s t : Side) (i j : ℕ) → IsFirstToFail network grid row p s i
-      → IsFirstToFail network grid row q t j
+  one-to-fail : (p q : Problem) (s t : Side) (i j : ℕ) → IsFirstToFail project grid row p s i
+      → IsFirstToFail project grid row q t j
       → AreOne p q s t i j
   one-to-fail p q s t i j a b = elim (cases_lt (turn p s) (turn q t)) [
     | inl less ↦ absurd (first-fails p s i a (b.earlier p s a.is_problem less))
@@ -109,76 +109,76 @@ module _ (network : Project) (grid : Grid) (row : Record) where
       | inl less ↦ absurd (first-fails q t j b (a.earlier q t b.is_problem less))
       | inr le ↦
           let same = same-turn p q s t (omega (arith, ge, le)) in
-          let other : IsFirstToFail network grid row p s j = subst
-          (λ (r : Problem). IsFirstToFail network grid row r s j) (sym same.0)
-          (subst (λ (r : Side). IsFirstToFail network grid row q r j) (sym same.1) b) in
+          let other : IsFirstToFail project grid row p s j = subst
+          (λ (r : Problem). IsFirstToFail project grid row r s j) (sym same.0)
+          (subst (λ (r : Side). IsFirstToFail project grid row q r j) (sym same.1) b) in
           (same.0, (same.1, one-failure None grid p s (vector_of row p s) i j a.fails other.fails))
     ]
   ]
 
 -- ---- matters
 
-module _ (network : Project) (grid : Grid) (standing : Standing) (row : Record) where
-  not-last : (e : End) → EndsBy network grid standing row e → standing.time ≢ network.times.duration
+module _ (project : Project) (grid : Grid) (standing : Standing) (row : Record) where
+  not-last : (e : End) → EndsBy project grid standing row e → standing.time ≢ project.times.duration
   not-last _ (by_rules m f) = m.not_last
   not-last _ (rule_is_open m is) = m.not_last
   not-last _ (by_clock n l) = n.not_last
   not-last _ (event_is_open n l ne) = n.not_last
 
-  leaves-not-last : (seconds : ℕ) (links : List LinkState) → LeavesLinks network grid standing row seconds links
-      → standing.time ≢ network.times.duration
+  leaves-not-last : (seconds : ℕ) (links : List LinkState) → LeavesLinks project grid standing row seconds links
+      → standing.time ≢ project.times.duration
   leaves-not-last seconds _ (left_by_rules e) = not-last (ByRules seconds) e
   leaves-not-last seconds _ (left_by_clock e) = not-last (WithoutRules seconds) e
 
-  open-not-last : LeavesOpen network grid standing row → standing.time ≢ network.times.duration
+  open-not-last : LeavesOpen project grid standing row → standing.time ≢ project.times.duration
   open-not-last (rule open_rule e) = not-last (RuleIsOpen open_rule) e
   open-not-last (event earliest latest e) = not-last (EventIsOpen earliest latest) e
   open-not-last (tank seconds links number leaves is) = leaves-not-last seconds links leaves
   open-not-last (control seconds links number leaves is) = leaves-not-last seconds links leaves
 
   -- a decided end is one, and isn't open
-  leaves-one : (s t : ℕ) (links others : List LinkState) → LeavesLinks network grid standing row s links
-      → LeavesLinks network grid standing row t others → s ≡ t
-  leaves-one s t _ _ (left_by_rules e) (left_by_rules f) = let same = one_end network grid standing row (ByRules s)
+  leaves-one : (s t : ℕ) (links others : List LinkState) → LeavesLinks project grid standing row s links
+      → LeavesLinks project grid standing row t others → s ≡ t
+  leaves-one s t _ _ (left_by_rules e) (left_by_rules f) = let same = one_end project grid standing row (ByRules s)
       (ByRules t) e f in cc
   leaves-one s t _ _ (left_by_rules e) (left_by_clock f) = absurd
-      (let same = one_end network grid standing row (ByRules s) (WithoutRules t) e f in cc)
+      (let same = one_end project grid standing row (ByRules s) (WithoutRules t) e f in cc)
   leaves-one s t _ _ (left_by_clock e) (left_by_rules f) = absurd
-      (let same = one_end network grid standing row (WithoutRules s) (ByRules t) e f in cc)
-  leaves-one s t _ _ (left_by_clock e) (left_by_clock f) = let same = one_end network grid standing row
+      (let same = one_end project grid standing row (WithoutRules s) (ByRules t) e f in cc)
+  leaves-one s t _ _ (left_by_clock e) (left_by_clock f) = let same = one_end project grid standing row
       (WithoutRules s) (WithoutRules t) e f in cc
 
   leaves-no-rule : (s : ℕ) (links : List LinkState) (open_rule : OpenRule)
-      → LeavesLinks network grid standing row s links
-      → EndsBy network grid standing row (RuleIsOpen open_rule) → ⊥
-  leaves-no-rule s _ open_rule (left_by_rules e) f = absurd (let same = one_end network grid standing row (ByRules s)
+      → LeavesLinks project grid standing row s links
+      → EndsBy project grid standing row (RuleIsOpen open_rule) → ⊥
+  leaves-no-rule s _ open_rule (left_by_rules e) f = absurd (let same = one_end project grid standing row (ByRules s)
       (RuleIsOpen open_rule) e f in cc)
-  leaves-no-rule s _ open_rule (left_by_clock e) f = absurd (let same = one_end network grid standing row
+  leaves-no-rule s _ open_rule (left_by_clock e) f = absurd (let same = one_end project grid standing row
       (WithoutRules s) (RuleIsOpen open_rule) e f in cc)
 
   leaves-no-event : (s : ℕ) (links : List LinkState) (earliest latest : ℕ)
-      → LeavesLinks network grid standing row s links
-      → EndsBy network grid standing row (EventIsOpen earliest latest) → ⊥
+      → LeavesLinks project grid standing row s links
+      → EndsBy project grid standing row (EventIsOpen earliest latest) → ⊥
   leaves-no-event s _ earliest latest (left_by_rules e) f = absurd
-      (let same = one_end network grid standing row (ByRules s) (EventIsOpen earliest latest) e f in cc)
+      (let same = one_end project grid standing row (ByRules s) (EventIsOpen earliest latest) e f in cc)
   leaves-no-event s _ earliest latest (left_by_clock e) f = absurd
-      (let same = one_end network grid standing row (WithoutRules s) (EventIsOpen earliest latest) e f in cc)
+      (let same = one_end project grid standing row (WithoutRules s) (EventIsOpen earliest latest) e f in cc)
 
-  states-decided : (levels : List Interval) (states : List TankState) (number : ℕ) → AreStates network levels states
-      → position (λ is_open. is_open) (open_states network levels) ≡ Some number → ⊥
+  states-decided : (levels : List Interval) (states : List TankState) (number : ℕ) → AreStates project levels states
+      → position (λ is_open. is_open) (open_states project levels) ≡ Some number → ⊥
   states-decided levels states number are e =
-      let found = position-Some (λ (is_open : Bool). is_open) (open_states network levels) number false e in
+      let found = position-Some (λ (is_open : Bool). is_open) (open_states project levels) number false e in
       none-missing
       (λ k tank. state_of tank
-      (slice_index_or levels k nowhere)) 0 network.tanks.list states number false are found.0 found.1
+      (slice_index_or levels k nowhere)) 0 project.tanks.list states number false are found.0 found.1
 
-  controls-decided : (levels : List Interval) (number : ℕ) → ControlsAreDecided network levels
-      → position (is_open_control levels) network.controls.list ≡ Some number → ⊥
+  controls-decided : (levels : List Interval) (number : ℕ) → ControlsAreDecided project levels
+      → position (is_open_control levels) project.controls.list ≡ Some number → ⊥
   controls-decided levels number decided e =
-      let found = passing-of (is_open_control levels) network.controls.list number e in
+      let found = passing-of (is_open_control levels) project.controls.list number e in
       by found.item found.within found.item.when refl found.passes
     where
-      by : (c : Control) → Contains network.controls.list c → (when : When) → c.when ≡ when
+      by : (c : Control) → Contains project.controls.list c → (when : When) → c.when ≡ when
           → is_open_control levels c ≡ true → ⊥
       by c within (AtLevel k above ticks) at is =
           let shut = decided c k above ticks within at in
@@ -193,31 +193,31 @@ module _ (network : Project) (grid : Grid) (standing : Standing) (row : Record) 
           (record c { when = w }) ≡ true) at is in cc)
 
   -- where a record leads on, no matter is open
-  continues-closed : (next : Standing) → Continues network grid standing row next
-      → LeavesOpen network grid standing row → ⊥
+  continues-closed : (next : Standing) → Continues project grid standing row next
+      → LeavesOpen project grid standing row → ⊥
   continues-closed next on (rule open_rule e) = leaves-no-rule row.length next.commanded open_rule on.leaves_links e
   continues-closed next on (event earliest latest e) =
       leaves-no-event row.length next.commanded earliest latest on.leaves_links e
   continues-closed next on (tank seconds links number leaves is) =
       let same = leaves-one seconds row.length links next.commanded leaves on.leaves_links in
       states-decided next.levels next.tanks number on.tanks
-      (subst (λ (ls : List Interval). position (λ is_open. is_open) (open_states network ls) ≡ Some number)
+      (subst (λ (ls : List Interval). position (λ is_open. is_open) (open_states project ls) ≡ Some number)
       (sym on.levels)
-      (subst (λ (n : ℕ). position (λ is_open. is_open) (open_states network
-      (levels_next network grid standing row n)) ≡ Some number) same is))
+      (subst (λ (n : ℕ). position (λ is_open. is_open) (open_states project
+      (levels_next project grid standing row n)) ≡ Some number) same is))
   continues-closed next on (control seconds links number leaves is) =
       let same = leaves-one seconds row.length links next.commanded leaves on.leaves_links in
       controls-decided next.levels number on.controls
-      (subst (λ (ls : List Interval). position (is_open_control ls) network.controls.list ≡ Some number) (sym on.levels)
+      (subst (λ (ls : List Interval). position (is_open_control ls) project.controls.list ≡ Some number) (sym on.levels)
       (subst (λ (n : ℕ). position
-      (is_open_control (levels_next network grid standing row n)) network.controls.list ≡ Some number) same is))
+      (is_open_control (levels_next project grid standing row n)) project.controls.list ≡ Some number) same is))
 
-  closed : (next : Standing) → LeadsOn network grid standing row next → LeavesOpen network grid standing row → ⊥
+  closed : (next : Standing) → LeadsOn project grid standing row next → LeavesOpen project grid standing row → ⊥
   closed next (continues on) left_open = continues-closed next on left_open
   closed next (finishes on) left_open = open-not-last left_open on.is_last
 
   -- and its length is the decided one
-  same-length : (next : Standing) → LeadsOn network grid standing row next → HasOtherLength network grid standing row
+  same-length : (next : Standing) → LeadsOn project grid standing row next → HasOtherLength project grid standing row
       → ⊥
   same-length next (continues on) (at_end last other) = on.not_last last
   same-length next (continues on) (before_end seconds links leaves other) =
@@ -228,30 +228,30 @@ module _ (network : Project) (grid : Grid) (standing : Standing) (row : Record) 
 
 -- ---- refusals
 
-module _ (network : Project) (standing : Standing) (row : Record) where
-  due-of : (grid : Grid) (next : Standing) → IsValid network standing grid row next → IsDue standing row
+module _ (project : Project) (standing : Standing) (row : Record) where
+  due-of : (grid : Grid) (next : Standing) → IsValid project standing grid row next → IsDue standing row
   due-of grid next valid = record { number = valid.number; time = valid.time }
 
-  invalid-by : (cause : CertRefused) → IsRefusedBy network standing row cause → (grid : Grid) (next : Standing)
-      → IsValid network standing grid row next → ⊥
+  invalid-by : (cause : CertRefused) → IsRefusedBy project standing row cause → (grid : Grid) (next : Standing)
+      → IsValid project standing grid row next → ⊥
   invalid-by (After period) over grid next valid = absurd (let unfinished = valid.unfinished in cc)
   invalid-by (Place period) is grid next valid = is.1 (due-of grid next valid)
   invalid-by (Demand period) is grid next valid = is.1 valid.demands
   invalid-by (Fails period problem side junction) is grid next valid =
-      let same = one_grid network standing is.0 grid is.1.0.is_grid valid.is_grid in
-      let first = subst (λ (g : Grid). IsFirstToFail network g row problem side junction) same is.1.1 in
-      first-fails network grid row problem side junction first (valid.certificates.each problem side first.is_problem)
+      let same = one_grid project standing is.0 grid is.1.0.is_grid valid.is_grid in
+      let first = subst (λ (g : Grid). IsFirstToFail project g row problem side junction) same is.1.1 in
+      first-fails project grid row problem side junction first (valid.certificates.each problem side first.is_problem)
   invalid-by (MatterOpen period) is grid next valid =
-      let same = one_grid network standing is.0 grid is.1.0.has_grid.is_grid valid.is_grid in
-      closed network grid standing row next valid.leads_on (subst
-      (λ (g : Grid). LeavesOpen network g standing row) same is.1.1)
+      let same = one_grid project standing is.0 grid is.1.0.has_grid.is_grid valid.is_grid in
+      closed project grid standing row next valid.leads_on (subst
+      (λ (g : Grid). LeavesOpen project g standing row) same is.1.1)
   invalid-by (Length period) is grid next valid =
-      let same = one_grid network standing is.0 grid is.1.0.has_grid.is_grid valid.is_grid in
-      same-length network grid standing row next valid.leads_on
-      (subst (λ (g : Grid). HasOtherLength network g standing row) same is.1.1.1)
+      let same = one_grid project standing is.0 grid is.1.0.has_grid.is_grid valid.is_grid in
+      same-length project grid standing row next valid.leads_on
+      (subst (λ (g : Grid). HasOtherLength project g standing row) same is.1.1.1)
 
-  pub refused_invalid : (cause : CertRefused) → IsRefused network standing row cause → (grid : Grid) (next : Standing)
-      → IsValid network standing grid row next → ⊥
+  pub refused_invalid : (cause : CertRefused) → IsRefused project standing row cause → (grid : Grid) (next : Standing)
+      → IsValid project standing grid row next → ⊥
   refused_invalid cause refused = invalid-by cause refused.refused_by
 
   -- ---- of two causes the earlier in the order keeps the later out
@@ -259,21 +259,21 @@ module _ (network : Project) (standing : Standing) (row : Record) where
   overlong : standing.finished ≡ true → standing.finished ≡ false → ⊥
   overlong over under = absurd (cc)
 
-  uncertified : (a : Grid) (p : Problem) (s : Side) (i : ℕ) (b : Grid) → HasItsGrid network standing a row
-      → IsFirstToFail network a row p s i → IsCertified network standing b row → ⊥
+  uncertified : (a : Grid) (p : Problem) (s : Side) (i : ℕ) (b : Grid) → HasItsGrid project standing a row
+      → IsFirstToFail project a row p s i → IsCertified project standing b row → ⊥
   uncertified a p s i b has first certified =
-      let same = one_grid network standing a b has.is_grid certified.has_grid.is_grid in
-      let there = subst (λ (g : Grid). IsFirstToFail network g row p s i) same first in
-      first-fails network b row p s i there (certified.certificates.each p s there.is_problem)
+      let same = one_grid project standing a b has.is_grid certified.has_grid.is_grid in
+      let there = subst (λ (g : Grid). IsFirstToFail project g row p s i) same first in
+      first-fails project b row p s i there (certified.certificates.each p s there.is_problem)
 
-  unmatched : (a b : Grid) → IsCertified network standing a row → LeavesOpen network a standing row
-      → IsCertified network standing b row → (LeavesOpen network b standing row → ⊥) → ⊥
+  unmatched : (a b : Grid) → IsCertified project standing a row → LeavesOpen project a standing row
+      → IsCertified project standing b row → (LeavesOpen project b standing row → ⊥) → ⊥
   unmatched a b one left_open other shut =
-      let same = one_grid network standing a b one.has_grid.is_grid other.has_grid.is_grid in
-      shut (subst (λ (g : Grid). LeavesOpen network g standing row) same left_open)
+      let same = one_grid project standing a b one.has_grid.is_grid other.has_grid.is_grid in
+      shut (subst (λ (g : Grid). LeavesOpen project g standing row) same left_open)
 
-  one-by : (a b : CertRefused) → refused_period a ≡ refused_period b → IsRefusedBy network standing row a
-      → IsRefusedBy network standing row b → a ≡ b
+  one-by : (a b : CertRefused) → refused_period a ≡ refused_period b → IsRefusedBy project standing row a
+      → IsRefusedBy project standing row b → a ≡ b
   one-by (After p) (After q) e x y = ap After e
   one-by (After p) (Place q) e x y = absurd (overlong x y.0)
   one-by (After p) (Demand q) e x y = absurd (overlong x y.0.unfinished)
@@ -296,9 +296,9 @@ module _ (network : Project) (standing : Standing) (row : Record) where
   one-by (Fails p r s i) (Place q) e x y = absurd (y.1 x.1.0.in_place.due)
   one-by (Fails p r s i) (Demand q) e x y = absurd (y.1 x.1.0.in_range)
   one-by (Fails p r s i) (Fails q t v j) e x y =
-      let grids = one_grid network standing x.0 y.0 x.1.0.is_grid y.1.0.is_grid in
-      let there = subst (λ (g : Grid). IsFirstToFail network g row r s i) grids x.1.1 in
-      let same = one-to-fail network y.0 row r t s v i j there y.1.1 in
+      let grids = one_grid project standing x.0 y.0 x.1.0.is_grid y.1.0.is_grid in
+      let there = subst (λ (g : Grid). IsFirstToFail project g row r s i) grids x.1.1 in
+      let same = one-to-fail project y.0 row r t s v i j there y.1.1 in
       λ k. Fails (e k) (same.0 k) (same.1.0 k) (same.1.1 k)
   one-by (Fails p r s i) (MatterOpen q) e x y = absurd (uncertified x.0 r s i y.0 x.1.0 x.1.1 y.1.0)
   one-by (Fails p r s i) (Length q) e x y = absurd (uncertified x.0 r s i y.0 x.1.0 x.1.1 y.1.0)
@@ -315,5 +315,5 @@ module _ (network : Project) (standing : Standing) (row : Record) where
   one-by (Length p) (MatterOpen q) e x y = absurd (unmatched y.0 x.0 y.1.0 y.1.1 x.1.0 x.1.1.0)
   one-by (Length p) (Length q) e x y = ap Length e
 
-  pub one_refusal : (a b : CertRefused) → IsRefused network standing row a → IsRefused network standing row b → a ≡ b
+  pub one_refusal : (a b : CertRefused) → IsRefused project standing row a → IsRefused project standing row b → a ≡ b
   one_refusal a b x y = one-by a b (x.period_is ∙ sym y.period_is) x.refused_by y.refused_by

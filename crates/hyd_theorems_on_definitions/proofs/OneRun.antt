@@ -23,33 +23,33 @@ use Rattle.hyd_theorems_on_definitions.proofs.OneStanding.{one_standing, one_vec
 use Rattle.hyd_theorems_on_definitions.proofs.OneReport.{one_report}
 use Rattle.hyd_theorems_on_definitions.proofs.OneCapacity.{one_capacity}
 
-module _ (network : Project) where
+module _ (project : Project) where
   -- ---- grids
 
   -- a demand has one law: the capacity of given numbers is one
-  one_law : (demand : ℤ) (x y : DemandLaw) → IsDemandLaw network demand x → IsDemandLaw network demand y → x ≡ y
-  one_law demand x y is other = by_case (is_pressure_driven network demand) is other
+  one_law : (demand : ℤ) (x y : DemandLaw) → IsDemandLaw project demand x → IsDemandLaw project demand y → x ≡ y
+  one_law demand x y is other = by_case (is_pressure_driven project demand) is other
     where
-      by_case : (driven : Bool) → MatchBool driven (IsDriven network demand x) (x ≡ Fixed demand)
-          → MatchBool driven (IsDriven network demand y) (y ≡ Fixed demand) → x ≡ y
+      by_case : (driven : Bool) → MatchBool driven (IsDriven project demand x) (x ≡ Fixed demand)
+          → MatchBool driven (IsDriven project demand y) (y ≡ Fixed demand) → x ≡ y
       by_case true p q =
           let same = one_capacity p.capacity q.capacity (p.origin ∙ sym q.origin) p.made q.made in
-          p.is_law ∙ ap (λ (c : Capacity). Driven demand c (minimum_pressure network) (required_pressure network))
+          p.is_law ∙ ap (λ (c : Capacity). Driven demand c (minimum_pressure project) (required_pressure project))
           same ∙ sym q.is_law
       by_case false p q = p ∙ sym q
 
-  same_junction : (time : ℕ) (junction : Junction) (a b : GridJunction) → IsJunctionOf network time junction a
-      → IsJunctionOf network time junction b → a ≡ b
+  same_junction : (time : ℕ) (junction : Junction) (a b : GridJunction) → IsJunctionOf project time junction a
+      → IsJunctionOf project time junction b → a ≡ b
   same_junction time junction a b x y =
       let elevation = x.elevation ∙ sym y.elevation in
-      let takes = demand_of network time junction in
+      let takes = demand_of project time junction in
       let demand = one_law takes a.demand b.demand x.demand y.demand in
       let emitter = x.emitter ∙ sym y.emitter in
       λ i. record { elevation = elevation i; demand = demand i; emitter = emitter i }
 
   same_junctions : (time : ℕ) (junctions : List Junction) (xs ys : List GridJunction)
-      → AllZip (IsJunctionOf network time) junctions xs
-      → AllZip (IsJunctionOf network time) junctions ys → xs ≡ ys
+      → AllZip (IsJunctionOf project time) junctions xs
+      → AllZip (IsJunctionOf project time) junctions ys → xs ≡ ys
   same_junctions time [] [] [] x y = refl
   same_junctions time [] [] (b ∷ ys) x y = absurd y
   same_junctions time [] (a ∷ xs) ys x y = absurd x
@@ -58,9 +58,9 @@ module _ (network : Project) where
   same_junctions time (j ∷ js) (a ∷ xs) (b ∷ ys) x y =
       let first = same_junction time j a b x.0 y.0 in let rest = same_junctions time js xs ys x.1 y.1 in cc
 
-  pub one_grid : (standing : Standing) (a b : Grid) → IsGridAt network standing a → IsGridAt network standing b → a ≡ b
+  pub one_grid : (standing : Standing) (a b : Grid) → IsGridAt project standing a → IsGridAt project standing b → a ≡ b
   one_grid standing a b x y =
-      let junctions = same_junctions standing.time network.junctions.list a.junctions b.junctions x.junctions
+      let junctions = same_junctions standing.time project.junctions.list a.junctions b.junctions x.junctions
       y.junctions in
       let reservoirs = x.reservoirs ∙ sym y.reservoirs in
       let tanks = x.tank_heads ∙ sym y.tank_heads in
@@ -84,13 +84,13 @@ module _ (network : Project) where
       cc
 
   module _ (standing : Standing) (grid : Grid) (a b : Record) (next other : Standing)
-      (valid : IsValid network standing grid a next)
-      (too : IsValid network standing grid b other)
-      (tight : (problem : Problem) (side : Side) → IsProblem network problem
+      (valid : IsValid project standing grid a next)
+      (too : IsValid project standing grid b other)
+      (tight : (problem : Problem) (side : Side) → IsProblem project problem
       → IsTight grid problem side (vector_of a problem side))
-      (other_tight : (problem : Problem) (side : Side) → IsProblem network problem
+      (other_tight : (problem : Problem) (side : Side) → IsProblem project problem
       → IsTight grid problem side (vector_of b problem side)) where
-    same_vector : (problem : Problem) (side : Side) → IsProblem network problem
+    same_vector : (problem : Problem) (side : Side) → IsProblem project problem
         → vector_of a problem side ≡ vector_of b problem side
     same_vector problem side is = one_vector grid problem side _ _ (tight problem side is) (other_tight problem side is)
 
@@ -120,37 +120,37 @@ module _ (network : Project) where
         }
 
     length_same : a.length ≡ b.length
-    length_same = one_length network grid standing a b.length next other valid.leads_on
-        (subst (λ (r : Record). LeadsOn network grid standing r other) but_for_length too.leads_on)
+    length_same = one_length project grid standing a b.length next other valid.leads_on
+        (subst (λ (r : Record). LeadsOn project grid standing r other) but_for_length too.leads_on)
 
     row_same : a ≡ b
     row_same = ap (λ (n : ℕ). record a { length = n }) length_same ∙ sym but_for_length
 
     next_same : next ≡ other
-    next_same = one_standing network grid standing a next other valid.leads_on
-        (subst (λ (r : Record). LeadsOn network grid standing r other) (sym row_same) too.leads_on)
+    next_same = one_standing project grid standing a next other valid.leads_on
+        (subst (λ (r : Record). LeadsOn project grid standing r other) (sym row_same) too.leads_on)
 
-    lines_same : (ls ms : List ReportLine) → IsReport network grid standing a ls → IsReport network grid standing b ms
+    lines_same : (ls ms : List ReportLine) → IsReport project grid standing a ls → IsReport project grid standing b ms
         → ls ≡ ms
-    lines_same ls ms x y = one_report network grid standing a ls ms x
-        (subst (λ (r : Record). IsReport network grid standing r ms) (sym row_same) y)
+    lines_same ls ms x y = one_report project grid standing a ls ms x
+        (subst (λ (r : Record). IsReport project grid standing r ms) (sym row_same) y)
 
   -- ---- runs
 
-  one_found : (a b : Found) → a.standing ≡ b.standing → IsFound network a → IsFound network b
-      → IsTightThroughout network a → IsTightThroughout network b → a ≡ b
+  one_found : (a b : Found) → a.standing ≡ b.standing → IsFound project a → IsFound project b
+      → IsTightThroughout project a → IsTightThroughout project b → a ≡ b
   one_found a b standing x y tight other_tight =
-      let at : IsValid network a.standing b.grid b.row b.next =
-      subst (λ (s : Standing). IsValid network s b.grid b.row b.next) (sym standing) y.valid in
+      let at : IsValid project a.standing b.grid b.row b.next =
+      subst (λ (s : Standing). IsValid project s b.grid b.row b.next) (sym standing) y.valid in
       let grid = one_grid a.standing a.grid b.grid x.valid.is_grid at.is_grid in
-      let too : IsValid network a.standing a.grid b.row b.next =
-      subst (λ (g : Grid). IsValid network a.standing g b.row b.next) (sym grid) at in
-      let close : (problem : Problem) (side : Side) → IsProblem network problem
+      let too : IsValid project a.standing a.grid b.row b.next =
+      subst (λ (g : Grid). IsValid project a.standing g b.row b.next) (sym grid) at in
+      let close : (problem : Problem) (side : Side) → IsProblem project problem
       → IsTight a.grid problem side (vector_of b.row problem side) =
       λ problem side is. subst (λ (g : Grid). IsTight g problem side (vector_of b.row problem side)) (sym grid)
       (other_tight problem side is) in
-      let said = subst (λ (g : Grid). IsReport network g a.standing b.row b.lines) (sym grid)
-      (subst (λ (s : Standing). IsReport network b.grid s b.row b.lines) (sym standing) y.report) in
+      let said = subst (λ (g : Grid). IsReport project g a.standing b.row b.lines) (sym grid)
+      (subst (λ (s : Standing). IsReport project b.grid s b.row b.lines) (sym standing) y.report) in
       let row = row_same a.standing a.grid a.row b.row a.next b.next x.valid too tight close in
       let next = next_same a.standing a.grid a.row b.row a.next b.next x.valid too tight close in
       let lines = lines_same a.standing a.grid a.row b.row a.next b.next x.valid too tight close a.lines b.lines
@@ -160,16 +160,16 @@ module _ (network : Project) where
   -- The first period of a run, and the rest.
   record Steps (start : Standing) (found : Found) (rest : List Found) (last : Standing) : Type 0 where
     begins : found.standing ≡ start
-    is_found : IsFound network found
-    goes_on : IsRunFrom network found.next rest last
+    is_found : IsFound project found
+    goes_on : IsRunFrom project found.next rest last
 
   steps : (start : Standing) (found : Found) (rest : List Found) (last : Standing)
-      → IsRunFrom network start (found ∷ rest) last → Steps start found rest last
+      → IsRunFrom project start (found ∷ rest) last → Steps start found rest last
   steps _ found rest last (more is on) = record { begins = refl; is_found = is; goes_on = on }
 
-  pub one_run : (start : Standing) (xs ys : List Found) (last other : Standing) → IsRunFrom network start xs last
-      → IsRunFrom network start ys other
-      → AllByRecursion (IsTightThroughout network) xs → AllByRecursion (IsTightThroughout network) ys
+  pub one_run : (start : Standing) (xs ys : List Found) (last other : Standing) → IsRunFrom project start xs last
+      → IsRunFrom project start ys other
+      → AllByRecursion (IsTightThroughout project) xs → AllByRecursion (IsTightThroughout project) ys
       → length xs ≡ length ys → xs ≡ ys
   one_run start [] [] last other x y tight too e = refl
   one_run start [] (b ∷ ys) last other x y tight too e = absurd (omega (arith, e))
@@ -178,26 +178,26 @@ module _ (network : Project) where
       let s = steps start a xs last x in
       let t = steps start b ys other y in
       let first = one_found a b (s.begins ∙ sym t.begins) s.is_found t.is_found tight.0 too.0 in
-      let on = subst (λ (n : Standing). IsRunFrom network n ys other) (ap (λ (f : Found). f.next) (sym first))
+      let on = subst (λ (n : Standing). IsRunFrom project n ys other) (ap (λ (f : Found). f.next) (sym first))
       t.goes_on in
       let rest = one_run a.next xs ys last other s.goes_on on tight.1 too.1 (omega (arith, e)) in
       cc
 
   -- and it leaves one standing
-  ends_here : (start last : Standing) → IsRunFrom network start [] last → start ≡ last
+  ends_here : (start last : Standing) → IsRunFrom project start [] last → start ≡ last
   ends_here start last run = over start [] last run refl
     where
-      over : (s : Standing) (fs : List Found) (l : Standing) → IsRunFrom network s fs l → fs ≡ [] → s ≡ l
+      over : (s : Standing) (fs : List Found) (l : Standing) → IsRunFrom project s fs l → fs ≡ [] → s ≡ l
       over _ _ l none e = refl
       over _ _ l (more is on) e = absurd (cc)
 
-  one_last : (start : Standing) (xs : List Found) (last other : Standing) → IsRunFrom network start xs last
-      → IsRunFrom network start xs other → last ≡ other
+  one_last : (start : Standing) (xs : List Found) (last other : Standing) → IsRunFrom project start xs last
+      → IsRunFrom project start xs other → last ≡ other
   one_last start [] last other x y = sym (ends_here start last x) ∙ ends_here start other y
   one_last start (a ∷ xs) last other x y = one_last a.next xs last other (steps start a xs last x).goes_on
       (steps start a xs other y).goes_on
 
-  pub one_left : (start : Standing) (xs ys : List Found) (last other : Standing) → IsRunFrom network start xs last
-      → IsRunFrom network start ys other → xs ≡ ys → last ≡ other
+  pub one_left : (start : Standing) (xs ys : List Found) (last other : Standing) → IsRunFrom project start xs last
+      → IsRunFrom project start ys other → xs ≡ ys → last ≡ other
   one_left start xs ys last other x y same = one_last start xs last other x
-      (subst (λ (fs : List Found). IsRunFrom network start fs other) (sym same) y)
+      (subst (λ (fs : List Found). IsRunFrom project start fs other) (sym same) y)

@@ -27,24 +27,24 @@ some_of X (x ∷ a) (y ∷ b) e =
     let rest : map {B = Option X} Some a ≡ map {B = Option X} Some b = cc in
     let others = some_of X a b rest in cc
 
-module _ (network : Project) (grid : Grid) (standing : Standing) (row : Record) where
-  one_command : (n : ℕ) (a b : List LinkState) → LeavesLinks network grid standing row n a
-      → LeavesLinks network grid standing row n b → a ≡ b
+module _ (project : Project) (grid : Grid) (standing : Standing) (row : Record) where
+  one_command : (n : ℕ) (a b : List LinkState) → LeavesLinks project grid standing row n a
+      → LeavesLinks project grid standing row n b → a ≡ b
   one_command n _ _ (by_rules e) (by_rules f) = refl
-  one_command n _ _ (by_rules e) (by_clock f) = absurd (let same = one_end network grid standing row (ByRules n)
+  one_command n _ _ (by_rules e) (by_clock f) = absurd (let same = one_end project grid standing row (ByRules n)
       (WithoutRules n) e f in cc)
-  one_command n _ _ (by_clock e) (by_rules f) = absurd (let same = one_end network grid standing row (ByRules n)
+  one_command n _ _ (by_clock e) (by_rules f) = absurd (let same = one_end project grid standing row (ByRules n)
       (WithoutRules n) f e in cc)
   one_command n _ _ (by_clock e) (by_clock f) = refl
 
-  pub one_standing : (a b : Standing) → LeadsOn network grid standing row a → LeadsOn network grid standing row b
+  pub one_standing : (a b : Standing) → LeadsOn project grid standing row a → LeadsOn project grid standing row b
       → a ≡ b
   one_standing a b (continues c) (continues d) =
       let commanded = one_command row.length a.commanded b.commanded c.leaves_links d.leaves_links in
       let levels = c.levels ∙ sym d.levels in
       let volumes = c.volumes ∙ sym d.volumes in
       let tanks = some_of TankState a.tanks b.tanks (sym c.tanks
-      ∙ subst (λ (ls : List Interval). AreStates network ls b.tanks) (sym levels) d.tanks) in
+      ∙ subst (λ (ls : List Interval). AreStates project ls b.tanks) (sym levels) d.tanks) in
       let number = c.number ∙ sym d.number in
       let time = c.time ∙ sym d.time in
       let finished = c.unfinished ∙ sym d.unfinished in

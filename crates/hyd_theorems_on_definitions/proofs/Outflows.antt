@@ -14,18 +14,17 @@ use Rattle.hyd_spec.specs.DemandsReservoirHeadsAndCurves.{is_us, pressure_value,
 use Rattle.hyd_spec.specs.Law.{QuadraticLaw, Follows, Relation, lifted, odd_at_least, odd_at_most, pressure_resistance}
 use Rattle.hyd_spec.specs.Law.{loss_at_most, loss_at_least}
 use Rattle.hyd_spec_certificates.specs.EnclosingFunctions.{DemandLaw, Fixed, Driven, demand_low, demand_high}
-use Rattle.hyd_spec_certificates.specs.EnclosingFunctions.{emitter_low}
-use Rattle.hyd_spec_certificates.specs.EnclosingFunctions.{emitter_high, quadratic_low, quadratic_high}
+use Rattle.hyd_spec_certificates.specs.EnclosingFunctions.{emitter_low, emitter_high, quadratic_low, quadratic_high}
 use Rattle.hyd_spec.specs.Outflow.{IsWithinTolerance, pressure_at, is_pressure_driven, FollowsPart, FollowsPressure}
 use Rattle.hyd_spec.specs.Outflow.{FollowsEmitter, part_at_least, part_at_most}
 use Rattle.hyd_spec_certificates.specs.PeriodNetwork.{IsDriven, IsDemandLaw}
 use Rattle.hyd_theorems_on_definitions.specs.TermsOfTheorems.{IsLaw, IsSoundCapacity}
+use Rattle.hyd_lemmas.proofs.Trials.{le-yes, le-no}
 use Rattle.hyd_theorems_on_definitions.proofs.EachLaw.{IsLaw-quad}
 use Rattle.hyd_theorems_on_definitions.proofs.LinkLaws.{IsLaw-lifted, at_most_for, at_least_for}
 use Rattle.hyd_theorems_on_definitions.proofs.EachLaw.{IsSoundCapacity-made}
-use Rattle.hyd_lemmas.proofs.Integers.{exchanged}
-use Rattle.hyd_lemmas.proofs.Integers.{floor_low, ceiling_high, floor_greatest, ceiling_least, floor_at_most_ceiling}
-use Rattle.hyd_lemmas.proofs.Integers.{min_left, min_right, min_is}
+use Rattle.hyd_lemmas.proofs.Integers.{exchanged, floor_low, ceiling_high, floor_greatest, ceiling_least}
+use Rattle.hyd_lemmas.proofs.Integers.{floor_at_most_ceiling, min_left, min_right, min_is, abs_above}
 use Rattle.hyd_lemmas.proofs.Losses.{square_is}
 use Rattle.std.proofs.Math.IntN.{*ℤ_comm}
 use Rattle.std.proofs.Math.Nat.{mul-le-mul_right}
@@ -77,13 +76,6 @@ none-below S q e le h = let a = times_rises S e (pos 0) le in let b = h.low in o
 
 none-above : (S : ℕ) (q e : ℤ) → pos 0 ≤ℤ e → IsWithinTolerance S q (pos 0) → (q -ℤ pos (S * 10)) ≤ℤ (pos S *ℤ e)
 none-above S q e le h = let a = times_rises S (pos 0) e le in let b = h.high in omega (arith, ints, a, b)
-
--- what tests of a pressure say
-pub le-yes : (a b : ℤ) → int_le a b ≡ true → a ≤ℤ b
-le-yes a b e = grind (arith, ints)
-
-pub le-no : (a b : ℤ) → int_le a b ≡ false → b <ℤ a
-le-no a b e = grind (arith, ints)
 
 -- a pressure of p / S ticks, at least d ticks and at most x, and the other way round
 pub under : (S : ℕ) (d p : ℤ) (x : Rational) → 0 < S → (pos S *ℤ d) ≤ℤ p → (p *ℤ pos x.den) ≤ℤ (x.num *ℤ pos S)
@@ -238,10 +230,6 @@ driven-above least most D c A B S d p q P pl pm some positive law ends part le f
 
 -- ---- demands of a network
 
-abs_above : (z : ℤ) → z ≤ℤ pos (unsigned_abs z)
-abs_above (pos n) = omega (arith, ints)
-abs_above (negsuc n) = omega (arith, ints)
-
 pressure-gap : (us : Bool) (a b : ℤ) → (pressure_numerator us a -ℤ pressure_numerator us b)
     ≤ℤ pos (pressure_fraction us (unsigned_abs (a -ℤ b))).num
 pressure-gap true a b = let r = times_rises 30480000 (a -ℤ b) (pos (unsigned_abs (a -ℤ b))) (abs_above (a -ℤ b)) in
@@ -302,34 +290,34 @@ ends_at us least most n S p at =
       *ℤ_comm (pressure_numerator us most.nano) (pos S),
     ))
 
-is_driven : (network : Project) (demand : ℤ) → is_pressure_driven network demand ≡ true → (n : ℕ) × (demand ≡ pos n)
-is_driven network (pos n) e = (n, refl)
-is_driven network (negsuc n) e = absurd (cc)
+is_driven : (project : Project) (demand : ℤ) → is_pressure_driven project demand ≡ true → (n : ℕ) × (demand ≡ pos n)
+is_driven project (pos n) e = (n, refl)
+is_driven project (negsuc n) e = absurd (cc)
 
-driven-law : (network : Project) (demand : ℤ) (law : DemandLaw) (driven : IsDriven network demand law)
-    → IsLaw (part_at_least network demand) (part_at_most network demand)
-    (λ d. quadratic_low driven.capacity (d +ℤ floor (negated (minimum_pressure network))))
-    (λ d. quadratic_high driven.capacity (d +ℤ ceiling (negated (minimum_pressure network))))
-driven-law network demand law driven =
-    IsLaw-lifted (negated (minimum_pressure network)) _ _ (quadratic_low driven.capacity)
-    (quadratic_high driven.capacity) (pressure-above (is_us network))
+driven-law : (project : Project) (demand : ℤ) (law : DemandLaw) (driven : IsDriven project demand law)
+    → IsLaw (part_at_least project demand) (part_at_most project demand)
+    (λ d. quadratic_low driven.capacity (d +ℤ floor (negated (minimum_pressure project))))
+    (λ d. quadratic_high driven.capacity (d +ℤ ceiling (negated (minimum_pressure project))))
+driven-law project demand law driven =
+    IsLaw-lifted (negated (minimum_pressure project)) _ _ (quadratic_low driven.capacity)
+    (quadratic_high driven.capacity) (pressure-above (is_us project))
     (subst (λ (o : Origin). IsLaw (odd_at_least (loss_at_most o) (loss_at_least o))
     (odd_at_most (loss_at_most o) (loss_at_least o)) (quadratic_low driven.capacity)
     (quadratic_high driven.capacity))
     driven.origin (IsLaw-quad driven.capacity (IsSoundCapacity-made driven.capacity driven.made)))
 
-pub demand-below : (network : Project) (demand : ℤ) (law : DemandLaw) (S : ℕ) (d p q : ℤ)
-    → IsDemandLaw network demand law → 0 < S → (pos S *ℤ d) ≤ℤ p
-    → MatchBool (is_pressure_driven network demand) (FollowsPressure network demand S p q)
+pub demand-below : (project : Project) (demand : ℤ) (law : DemandLaw) (S : ℕ) (d p q : ℤ)
+    → IsDemandLaw project demand law → 0 < S → (pos S *ℤ d) ≤ℤ p
+    → MatchBool (is_pressure_driven project demand) (FollowsPressure project demand S p q)
     (IsWithinTolerance S q (at_scale S demand))
     → (pos S *ℤ demand_low law d) ≤ℤ (q +ℤ pos (S * 10))
-demand-below network demand law S d p q is some le follows = elim (cases_Bool (is_pressure_driven network demand)) [
-  | inl held ↦ driven (MatchBool-at_true (IsDriven network demand law) (law ≡ Fixed demand) held is)
-      (is_driven network demand held)
-      (MatchBool-at_true (FollowsPressure network demand S p q) (IsWithinTolerance S q (at_scale S demand)) held
+demand-below project demand law S d p q is some le follows = elim (cases_Bool (is_pressure_driven project demand)) [
+  | inl held ↦ driven (MatchBool-at_true (IsDriven project demand law) (law ≡ Fixed demand) held is)
+      (is_driven project demand held)
+      (MatchBool-at_true (FollowsPressure project demand S p q) (IsWithinTolerance S q (at_scale S demand)) held
       follows)
-  | inr fails ↦ fixed (MatchBool-at_false (IsDriven network demand law) (law ≡ Fixed demand) fails is)
-      (MatchBool-at_false (FollowsPressure network demand S p q) (IsWithinTolerance S q (at_scale S demand)) fails
+  | inr fails ↦ fixed (MatchBool-at_false (IsDriven project demand law) (law ≡ Fixed demand) fails is)
+      (MatchBool-at_false (FollowsPressure project demand S p q) (IsWithinTolerance S q (at_scale S demand)) fails
       follows)
 ]
   where
@@ -338,29 +326,29 @@ demand-below network demand law S d p q is some le follows = elim (cases_Bool (i
     fixed e h = subst (λ (l : DemandLaw). (pos S *ℤ demand_low l d) ≤ℤ (q +ℤ pos (S * 10))) (sym e)
         (within-below S q demand demand (omega (arith, ints)) h)
 
-    driven : IsDriven network demand law → ((n : ℕ) × (demand ≡ pos n)) → FollowsPressure network demand S p q
+    driven : IsDriven project demand law → ((n : ℕ) × (demand ≡ pos n)) → FollowsPressure project demand S p q
         → (pos S *ℤ demand_low law d) ≤ℤ (q +ℤ pos (S * 10))
     driven is (n, e) h = subst (λ (l : DemandLaw). (pos S *ℤ demand_low l d) ≤ℤ (q +ℤ pos (S * 10))) (sym is.is_law)
-        (driven-below (minimum_pressure network) (required_pressure network) demand is.capacity
-        (part_at_least network demand) (part_at_most network demand) S d p q (FollowsPart network demand S p q)
-        (pressure-above (is_us network)) (pressure-above (is_us network)) some (omega (arith, ints, e))
-        (driven-law network demand law is)
-        (begins_at (pressure_resistance demand network.options.p0 network.options.pf (is_us network)) S
-        (minimum_pressure network) p)
+        (driven-below (minimum_pressure project) (required_pressure project) demand is.capacity
+        (part_at_least project demand) (part_at_most project demand) S d p q (FollowsPart project demand S p q)
+        (pressure-above (is_us project)) (pressure-above (is_us project)) some (omega (arith, ints, e))
+        (driven-law project demand law is)
+        (begins_at (pressure_resistance demand project.options.p0 project.options.pf (is_us project)) S
+        (minimum_pressure project) p)
         (λ part. part.at_most) le h)
 
-pub demand-above : (network : Project) (demand : ℤ) (law : DemandLaw) (S : ℕ) (d p q : ℤ)
-    → IsDemandLaw network demand law → 0 < S → p ≤ℤ (pos S *ℤ d)
-    → MatchBool (is_pressure_driven network demand) (FollowsPressure network demand S p q)
+pub demand-above : (project : Project) (demand : ℤ) (law : DemandLaw) (S : ℕ) (d p q : ℤ)
+    → IsDemandLaw project demand law → 0 < S → p ≤ℤ (pos S *ℤ d)
+    → MatchBool (is_pressure_driven project demand) (FollowsPressure project demand S p q)
     (IsWithinTolerance S q (at_scale S demand))
     → (q -ℤ pos (S * 10)) ≤ℤ (pos S *ℤ demand_high law d)
-demand-above network demand law S d p q is some le follows = elim (cases_Bool (is_pressure_driven network demand)) [
-  | inl held ↦ driven (MatchBool-at_true (IsDriven network demand law) (law ≡ Fixed demand) held is)
-      (is_driven network demand held)
-      (MatchBool-at_true (FollowsPressure network demand S p q) (IsWithinTolerance S q (at_scale S demand)) held
+demand-above project demand law S d p q is some le follows = elim (cases_Bool (is_pressure_driven project demand)) [
+  | inl held ↦ driven (MatchBool-at_true (IsDriven project demand law) (law ≡ Fixed demand) held is)
+      (is_driven project demand held)
+      (MatchBool-at_true (FollowsPressure project demand S p q) (IsWithinTolerance S q (at_scale S demand)) held
       follows)
-  | inr fails ↦ fixed (MatchBool-at_false (IsDriven network demand law) (law ≡ Fixed demand) fails is)
-      (MatchBool-at_false (FollowsPressure network demand S p q) (IsWithinTolerance S q (at_scale S demand)) fails
+  | inr fails ↦ fixed (MatchBool-at_false (IsDriven project demand law) (law ≡ Fixed demand) fails is)
+      (MatchBool-at_false (FollowsPressure project demand S p q) (IsWithinTolerance S q (at_scale S demand)) fails
       follows)
 ]
   where
@@ -369,15 +357,15 @@ demand-above network demand law S d p q is some le follows = elim (cases_Bool (i
     fixed e h = subst (λ (l : DemandLaw). (q -ℤ pos (S * 10)) ≤ℤ (pos S *ℤ demand_high l d)) (sym e)
         (within-above S q demand demand (omega (arith, ints)) h)
 
-    driven : IsDriven network demand law → ((n : ℕ) × (demand ≡ pos n)) → FollowsPressure network demand S p q
+    driven : IsDriven project demand law → ((n : ℕ) × (demand ≡ pos n)) → FollowsPressure project demand S p q
         → (q -ℤ pos (S * 10)) ≤ℤ (pos S *ℤ demand_high law d)
     driven is (n, e) h = subst (λ (l : DemandLaw). (q -ℤ pos (S * 10)) ≤ℤ (pos S *ℤ demand_high l d)) (sym is.is_law)
-        (driven-above (minimum_pressure network) (required_pressure network) demand is.capacity
-        (part_at_least network demand) (part_at_most network demand) S d p q (FollowsPart network demand S p q)
-        (pressure-above (is_us network)) (pressure-above (is_us network)) some (omega (arith, ints, e))
-        (driven-law network demand law is)
-        (subst (λ (z : ℤ). (p *ℤ pos (pressure_denominator (is_us network)))
-        <ℤ (pressure_numerator (is_us network) network.options.pf.nano *ℤ pos S)
-        → part_at_most network z S p (pos S *ℤ z)) (sym e)
-        (ends_at (is_us network) network.options.p0 network.options.pf n S p))
+        (driven-above (minimum_pressure project) (required_pressure project) demand is.capacity
+        (part_at_least project demand) (part_at_most project demand) S d p q (FollowsPart project demand S p q)
+        (pressure-above (is_us project)) (pressure-above (is_us project)) some (omega (arith, ints, e))
+        (driven-law project demand law is)
+        (subst (λ (z : ℤ). (p *ℤ pos (pressure_denominator (is_us project)))
+        <ℤ (pressure_numerator (is_us project) project.options.pf.nano *ℤ pos S)
+        → part_at_most project z S p (pos S *ℤ z)) (sym e)
+        (ends_at (is_us project) project.options.p0 project.options.pf n S p))
         (λ part. part.at_least) le h)

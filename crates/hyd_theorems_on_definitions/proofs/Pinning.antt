@@ -151,227 +151,227 @@ lack_past_reservoirs S f (r ∷ reservoirs) ps rs m =
 
 -- how far the pinned tank's head lies from its end
 abbrev pub upper_room : Project → ℕ → List Interval → List ℤ → ℕ → ℤ
-upper_room network S intervals levels k = excess S (tank_heads S network.tanks.list levels)
-    (upper_ends k 0 network.tanks.list intervals) k
+upper_room project S intervals levels k = excess S (tank_heads S project.tanks.list levels)
+    (upper_ends k 0 project.tanks.list intervals) k
 
-upper_fixed : (network : Project) (S time : ℕ) (intervals : List Interval) (levels : List ℤ) (tanks : List TankState)
+upper_fixed : (project : Project) (S time : ℕ) (intervals : List Interval) (levels : List ℤ) (tanks : List TankState)
     (links : List LinkState) (assignment : Assignment) (grid : Grid) (k : ℕ) (t : ℤ)
-    → IsCompared network S time intervals levels tanks links assignment grid → upper_room network S intervals levels k
+    → IsCompared project S time intervals levels tanks links assignment grid → upper_room project S intervals levels k
     ≤ℤ t → (m : ℕ)
-    → excess S (map (λ r. at_scale S (reservoir_head network time r)) network.reservoirs.list
-    ++ tank_heads S network.tanks.list levels) (fixed_heads grid (Pinned k) Upper) m ≤ℤ t
-upper_fixed network S time intervals levels tanks links assignment grid k t c room m =
-    let some = upper_pinned S k 0 network.tanks.list intervals levels c.lie k (omega arith) in
+    → excess S (map (λ r. at_scale S (reservoir_head project time r)) project.reservoirs.list
+    ++ tank_heads S project.tanks.list levels) (fixed_heads grid (Pinned k) Upper) m ≤ℤ t
+upper_fixed project S time intervals levels tanks links assignment grid k t c room m =
+    let some = upper_pinned S k 0 project.tanks.list intervals levels c.lie k (omega arith) in
     let above : pos 0 ≤ℤ t = omega (arith, ints, some, room) in
-    rw (c.is_grid.reservoirs, c.is_grid.tank_heads) (reservoirs_below S (reservoir_head network time)
-    network.reservoirs.list _ _ t above
-    (λ i. upper_others S k 0 network.tanks.list intervals levels t c.lie above i
-    (λ e. subst (λ (n : ℕ). excess S (tank_heads S network.tanks.list levels)
-    (upper_ends k 0 network.tanks.list intervals) n ≤ℤ t) (let s : k ≡ i = omega arith in s) room)) m)
+    rw (c.is_grid.reservoirs, c.is_grid.tank_heads) (reservoirs_below S (reservoir_head project time)
+    project.reservoirs.list _ _ t above
+    (λ i. upper_others S k 0 project.tanks.list intervals levels t c.lie above i
+    (λ e. subst (λ (n : ℕ). excess S (tank_heads S project.tanks.list levels)
+    (upper_ends k 0 project.tanks.list intervals) n ≤ℤ t) (let s : k ≡ i = omega arith in s) room)) m)
 
-upper_none : (network : Project) (S time : ℕ) (intervals : List Interval) (levels : List ℤ) (tanks : List TankState)
+upper_none : (project : Project) (S time : ℕ) (intervals : List Interval) (levels : List ℤ) (tanks : List TankState)
     (links : List LinkState) (assignment : Assignment) (grid : Grid) (k : ℕ) (u : List ℤ) (j i : ℕ)
-    → IsCompared network S time intervals levels tanks links assignment grid → IsCertificate grid (Pinned k) Upper u
+    → IsCompared project S time intervals levels tanks links assignment grid → IsCertificate grid (Pinned k) Upper u
     → j < length assignment.heads
-    → upper_room network S intervals levels k ≤ℤ excess S assignment.heads u j
+    → upper_room project S intervals levels k ≤ℤ excess S assignment.heads u j
     → IsGreatestBelow (excess S assignment.heads u) (length assignment.heads) i → ⊥
-upper_none network S time intervals levels tanks links assignment grid k u j i c certificate lt ge best =
-    let same = one_each network S time intervals levels tanks links assignment grid (Pinned k) Upper u c certificate in
+upper_none project S time intervals levels tanks links assignment grid k u j i c certificate lt ge best =
+    let same = one_each project S time intervals levels tanks links assignment grid (Pinned k) Upper u c certificate in
     let top : excess S assignment.heads u j ≤ℤ excess S assignment.heads u i = best.each j lt in
-    let room : upper_room network S intervals levels k ≤ℤ excess S assignment.heads u i =
+    let room : upper_room project S intervals levels k ≤ℤ excess S assignment.heads u i =
     omega (arith, ints, top, ge) in
-    let some = upper_pinned S k 0 network.tanks.list intervals levels c.lie k (omega arith) in
+    let some = upper_pinned S k 0 project.tanks.list intervals levels c.lie k (omega arith) in
     let front : i < length u = (let l = best.below in omega (arith, l, same)) in
-    no_excess network S time intervals levels tanks links assignment grid (Pinned k) u i c certificate front
+    no_excess project S time intervals levels tanks links assignment grid (Pinned k) u i c certificate front
     (λ m. rw (head_front assignment.heads _ i best.below, head_front u _ i front)
     (excess_after S assignment.heads u _ _ (excess S assignment.heads u i) same
-    (upper_fixed network S time intervals levels tanks links assignment grid k (excess S assignment.heads u i) c room)
+    (upper_fixed project S time intervals levels tanks links assignment grid k (excess S assignment.heads u i) c room)
     m (λ lt. best.each m lt)))
     (omega (arith, ints, room, some))
 
 -- each junction's head lies less far from the vector
-pub upper_within : (network : Project) (S time : ℕ) (intervals : List Interval) (levels : List ℤ)
+pub upper_within : (project : Project) (S time : ℕ) (intervals : List Interval) (levels : List ℤ)
     (tanks : List TankState) (links : List LinkState) (assignment : Assignment) (grid : Grid) (k : ℕ) (u : List ℤ)
     (j : ℕ)
-    → IsCompared network S time intervals levels tanks links assignment grid → IsCertificate grid (Pinned k) Upper u
-    → j < length assignment.heads → excess S assignment.heads u j <ℤ upper_room network S intervals levels k
-upper_within network S time intervals levels tanks links assignment grid k u j c certificate inside =
-    by_lt_z (excess S assignment.heads u j) (upper_room network S intervals levels k) (λ lt. lt)
+    → IsCompared project S time intervals levels tanks links assignment grid → IsCertificate grid (Pinned k) Upper u
+    → j < length assignment.heads → excess S assignment.heads u j <ℤ upper_room project S intervals levels k
+upper_within project S time intervals levels tanks links assignment grid k u j c certificate inside =
+    by_lt_z (excess S assignment.heads u j) (upper_room project S intervals levels k) (λ lt. lt)
     (λ ge.
     let (i, best) = greatest_below (excess S assignment.heads u) (length assignment.heads) (omega (arith, inside)) in
-    absurd (upper_none network S time intervals levels tanks links assignment grid k u j i c certificate inside ge
+    absurd (upper_none project S time intervals levels tanks links assignment grid k u j i c certificate inside ge
     best))
 
 -- and the pinned tank's lies furthest
-pub upper_furthest : (network : Project) (S time : ℕ) (intervals : List Interval) (levels : List ℤ)
+pub upper_furthest : (project : Project) (S time : ℕ) (intervals : List Interval) (levels : List ℤ)
     (tanks : List TankState) (links : List LinkState) (assignment : Assignment) (grid : Grid) (k : ℕ) (u : List ℤ)
-    → IsCompared network S time intervals levels tanks links assignment grid → IsCertificate grid (Pinned k) Upper u
-    → IsPeak S (node_heads network S time levels assignment.heads) (all_heads grid (Pinned k) Upper u)
-    (tank_node network k)
-upper_furthest network S time intervals levels tanks links assignment grid k u c certificate m =
-    let same = one_each network S time intervals levels tanks links assignment grid (Pinned k) Upper u c certificate in
-    let e : excess S (node_heads network S time levels assignment.heads) (all_heads grid (Pinned k) Upper u)
-    (tank_node network k) ≡ upper_room network S intervals levels k =
-    upper_place network S time intervals levels tanks links assignment grid k u c same in
-    let l : excess S (node_heads network S time levels assignment.heads) (all_heads grid (Pinned k) Upper u) m
-    ≤ℤ upper_room network S intervals levels k =
-    excess_after S assignment.heads u _ _ (upper_room network S intervals levels k) same
-    (upper_fixed network S time intervals levels tanks links assignment grid k
-    (upper_room network S intervals levels k) c (let r : upper_room network S intervals levels k
-    ≤ℤ upper_room network S intervals levels k = omega (arith, ints) in r)) m
-    (λ lt. let w = upper_within network S time intervals levels tanks links assignment grid k u m c certificate lt in
+    → IsCompared project S time intervals levels tanks links assignment grid → IsCertificate grid (Pinned k) Upper u
+    → IsPeak S (node_heads project S time levels assignment.heads) (all_heads grid (Pinned k) Upper u)
+    (tank_node project k)
+upper_furthest project S time intervals levels tanks links assignment grid k u c certificate m =
+    let same = one_each project S time intervals levels tanks links assignment grid (Pinned k) Upper u c certificate in
+    let e : excess S (node_heads project S time levels assignment.heads) (all_heads grid (Pinned k) Upper u)
+    (tank_node project k) ≡ upper_room project S intervals levels k =
+    upper_place project S time intervals levels tanks links assignment grid k u c same in
+    let l : excess S (node_heads project S time levels assignment.heads) (all_heads grid (Pinned k) Upper u) m
+    ≤ℤ upper_room project S intervals levels k =
+    excess_after S assignment.heads u _ _ (upper_room project S intervals levels k) same
+    (upper_fixed project S time intervals levels tanks links assignment grid k
+    (upper_room project S intervals levels k) c (let r : upper_room project S intervals levels k
+    ≤ℤ upper_room project S intervals levels k = omega (arith, ints) in r)) m
+    (λ lt. let w = upper_within project S time intervals levels tanks links assignment grid k u m c certificate lt in
     omega (arith, ints, w)) in
     omega (arith, ints, e, l)
   where
-    upper_place : (network : Project) (S time : ℕ) (intervals : List Interval) (levels : List ℤ)
+    upper_place : (project : Project) (S time : ℕ) (intervals : List Interval) (levels : List ℤ)
         (tanks : List TankState) (links : List LinkState) (assignment : Assignment) (grid : Grid) (k : ℕ) (u : List ℤ)
-        → IsCompared network S time intervals levels tanks links assignment grid → length assignment.heads ≡ length u
-        → excess S (node_heads network S time levels assignment.heads) (all_heads grid (Pinned k) Upper u)
-        (tank_node network k) ≡ upper_room network S intervals levels k
-    upper_place network S time intervals levels tanks links assignment grid k u c same =
-        ap (λ (n : ℕ). excess S (node_heads network S time levels assignment.heads)
+        → IsCompared project S time intervals levels tanks links assignment grid → length assignment.heads ≡ length u
+        → excess S (node_heads project S time levels assignment.heads) (all_heads grid (Pinned k) Upper u)
+        (tank_node project k) ≡ upper_room project S intervals levels k
+    upper_place project S time intervals levels tanks links assignment grid k u c same =
+        ap (λ (n : ℕ). excess S (node_heads project S time levels assignment.heads)
         (all_heads grid (Pinned k) Upper u) n)
-        (let e : (junction_count network + reservoir_count network) + k ≡ length assignment.heads
-        + (reservoir_count network + k) = (let h = c.assigned.head_each in omega (arith, h)) in e)
-        ∙ excess_past S assignment.heads u _ _ (reservoir_count network + k) same
-        ∙ rw (c.is_grid.reservoirs, c.is_grid.tank_heads) (excess_past_reservoirs S (reservoir_head network time)
-        network.reservoirs.list _ _ k)
+        (let e : (junction_count project + reservoir_count project) + k ≡ length assignment.heads
+        + (reservoir_count project + k) = (let h = c.assigned.head_each in omega (arith, h)) in e)
+        ∙ excess_past S assignment.heads u _ _ (reservoir_count project + k) same
+        ∙ rw (c.is_grid.reservoirs, c.is_grid.tank_heads) (excess_past_reservoirs S (reservoir_head project time)
+        project.reservoirs.list _ _ k)
 
 -- how far the pinned tank's head lies from its end
 abbrev pub lower_room : Project → ℕ → List Interval → List ℤ → ℕ → ℤ
-lower_room network S intervals levels k = lack S (tank_heads S network.tanks.list levels)
-    (lower_ends k 0 network.tanks.list intervals) k
+lower_room project S intervals levels k = lack S (tank_heads S project.tanks.list levels)
+    (lower_ends k 0 project.tanks.list intervals) k
 
-lower_fixed : (network : Project) (S time : ℕ) (intervals : List Interval) (levels : List ℤ) (tanks : List TankState)
+lower_fixed : (project : Project) (S time : ℕ) (intervals : List Interval) (levels : List ℤ) (tanks : List TankState)
     (links : List LinkState) (assignment : Assignment) (grid : Grid) (k : ℕ) (t : ℤ)
-    → IsCompared network S time intervals levels tanks links assignment grid → lower_room network S intervals levels k
+    → IsCompared project S time intervals levels tanks links assignment grid → lower_room project S intervals levels k
     ≤ℤ t → (m : ℕ)
-    → lack S (map (λ r. at_scale S (reservoir_head network time r)) network.reservoirs.list
-    ++ tank_heads S network.tanks.list levels) (fixed_heads grid (Pinned k) Lower) m ≤ℤ t
-lower_fixed network S time intervals levels tanks links assignment grid k t c room m =
-    let some = lower_pinned S k 0 network.tanks.list intervals levels c.lie k (omega arith) in
+    → lack S (map (λ r. at_scale S (reservoir_head project time r)) project.reservoirs.list
+    ++ tank_heads S project.tanks.list levels) (fixed_heads grid (Pinned k) Lower) m ≤ℤ t
+lower_fixed project S time intervals levels tanks links assignment grid k t c room m =
+    let some = lower_pinned S k 0 project.tanks.list intervals levels c.lie k (omega arith) in
     let above : pos 0 ≤ℤ t = omega (arith, ints, some, room) in
-    rw (c.is_grid.reservoirs, c.is_grid.tank_heads) (reservoirs_above S (reservoir_head network time)
-    network.reservoirs.list _ _ t above
-    (λ i. lower_others S k 0 network.tanks.list intervals levels t c.lie above i
-    (λ e. subst (λ (n : ℕ). lack S (tank_heads S network.tanks.list levels)
-    (lower_ends k 0 network.tanks.list intervals) n ≤ℤ t) (let s : k ≡ i = omega arith in s) room)) m)
+    rw (c.is_grid.reservoirs, c.is_grid.tank_heads) (reservoirs_above S (reservoir_head project time)
+    project.reservoirs.list _ _ t above
+    (λ i. lower_others S k 0 project.tanks.list intervals levels t c.lie above i
+    (λ e. subst (λ (n : ℕ). lack S (tank_heads S project.tanks.list levels)
+    (lower_ends k 0 project.tanks.list intervals) n ≤ℤ t) (let s : k ≡ i = omega arith in s) room)) m)
 
-lower_none : (network : Project) (S time : ℕ) (intervals : List Interval) (levels : List ℤ) (tanks : List TankState)
+lower_none : (project : Project) (S time : ℕ) (intervals : List Interval) (levels : List ℤ) (tanks : List TankState)
     (links : List LinkState) (assignment : Assignment) (grid : Grid) (k : ℕ) (u : List ℤ) (j i : ℕ)
-    → IsCompared network S time intervals levels tanks links assignment grid → IsCertificate grid (Pinned k) Lower u
+    → IsCompared project S time intervals levels tanks links assignment grid → IsCertificate grid (Pinned k) Lower u
     → j < length assignment.heads
-    → lower_room network S intervals levels k ≤ℤ lack S assignment.heads u j
+    → lower_room project S intervals levels k ≤ℤ lack S assignment.heads u j
     → IsGreatestBelow (lack S assignment.heads u) (length assignment.heads) i → ⊥
-lower_none network S time intervals levels tanks links assignment grid k u j i c certificate lt ge best =
-    let same = one_each network S time intervals levels tanks links assignment grid (Pinned k) Lower u c certificate in
+lower_none project S time intervals levels tanks links assignment grid k u j i c certificate lt ge best =
+    let same = one_each project S time intervals levels tanks links assignment grid (Pinned k) Lower u c certificate in
     let top : lack S assignment.heads u j ≤ℤ lack S assignment.heads u i = best.each j lt in
-    let room : lower_room network S intervals levels k ≤ℤ lack S assignment.heads u i = omega (arith, ints, top, ge) in
-    let some = lower_pinned S k 0 network.tanks.list intervals levels c.lie k (omega arith) in
+    let room : lower_room project S intervals levels k ≤ℤ lack S assignment.heads u i = omega (arith, ints, top, ge) in
+    let some = lower_pinned S k 0 project.tanks.list intervals levels c.lie k (omega arith) in
     let front : i < length u = (let l = best.below in omega (arith, l, same)) in
-    no_lack network S time intervals levels tanks links assignment grid (Pinned k) u i c certificate front
+    no_lack project S time intervals levels tanks links assignment grid (Pinned k) u i c certificate front
     (λ m. rw (head_front assignment.heads _ i best.below, head_front u _ i front)
     (lack_after S assignment.heads u _ _ (lack S assignment.heads u i) same
-    (lower_fixed network S time intervals levels tanks links assignment grid k (lack S assignment.heads u i) c room) m
+    (lower_fixed project S time intervals levels tanks links assignment grid k (lack S assignment.heads u i) c room) m
     (λ lt. best.each m lt)))
     (omega (arith, ints, room, some))
 
 -- each junction's head lies less far from the vector
-pub lower_within : (network : Project) (S time : ℕ) (intervals : List Interval) (levels : List ℤ)
+pub lower_within : (project : Project) (S time : ℕ) (intervals : List Interval) (levels : List ℤ)
     (tanks : List TankState) (links : List LinkState) (assignment : Assignment) (grid : Grid) (k : ℕ) (u : List ℤ)
     (j : ℕ)
-    → IsCompared network S time intervals levels tanks links assignment grid → IsCertificate grid (Pinned k) Lower u
-    → j < length assignment.heads → lack S assignment.heads u j <ℤ lower_room network S intervals levels k
-lower_within network S time intervals levels tanks links assignment grid k u j c certificate inside =
-    by_lt_z (lack S assignment.heads u j) (lower_room network S intervals levels k) (λ lt. lt)
+    → IsCompared project S time intervals levels tanks links assignment grid → IsCertificate grid (Pinned k) Lower u
+    → j < length assignment.heads → lack S assignment.heads u j <ℤ lower_room project S intervals levels k
+lower_within project S time intervals levels tanks links assignment grid k u j c certificate inside =
+    by_lt_z (lack S assignment.heads u j) (lower_room project S intervals levels k) (λ lt. lt)
     (λ ge.
     let (i, best) = greatest_below (lack S assignment.heads u) (length assignment.heads) (omega (arith, inside)) in
-    absurd (lower_none network S time intervals levels tanks links assignment grid k u j i c certificate inside ge
+    absurd (lower_none project S time intervals levels tanks links assignment grid k u j i c certificate inside ge
     best))
 
 -- and the pinned tank's lies furthest
-pub lower_furthest : (network : Project) (S time : ℕ) (intervals : List Interval) (levels : List ℤ)
+pub lower_furthest : (project : Project) (S time : ℕ) (intervals : List Interval) (levels : List ℤ)
     (tanks : List TankState) (links : List LinkState) (assignment : Assignment) (grid : Grid) (k : ℕ) (u : List ℤ)
-    → IsCompared network S time intervals levels tanks links assignment grid → IsCertificate grid (Pinned k) Lower u
-    → IsDip S (node_heads network S time levels assignment.heads) (all_heads grid (Pinned k) Lower u)
-    (tank_node network k)
-lower_furthest network S time intervals levels tanks links assignment grid k u c certificate m =
-    let same = one_each network S time intervals levels tanks links assignment grid (Pinned k) Lower u c certificate in
-    let e : lack S (node_heads network S time levels assignment.heads) (all_heads grid (Pinned k) Lower u)
-    (tank_node network k) ≡ lower_room network S intervals levels k =
-    lower_place network S time intervals levels tanks links assignment grid k u c same in
-    let l : lack S (node_heads network S time levels assignment.heads) (all_heads grid (Pinned k) Lower u) m
-    ≤ℤ lower_room network S intervals levels k =
-    lack_after S assignment.heads u _ _ (lower_room network S intervals levels k) same
-    (lower_fixed network S time intervals levels tanks links assignment grid k
-    (lower_room network S intervals levels k) c (let r : lower_room network S intervals levels k
-    ≤ℤ lower_room network S intervals levels k = omega (arith, ints) in r)) m
-    (λ lt. let w = lower_within network S time intervals levels tanks links assignment grid k u m c certificate lt in
+    → IsCompared project S time intervals levels tanks links assignment grid → IsCertificate grid (Pinned k) Lower u
+    → IsDip S (node_heads project S time levels assignment.heads) (all_heads grid (Pinned k) Lower u)
+    (tank_node project k)
+lower_furthest project S time intervals levels tanks links assignment grid k u c certificate m =
+    let same = one_each project S time intervals levels tanks links assignment grid (Pinned k) Lower u c certificate in
+    let e : lack S (node_heads project S time levels assignment.heads) (all_heads grid (Pinned k) Lower u)
+    (tank_node project k) ≡ lower_room project S intervals levels k =
+    lower_place project S time intervals levels tanks links assignment grid k u c same in
+    let l : lack S (node_heads project S time levels assignment.heads) (all_heads grid (Pinned k) Lower u) m
+    ≤ℤ lower_room project S intervals levels k =
+    lack_after S assignment.heads u _ _ (lower_room project S intervals levels k) same
+    (lower_fixed project S time intervals levels tanks links assignment grid k
+    (lower_room project S intervals levels k) c (let r : lower_room project S intervals levels k
+    ≤ℤ lower_room project S intervals levels k = omega (arith, ints) in r)) m
+    (λ lt. let w = lower_within project S time intervals levels tanks links assignment grid k u m c certificate lt in
     omega (arith, ints, w)) in
     omega (arith, ints, e, l)
   where
-    lower_place : (network : Project) (S time : ℕ) (intervals : List Interval) (levels : List ℤ)
+    lower_place : (project : Project) (S time : ℕ) (intervals : List Interval) (levels : List ℤ)
         (tanks : List TankState) (links : List LinkState) (assignment : Assignment) (grid : Grid) (k : ℕ) (u : List ℤ)
-        → IsCompared network S time intervals levels tanks links assignment grid → length assignment.heads ≡ length u
-        → lack S (node_heads network S time levels assignment.heads) (all_heads grid (Pinned k) Lower u)
-        (tank_node network k) ≡ lower_room network S intervals levels k
-    lower_place network S time intervals levels tanks links assignment grid k u c same =
-        ap (λ (n : ℕ). lack S (node_heads network S time levels assignment.heads) (all_heads grid (Pinned k) Lower u) n)
-        (let e : (junction_count network + reservoir_count network) + k ≡ length assignment.heads
-        + (reservoir_count network + k) = (let h = c.assigned.head_each in omega (arith, h)) in e)
-        ∙ lack_past S assignment.heads u _ _ (reservoir_count network + k) same
-        ∙ rw (c.is_grid.reservoirs, c.is_grid.tank_heads) (lack_past_reservoirs S (reservoir_head network time)
-        network.reservoirs.list _ _ k)
+        → IsCompared project S time intervals levels tanks links assignment grid → length assignment.heads ≡ length u
+        → lack S (node_heads project S time levels assignment.heads) (all_heads grid (Pinned k) Lower u)
+        (tank_node project k) ≡ lower_room project S intervals levels k
+    lower_place project S time intervals levels tanks links assignment grid k u c same =
+        ap (λ (n : ℕ). lack S (node_heads project S time levels assignment.heads) (all_heads grid (Pinned k) Lower u) n)
+        (let e : (junction_count project + reservoir_count project) + k ≡ length assignment.heads
+        + (reservoir_count project + k) = (let h = c.assigned.head_each in omega (arith, h)) in e)
+        ∙ lack_past S assignment.heads u _ _ (reservoir_count project + k) same
+        ∙ rw (c.is_grid.reservoirs, c.is_grid.tank_heads) (lack_past_reservoirs S (reservoir_head project time)
+        project.reservoirs.list _ _ k)
 
 -- ---- the inflow of a tank
 
-pub inflow_above : (network : Project) (S time : ℕ) (intervals : List Interval) (levels : List ℤ)
+pub inflow_above : (project : Project) (S time : ℕ) (intervals : List Interval) (levels : List ℤ)
     (tanks : List TankState) (links : List LinkState) (assignment : Assignment) (grid : Grid) (k : ℕ) (above : List ℤ)
-    → IsCompared network S time intervals levels tanks links assignment grid → IsCertificate grid (Pinned k) Upper above
-    → tank_inflow network k assignment.flows
-    ≤ℤ ((pos S *ℤ neg_ℤ (net low high (all_heads grid (Pinned k) Upper above) (tank_node network k) grid.links))
-    +ℤ pos (link_ends (tank_node network k) grid.links * (S * 10)))
-inflow_above network S time intervals levels tanks links assignment grid k above c certificate =
-    let sums = sum-upper network tanks S (node_heads network S time levels assignment.heads)
-    (all_heads grid (Pinned k) Upper above) (tank_node network k) c.some
-    (upper_furthest network S time intervals levels tanks links assignment grid k above c certificate)
-    network.links.list links assignment.flows c.assigned.links_follow
+    → IsCompared project S time intervals levels tanks links assignment grid → IsCertificate grid (Pinned k) Upper above
+    → tank_inflow project k assignment.flows
+    ≤ℤ ((pos S *ℤ neg_ℤ (net low high (all_heads grid (Pinned k) Upper above) (tank_node project k) grid.links))
+    +ℤ pos (link_ends (tank_node project k) grid.links * (S * 10)))
+inflow_above project S time intervals levels tanks links assignment grid k above c certificate =
+    let sums = sum-upper project tanks S (node_heads project S time levels assignment.heads)
+    (all_heads grid (Pinned k) Upper above) (tank_node project k) c.some
+    (upper_furthest project S time intervals levels tanks links assignment grid k above c certificate)
+    project.links.list links assignment.flows c.assigned.links_follow
     (subst (λ (ls : List GridLink). AllByRecursion (λ (link : GridLink). IsSoundLaw link.law) ls) c.is_grid.links_are
     c.sound.links) in
     let turned = subst (λ (ls : List GridLink). (pos S *ℤ net low high (all_heads grid (Pinned k) Upper above)
-    (tank_node network k) ls) ≤ℤ (net_outflow (tank_node network k) network.links.list assignment.flows
-    +ℤ pos (link_ends (tank_node network k) ls * (S * 10))))
+    (tank_node project k) ls) ≤ℤ (net_outflow (tank_node project k) project.links.list assignment.flows
+    +ℤ pos (link_ends (tank_node project k) ls * (S * 10))))
     (sym c.is_grid.links_are) sums in
     omega (
       arith,
       ints,
       turned,
       times_neg S (net low high (all_heads grid (Pinned k) Upper above)
-          (tank_node network k) grid.links),
+          (tank_node project k) grid.links),
     )
 
-pub inflow_below : (network : Project) (S time : ℕ) (intervals : List Interval) (levels : List ℤ)
+pub inflow_below : (project : Project) (S time : ℕ) (intervals : List Interval) (levels : List ℤ)
     (tanks : List TankState) (links : List LinkState) (assignment : Assignment) (grid : Grid) (k : ℕ) (below : List ℤ)
-    → IsCompared network S time intervals levels tanks links assignment grid → IsCertificate grid (Pinned k) Lower below
-    → ((pos S *ℤ neg_ℤ (net high low (all_heads grid (Pinned k) Lower below) (tank_node network k) grid.links))
-    -ℤ pos (link_ends (tank_node network k) grid.links * (S * 10))) ≤ℤ tank_inflow network k assignment.flows
-inflow_below network S time intervals levels tanks links assignment grid k below c certificate =
-    let sums = sum-lower network tanks S (node_heads network S time levels assignment.heads)
-    (all_heads grid (Pinned k) Lower below) (tank_node network k) c.some
-    (lower_furthest network S time intervals levels tanks links assignment grid k below c certificate)
-    network.links.list links assignment.flows c.assigned.links_follow
+    → IsCompared project S time intervals levels tanks links assignment grid → IsCertificate grid (Pinned k) Lower below
+    → ((pos S *ℤ neg_ℤ (net high low (all_heads grid (Pinned k) Lower below) (tank_node project k) grid.links))
+    -ℤ pos (link_ends (tank_node project k) grid.links * (S * 10))) ≤ℤ tank_inflow project k assignment.flows
+inflow_below project S time intervals levels tanks links assignment grid k below c certificate =
+    let sums = sum-lower project tanks S (node_heads project S time levels assignment.heads)
+    (all_heads grid (Pinned k) Lower below) (tank_node project k) c.some
+    (lower_furthest project S time intervals levels tanks links assignment grid k below c certificate)
+    project.links.list links assignment.flows c.assigned.links_follow
     (subst (λ (ls : List GridLink). AllByRecursion (λ (link : GridLink). IsSoundLaw link.law) ls) c.is_grid.links_are
     c.sound.links) in
-    let turned = subst (λ (ls : List GridLink). net_outflow (tank_node network k) network.links.list assignment.flows
-    ≤ℤ ((pos S *ℤ net high low (all_heads grid (Pinned k) Lower below) (tank_node network k) ls)
-    +ℤ pos (link_ends (tank_node network k) ls * (S * 10))))
+    let turned = subst (λ (ls : List GridLink). net_outflow (tank_node project k) project.links.list assignment.flows
+    ≤ℤ ((pos S *ℤ net high low (all_heads grid (Pinned k) Lower below) (tank_node project k) ls)
+    +ℤ pos (link_ends (tank_node project k) ls * (S * 10))))
     (sym c.is_grid.links_are) sums in
     omega (
       arith,
       ints,
       turned,
       times_neg S (net high low (all_heads grid (Pinned k) Lower below)
-          (tank_node network k) grid.links),
+          (tank_node project k) grid.links),
     )
 
 widened_by : (S ends : ℕ) (z : ℤ) → pos S *ℤ (z +ℤ pos (10 * ends)) ≡ (pos S *ℤ z) +ℤ pos (ends * (S * 10))
@@ -382,17 +382,17 @@ narrowed_by : (S ends : ℕ) (z : ℤ) → pos S *ℤ (z -ℤ pos (10 * ends)) �
 narrowed_by S ends z = times_minus S z (pos (10 * ends)) ∙ (let e : (pos S *ℤ z) -ℤ pos (S * (10 * ends))
     ≡ (pos S *ℤ z) -ℤ pos (ends * (S * 10)) = omega (arith, ints) in e)
 
-pub inflow_lies : (network : Project) (S time : ℕ) (intervals : List Interval) (levels : List ℤ)
+pub inflow_lies : (project : Project) (S time : ℕ) (intervals : List Interval) (levels : List ℤ)
     (tanks : List TankState) (links : List LinkState) (assignment : Assignment) (grid : Grid) (k : ℕ)
     (below above : List ℤ)
-    → IsCompared network S time intervals levels tanks links assignment grid
+    → IsCompared project S time intervals levels tanks links assignment grid
     → IsCertificate grid (Pinned k) Lower below → IsCertificate grid (Pinned k) Upper above
-    → LiesIn S (inflow_box grid k (tank_node network k) below above) (tank_inflow network k assignment.flows)
-inflow_lies network S time intervals levels tanks links assignment grid k below above c under over = record {
-  low = rw (narrowed_by S (link_ends (tank_node network k) grid.links)
-      (neg_ℤ (net high low (all_heads grid (Pinned k) Lower below) (tank_node network k) grid.links)))
-      (inflow_below network S time intervals levels tanks links assignment grid k below c under);
-  high = rw (widened_by S (link_ends (tank_node network k) grid.links)
-      (neg_ℤ (net low high (all_heads grid (Pinned k) Upper above) (tank_node network k) grid.links)))
-      (inflow_above network S time intervals levels tanks links assignment grid k above c over);
+    → LiesIn S (inflow_box grid k (tank_node project k) below above) (tank_inflow project k assignment.flows)
+inflow_lies project S time intervals levels tanks links assignment grid k below above c under over = record {
+  low = rw (narrowed_by S (link_ends (tank_node project k) grid.links)
+      (neg_ℤ (net high low (all_heads grid (Pinned k) Lower below) (tank_node project k) grid.links)))
+      (inflow_below project S time intervals levels tanks links assignment grid k below c under);
+  high = rw (widened_by S (link_ends (tank_node project k) grid.links)
+      (neg_ℤ (net low high (all_heads grid (Pinned k) Upper above) (tank_node project k) grid.links)))
+      (inflow_above project S time intervals levels tanks links assignment grid k above c over);
 }

@@ -2,25 +2,21 @@
 -- content.
 use Rattle.std.proofs.Common.{◌≡◌, ℕ, ◌<◌, ℤ, pos, ◌+ℤ◌, ◌-ℤ◌, ◌*ℤ◌, ◌≤ℤ◌, ◌<ℤ◌, sym, subst, arith, true, false, inl}
 use Rattle.std.proofs.Common.{inr}
-use Rattle.std.specs.Prelude.{int_le, if◌then◌else◌}
+use Rattle.std.specs.Prelude.{if◌then◌else◌}
 use Rattle.std.specs.Int.{int_max, int_min}
 use Rattle.std.proofs.Math.IntN.{*ℤ_comm}
 use Rattle.std.proofs.lemmas.Int.{ints}
 use Rattle.std.proofs.lemmas.Bool.{MatchBool-at_true, MatchBool-at_false, cases_Bool, cond_both}
-use Rattle.hyd_num.proofs.Integers.{times_plus, times_minus, times_rises, times_reflects}
+use Rattle.hyd_num.proofs.Integers.{times_plus, times_minus, times_rises, times_reflects, one_times}
 use Rattle.hyd_num.specs.Rational.{Rational, floor, ceiling, is_at_most, whole}
 use Rattle.hyd_spec.specs.Scale.{at_scale}
 use Rattle.hyd_spec.specs.Tank.{Bounds, is_at_maximum, is_at_minimum, placed, IsNear, IsPlaced}
 use Rattle.hyd_spec_certificates.specs.Stocks.{lower_end, upper_end}
 use Rattle.hyd_lemmas.proofs.Integers.{exchanged, floor_low, floor_at_most_ceiling, ceiling_high, floor_greatest}
 use Rattle.hyd_lemmas.proofs.Integers.{ceiling_least, max_left, max_is, max_rises, min_left, min_is, min_rises}
-use Rattle.hyd_theorems_on_definitions.proofs.Outflows.{le-yes, le-no}
-use Rattle.hyd_theorems_on_definitions.proofs.Leading.{one_times, one-within, Leads, through, passes-up, passes-down}
-use Rattle.hyd_theorems_on_definitions.proofs.Leading.{raised, sunk}
+use Rattle.hyd_lemmas.proofs.Trials.{le-from, le-yes, le-no}
+use Rattle.hyd_theorems_on_definitions.proofs.Leading.{one-within, Leads, through, passes-up, passes-down, raised, sunk}
 use Rattle.hyd_theorems_on_definitions.proofs.Leading.{lowered, risen}
-
-pub le-from : (a b : ℤ) → a ≤ℤ b → int_le a b ≡ true
-le-from a b le = grind (arith, ints)
 
 -- ---- what tests of a value say
 

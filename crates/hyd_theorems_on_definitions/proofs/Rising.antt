@@ -8,23 +8,23 @@ use Rattle.hyd_num.specs.BinaryNumbers.{numerator, denominator}
 use Rattle.hyd_num.specs.Rational.{floor, ceiling}
 use Rattle.hyd_spec.specs.ProgramTypes.{Capacity}
 use Rattle.hyd_spec_certificates.specs.EnclosingFunctions.{DemandLaw, Fixed, Driven, demand_low, demand_high}
-use Rattle.hyd_spec_certificates.specs.EnclosingFunctions.{emitter_low}
-use Rattle.hyd_spec_certificates.specs.EnclosingFunctions.{emitter_high, quadratic_low, quadratic_high}
-use Rattle.hyd_lemmas.proofs.Enclosing.{denominator_above}
+use Rattle.hyd_spec_certificates.specs.EnclosingFunctions.{emitter_low, emitter_high, quadratic_low, quadratic_high}
+use Rattle.hyd_num.proofs.Ends.{denominator_positive}
 use Rattle.hyd_theorems_on_definitions.specs.TermsOfTheorems.{AreRising, IsSoundDemand}
 use Rattle.hyd_lemmas.proofs.Integers.{floor_at_most_ceiling, min_left, min_rises, min_is}
+use Rattle.hyd_lemmas.proofs.Trials.{le-yes, le-no}
 use Rattle.hyd_theorems_on_definitions.proofs.LinkLaws.{low-rises, high-rises, roots-ordered}
 use Rattle.hyd_theorems_on_definitions.proofs.EachLaw.{low_is, high_is}
-use Rattle.hyd_theorems_on_definitions.proofs.Outflows.{le-yes, le-no, high-positive}
+use Rattle.hyd_theorems_on_definitions.proofs.Outflows.{high-positive}
 
 pub AreRising-quad : (c : Capacity) → AreRising (quadratic_low c) (quadratic_high c)
 AreRising-quad c = record {
   low_rises = λ x d le. rw (low_is c x, low_is c d) (low-rises (numerator c.lo) (denominator c.lo) (numerator c.hi)
-      (denominator c.hi) (denominator_above c.lo) (denominator_above c.hi) x d le);
+      (denominator c.hi) (denominator_positive c.lo) (denominator_positive c.hi) x d le);
   high_rises = λ x d le. rw (high_is c x, high_is c d) (high-rises (numerator c.lo) (denominator c.lo)
-      (numerator c.hi) (denominator c.hi) (denominator_above c.lo) (denominator_above c.hi) x d le);
+      (numerator c.hi) (denominator c.hi) (denominator_positive c.lo) (denominator_positive c.hi) x d le);
   ordered = λ d. rw (low_is c d, high_is c d) (roots-ordered (numerator c.lo) (denominator c.lo) (numerator c.hi)
-      (denominator c.hi) (denominator_above c.lo) (denominator_above c.hi) c.ordered d);
+      (denominator c.hi) (denominator_positive c.lo) (denominator_positive c.hi) c.ordered d);
 }
 
 low-positive : (c : Capacity) (z : ℤ) → pos 0 ≤ℤ z → pos 0 ≤ℤ quadratic_low c z

@@ -7,11 +7,13 @@ use Rattle.std.proofs.Math.Nat.{mul_comm}
 use Rattle.std.proofs.lemmas.Int.{ints}
 use Rattle.std.proofs.lemmas.Bool.{cond_both}
 use Rattle.hyd_num.proofs.Integers.{times_plus, times_minus, times_rises, times_reflects, times_one, times_times}
+use Rattle.hyd_num.proofs.Integers.{one_times}
 use Rattle.hyd_num.specs.Rational.{Rational, whole}
 use Rattle.hyd_net.specs.Curves.{Knot, on_line, between, value_from, value_at}
 use Rattle.hyd_lemmas.proofs.Integers.{exchanged}
 use Rattle.hyd_theorems_on_definitions.specs.TermsOfTheorems.{AreInOrder}
-use Rattle.hyd_theorems_on_definitions.proofs.Leading.{Leads, UpTo, From, through, one_times, one-within}
+use Rattle.hyd_lemmas.proofs.Trials.{lt-no, lt-yes}
+use Rattle.hyd_theorems_on_definitions.proofs.Leading.{Leads, UpTo, From, through, one-within}
 
 -- ---- one line
 
@@ -64,12 +66,6 @@ line-least T W D place value x le =
 pub record Follows (knot next : Knot) : Type 0 where
   pub later : knot.place ≤ℤ next.place
   pub higher : knot.value ≤ℤ next.value
-
-pub lt-yes : (a b : ℤ) → int_lt a b ≡ true → a <ℤ b
-lt-yes a b e = grind (arith, ints)
-
-pub lt-no : (a b : ℤ) → int_lt a b ≡ false → b ≤ℤ a
-lt-no a b e = grind (arith, ints)
 
 pub difference-is : (y z : ℤ) → y ≤ℤ z → z -ℤ y ≡ pos (unsigned_abs (z -ℤ y))
 difference-is y z le = omega (arith, ints)

@@ -13,19 +13,19 @@ use Rattle.hyd_spec_reports.specs.PromisesOfRunsAndChecks.{Finished, Stopped, is
 use Rattle.hyd_spec_reports.specs.PromisesOfRunsAndChecks.{RunBreaksOff}
 use Rattle.hyd_spec_reports.specs.PromisesOfRunsAndChecks.{CheckAccepts, accepted_line}
 
-pub valid_from : (network : Project) (start : Standing) (founds : List Found) (last : Standing)
-    → IsRunFrom network start founds last
-    → AreValidFrom network start (rows_of founds) last
-valid_from network start [] last none = no_record
-valid_from network start (found ∷ rest) last (more is goes) = more_records found.grid is.valid
-    (valid_from network found.next rest last goes)
+pub valid_from : (project : Project) (start : Standing) (founds : List Found) (last : Standing)
+    → IsRunFrom project start founds last
+    → AreValidFrom project start (rows_of founds) last
+valid_from project start [] last none = no_record
+valid_from project start (found ∷ rest) last (more is goes) = more_records found.grid is.valid
+    (valid_from project found.next rest last goes)
 
-pub breaks_off : (network : Project) (rounds : ℕ) (sharpness : Sharpness) (outcome : Outcome)
+pub breaks_off : (project : Project) (rounds : ℕ) (sharpness : Sharpness) (outcome : Outcome)
     (certificate report written unwritten printed unprinted : List ℕ)
-    → RunWrites network rounds sharpness outcome certificate report
+    → RunWrites project rounds sharpness outcome certificate report
     → written ++ unwritten ≡ certificate → printed ++ unprinted ≡ report
-    → RunBreaksOff network rounds sharpness written printed
-breaks_off network rounds sharpness outcome certificate report written unwritten printed unprinted run front_written
+    → RunBreaksOff project rounds sharpness written printed
+breaks_off project rounds sharpness outcome certificate report written unwritten printed unprinted run front_written
     front_printed = record {
       founds = run.founds;
       left = run.left;
@@ -41,22 +41,22 @@ breaks_off network rounds sharpness outcome certificate report written unwritten
     }
 
 -- the last word of a certificate is that of the standing that the run leaves
-last_word : (network : Project) (left : Standing) (rounds : ℕ) (outcome : Outcome)
-    → EndsSo network left rounds outcome → is_finished outcome ≡ left.finished
-last_word network left rounds Finished ends = sym ends
-last_word network left rounds (Stopped cause) ends = sym ends.0
+last_word : (project : Project) (left : Standing) (rounds : ℕ) (outcome : Outcome)
+    → EndsSo project left rounds outcome → is_finished outcome ≡ left.finished
+last_word project left rounds Finished ends = sym ends
+last_word project left rounds (Stopped cause) ends = sym ends.0
 
-pub accepts : (network : Project) (rounds : ℕ) (sharpness : Sharpness) (outcome : Outcome) (certificate report : List ℕ)
-    (run : RunWrites network rounds sharpness outcome certificate report)
-    → CheckAccepts network certificate (report_text network (lines_of run.founds)
+pub accepts : (project : Project) (rounds : ℕ) (sharpness : Sharpness) (outcome : Outcome) (certificate report : List ℕ)
+    (run : RunWrites project rounds sharpness outcome certificate report)
+    → CheckAccepts project certificate (report_text project (lines_of run.founds)
     (accepted_line (length run.founds) run.left.finished))
-accepts network rounds sharpness outcome certificate report run = record {
+accepts project rounds sharpness outcome certificate report run = record {
   founds = run.founds;
   left = run.left;
   is_run = run.is_run;
-  certificate = subst (λ (finished : Bool). IsCertificateText certificate (version_of network)
-      (junction_count network) (tank_count network) (rows_of run.founds) (length run.founds) finished)
-      (last_word network run.left rounds outcome run.ends_so) run.certificate;
+  certificate = subst (λ (finished : Bool). IsCertificateText certificate (version_of project)
+      (junction_count project) (tank_count project) (rows_of run.founds) (length run.founds) finished)
+      (last_word project run.left rounds outcome run.ends_so) run.certificate;
   report = refl;
   every_history = run.every_history;
 }

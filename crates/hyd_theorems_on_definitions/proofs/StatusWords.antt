@@ -1,5 +1,5 @@
 -- The status word of a link holds at each head difference of the interval by which it was chosen.
-use Rattle.std.proofs.Common.{◌≡◌, ℕ, ◌<◌, ℤ, pos, ◌+ℤ◌, ◌*ℤ◌, ◌≤ℤ◌, ◌<ℤ◌, List, ap, arith, Bool, true}
+use Rattle.std.proofs.Common.{ℕ, ◌<◌, ℤ, pos, ◌+ℤ◌, ◌*ℤ◌, ◌≤ℤ◌, ◌<ℤ◌, List, ap, arith, Bool}
 use Rattle.std.specs.Prelude.{int_le, int_lt, if◌then◌else◌}
 use Rattle.std.proofs.lemmas.Int.{ints}
 use Rattle.std.proofs.lemmas.Bool.{cond_both}
@@ -11,8 +11,7 @@ use Rattle.hyd_net.specs.Curves.{Knot, value_at, IsPumpCurve}
 use Rattle.hyd_net.specs.NetworkRanges.{HasSizes}
 use Rattle.hyd_net.specs.RoundedFileNumbers.{IsKindMade, IsValveMade}
 use Rattle.hyd_spec.specs.ProgramTypes.{HeadPoint, Pattern, LinkKind, PipeLink, CheckPipe, PumpLink, CurvePump, Tcv}
-use Rattle.hyd_spec.specs.ProgramTypes.{Fcv, Gpv}
-use Rattle.hyd_spec.specs.ProgramTypes.{LinkState, Open, Closed, Speed, Throttle, Limit, OpenValve}
+use Rattle.hyd_spec.specs.ProgramTypes.{Fcv, Gpv, LinkState, Open, Closed, Speed, Throttle, Limit, OpenValve}
 use Rattle.hyd_spec.specs.Scale.{at_scale}
 use Rattle.hyd_spec.specs.DemandsReservoirHeadsAndCurves.{lift_of, points_of, pump_knots}
 use Rattle.hyd_spec.specs.LinkLaw.{valve_law}
@@ -24,16 +23,11 @@ use Rattle.hyd_spec_reports.specs.Report.{by_drive, by_knots, by_setting, status
 use Rattle.hyd_spec_reports.specs.Claims.{DriveIs, drive_of, SettingIs, StatusHolds}
 use Rattle.hyd_lemmas.proofs.Integers.{exchanged, floor_low, ceiling_high}
 use Rattle.hyd_theorems_on_definitions.specs.TermsOfTheorems.{LiesIn, AreInOrder}
+use Rattle.hyd_lemmas.proofs.Trials.{le-yes, lt-yes}
 use Rattle.hyd_theorems_on_definitions.proofs.EachLaw.{IsLaw-each}
 use Rattle.hyd_theorems_on_definitions.proofs.Grids.{valve-sound, bend-sound, lift-above}
 use Rattle.hyd_theorems_on_definitions.proofs.CurveKnots.{pump_knots-in_order}
 use Rattle.hyd_theorems_on_definitions.proofs.RisingLines.{value-positive, value-negative}
-
-lt-yes : (a b : ℤ) → int_lt a b ≡ true → a <ℤ b
-lt-yes a b e = grind (arith, ints)
-
-le-yes : (a b : ℤ) → int_le a b ≡ true → a ≤ℤ b
-le-yes a b e = grind (arith, ints)
 
 -- a word by what drives the flow at either end holds of what drives it between them
 drive-by : (d : Interval) (y : ℤ) → (pos 0 <ℤ d.lo → pos 0 <ℤ y) → (d.hi ≤ℤ pos 0 → y ≤ℤ pos 0) → DriveIs (by_drive d) y

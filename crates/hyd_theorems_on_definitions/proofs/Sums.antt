@@ -124,45 +124,45 @@ link-lower S heads u i link q some sound dip follows =
     sym_test m n e = eq-eqb n m (sym (eqb-true m n e))
 
 -- over all links
-pub sum-upper : (network : Project) (tanks : List TankState) (S : ℕ) (heads u : List ℤ) (i : ℕ) → 0 < S
+pub sum-upper : (project : Project) (tanks : List TankState) (S : ℕ) (heads u : List ℤ) (i : ℕ) → 0 < S
     → IsPeak S heads u i
     → (links : List Link) (states : List LinkState) (flows : List ℤ)
-    → LinksFollow network tanks S heads links states flows
-    → AllByRecursion (λ (link : GridLink). IsSoundLaw link.law) (grid_links network tanks links states)
-    → (pos S *ℤ net low high u i (grid_links network tanks links states))
-    ≤ℤ (net_outflow i links flows +ℤ pos (link_ends i (grid_links network tanks links states) * (S * 10)))
-sum-upper network tanks S heads u i some peak [] [] [] f sound = omega (arith, ints)
-sum-upper network tanks S heads u i some peak [] [] (q ∷ flows) f sound = elim f [ ]
-sum-upper network tanks S heads u i some peak [] (state ∷ states) flows f sound = elim f [ ]
-sum-upper network tanks S heads u i some peak (link ∷ links) [] flows f sound = elim f [ ]
-sum-upper network tanks S heads u i some peak (link ∷ links) (state ∷ states) [] f sound = elim f [ ]
-sum-upper network tanks S heads u i some peak (link ∷ links) (state ∷ states) (q ∷ flows) (more follows rest) sound =
+    → LinksFollow project tanks S heads links states flows
+    → AllByRecursion (λ (link : GridLink). IsSoundLaw link.law) (grid_links project tanks links states)
+    → (pos S *ℤ net low high u i (grid_links project tanks links states))
+    ≤ℤ (net_outflow i links flows +ℤ pos (link_ends i (grid_links project tanks links states) * (S * 10)))
+sum-upper project tanks S heads u i some peak [] [] [] f sound = omega (arith, ints)
+sum-upper project tanks S heads u i some peak [] [] (q ∷ flows) f sound = elim f [ ]
+sum-upper project tanks S heads u i some peak [] (state ∷ states) flows f sound = elim f [ ]
+sum-upper project tanks S heads u i some peak (link ∷ links) [] flows f sound = elim f [ ]
+sum-upper project tanks S heads u i some peak (link ∷ links) (state ∷ states) [] f sound = elim f [ ]
+sum-upper project tanks S heads u i some peak (link ∷ links) (state ∷ states) (q ∷ flows) (more follows rest) sound =
     let a = link-upper S heads u i (record {
       from = link.from;
       to = link.to;
-      law = law_of network tanks link state;
+      law = law_of project tanks link state;
     }) q some sound.0 peak follows in
-    let b = sum-upper network tanks S heads u i some peak links states flows rest sound.1 in
+    let b = sum-upper project tanks S heads u i some peak links states flows rest sound.1 in
     rw times_plus (omega (arith, ints, a, b))
 
-pub sum-lower : (network : Project) (tanks : List TankState) (S : ℕ) (heads u : List ℤ) (i : ℕ) → 0 < S
+pub sum-lower : (project : Project) (tanks : List TankState) (S : ℕ) (heads u : List ℤ) (i : ℕ) → 0 < S
     → IsDip S heads u i
     → (links : List Link) (states : List LinkState) (flows : List ℤ)
-    → LinksFollow network tanks S heads links states flows
-    → AllByRecursion (λ (link : GridLink). IsSoundLaw link.law) (grid_links network tanks links states)
+    → LinksFollow project tanks S heads links states flows
+    → AllByRecursion (λ (link : GridLink). IsSoundLaw link.law) (grid_links project tanks links states)
     → net_outflow i links flows
-    ≤ℤ ((pos S *ℤ net high low u i (grid_links network tanks links states))
-    +ℤ pos (link_ends i (grid_links network tanks links states) * (S * 10)))
-sum-lower network tanks S heads u i some dip [] [] [] f sound = omega (arith, ints)
-sum-lower network tanks S heads u i some dip [] [] (q ∷ flows) f sound = elim f [ ]
-sum-lower network tanks S heads u i some dip [] (state ∷ states) flows f sound = elim f [ ]
-sum-lower network tanks S heads u i some dip (link ∷ links) [] flows f sound = elim f [ ]
-sum-lower network tanks S heads u i some dip (link ∷ links) (state ∷ states) [] f sound = elim f [ ]
-sum-lower network tanks S heads u i some dip (link ∷ links) (state ∷ states) (q ∷ flows) (more follows rest) sound =
+    ≤ℤ ((pos S *ℤ net high low u i (grid_links project tanks links states))
+    +ℤ pos (link_ends i (grid_links project tanks links states) * (S * 10)))
+sum-lower project tanks S heads u i some dip [] [] [] f sound = omega (arith, ints)
+sum-lower project tanks S heads u i some dip [] [] (q ∷ flows) f sound = elim f [ ]
+sum-lower project tanks S heads u i some dip [] (state ∷ states) flows f sound = elim f [ ]
+sum-lower project tanks S heads u i some dip (link ∷ links) [] flows f sound = elim f [ ]
+sum-lower project tanks S heads u i some dip (link ∷ links) (state ∷ states) [] f sound = elim f [ ]
+sum-lower project tanks S heads u i some dip (link ∷ links) (state ∷ states) (q ∷ flows) (more follows rest) sound =
     let a = link-lower S heads u i (record {
       from = link.from;
       to = link.to;
-      law = law_of network tanks link state;
+      law = law_of project tanks link state;
     }) q some sound.0 dip follows in
-    let b = sum-lower network tanks S heads u i some dip links states flows rest sound.1 in
+    let b = sum-lower project tanks S heads u i some dip links states flows rest sound.1 in
     rw times_plus (omega (arith, ints, a, b))

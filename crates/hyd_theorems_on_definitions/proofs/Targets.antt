@@ -5,7 +5,7 @@ use Rattle.std.specs.Prelude.{int_le, map, if◌then◌else◌}
 use Rattle.std.proofs.Math.IntN.{*ℤ_comm}
 use Rattle.std.proofs.lemmas.Int.{ints}
 use Rattle.std.proofs.lemmas.Bool.{cases_Bool}
-use Rattle.hyd_num.proofs.Integers.{times_plus, times_rises, times_reflects, times_one, times_times}
+use Rattle.hyd_num.proofs.Integers.{times_plus, times_rises, times_reflects, times_one, times_times, one_times}
 use Rattle.hyd_num.specs.Rational.{Rational, floor, is_at_most}
 use Rattle.hyd_net.specs.Curves.{value_at, volume_knots, volume_at, AreRising, IsVolumeCurve}
 use Rattle.hyd_spec.specs.ProgramTypes.{Tank, VolumePoint}
@@ -15,12 +15,9 @@ use Rattle.hyd_theorems_on_definitions.specs.TermsOfTheorems.{in_parts}
 use Rattle.hyd_lemmas.proofs.Integers.{exchanged, floor_low}
 use Rattle.hyd_theorems_on_definitions.proofs.RisingLines.{some-den}
 use Rattle.hyd_theorems_on_definitions.proofs.CurveLevels.{AreAlike, same, above, below, AreRisingPoints, at-level}
-use Rattle.hyd_theorems_on_definitions.proofs.CurveLevels.{levels_undo}
-use Rattle.hyd_theorems_on_definitions.proofs.CurveLevels.{over-level, over-volume}
-use Rattle.hyd_theorems_on_definitions.proofs.Leading.{one_times}
-use Rattle.hyd_theorems_on_definitions.proofs.Placing.{le-from, above-yes, above-from, below-yes, below-from, placed-is}
-use Rattle.hyd_lemmas.proofs.Trials.{or-left, or-right}
-use Rattle.hyd_theorems_on_definitions.proofs.Outflows.{le-yes}
+use Rattle.hyd_theorems_on_definitions.proofs.CurveLevels.{levels_undo, over-level, over-volume}
+use Rattle.hyd_theorems_on_definitions.proofs.Placing.{above-yes, above-from, below-yes, below-from, placed-is}
+use Rattle.hyd_lemmas.proofs.Trials.{or-left, or-right, le-from, le-yes}
 use Rattle.hyd_theorems_on_definitions.proofs.Levelling.{pairs-tail, exact-some, curve-some}
 
 -- tests that follow from each other are one

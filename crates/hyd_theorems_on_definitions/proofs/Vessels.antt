@@ -5,7 +5,7 @@ use Rattle.std.specs.Prelude.{unsigned_abs, Option, Some, None, is_some, if◌th
 use Rattle.std.specs.Option.{option_map_or}
 use Rattle.std.proofs.lemmas.Int.{ints}
 use Rattle.std.proofs.lemmas.Option.{slice_get_within, get_or_from_slice_get}
-use Rattle.hyd_num.proofs.Integers.{times_rises}
+use Rattle.hyd_num.proofs.Integers.{times_rises, one_times}
 use Rattle.hyd_num.specs.FileQuantity.{is_us_unit, head_ticks}
 use Rattle.hyd_net.specs.ListView.{ListView}
 use Rattle.hyd_net.specs.NumberRanges.{Numbers}
@@ -17,20 +17,19 @@ use Rattle.hyd_spec.specs.Lists.{Each}
 use Rattle.hyd_spec.specs.Tank.{Cylinder, Curve, shape_points, walls_of}
 use Rattle.hyd_theorems_on_definitions.specs.TermsOfTheorems.{IsVessel}
 use Rattle.hyd_theorems_on_definitions.proofs.OneStanding.{there}
-use Rattle.hyd_theorems_on_definitions.proofs.Leading.{one_times}
 
 -- what is asked of each tank
-pub record IsSoundTank (network : Project) (tank : Tank) : Type 0 where
-  pub ranges : IsTank network.shapes.list tank
-  pub area : IsAreaMade network.options.unit tank
+pub record IsSoundTank (project : Project) (tank : Tank) : Type 0 where
+  pub ranges : IsTank project.shapes.list tank
+  pub area : IsAreaMade project.options.unit tank
 
-pub sound_tank : (network : Project) → Sound network → Each network.tanks.list (λ k tank. IsSoundTank network tank)
-sound_tank network sound k tank at =
-    let inside = slice_get_within network.tanks.list k tank at in
-    let e = get_or_from_slice_get network.tanks.list k tank tank at in
+pub sound_tank : (project : Project) → Sound project → Each project.tanks.list (λ k tank. IsSoundTank project tank)
+sound_tank project sound k tank at =
+    let inside = slice_get_within project.tanks.list k tank at in
+    let e = get_or_from_slice_get project.tanks.list k tank tank at in
     record {
-      ranges = subst (IsTank network.shapes.list) e (sound.quantities.tanks k tank inside);
-      area = subst (IsAreaMade network.options.unit) e (sound.made.areas k tank inside);
+      ranges = subst (IsTank project.shapes.list) e (sound.quantities.tanks k tank inside);
+      area = subst (IsAreaMade project.options.unit) e (sound.made.areas k tank inside);
     }
 
 -- ---- a cylinder
@@ -51,14 +50,14 @@ some-area : (z : ℤ) → pos 1 ≤ℤ z → 0 < unsigned_abs z
 some-area (pos n) h = omega (arith, ints, h)
 some-area (negsuc n) h = absurd (omega (arith, ints, h))
 
-cylinder : (network : Project) (tank : Tank) → tank.shape ≡ None → IsSoundTank network tank
+cylinder : (project : Project) (tank : Tank) → tank.shape ≡ None → IsSoundTank project tank
     → IsVessel (Cylinder (unsigned_abs tank.area)) tank
-cylinder network tank none is =
-    let across = head_ticks (is_us_unit network.options.unit) tank.diameter.nano in
+cylinder project tank none is =
+    let across = head_ticks (is_us_unit project.options.unit) tank.diameter.nano in
     let wide : pos (10 ^ 8) ≤ℤ tank.diameter.nano =
     subst (λ (o : Option ℕ). pos (if is_some o then 0 else 10 ^ 8) ≤ℤ tank.diameter.nano) none
     is.ranges.diameter.at_least in
-    let big = square-above across (across-above (is_us_unit network.options.unit) tank.diameter.nano wide) in
+    let big = square-above across (across-above (is_us_unit project.options.unit) tank.diameter.nano wide) in
     let apart = is.ranges.apart in
     record {
       holds_water = some-area tank.area (is.area.greatest (pos 1)
@@ -74,20 +73,20 @@ points-are : (shapes : List (ListView VolumePoint)) (n : ℕ) (shape : ListView 
     → option_map_or (λ (points : ListView VolumePoint). points.list) (slice_get shapes n) [] ≡ shape.list
 points-are shapes n shape at = ap (λ (o : Option (ListView VolumePoint)). option_map_or (λ points. points.list) o []) at
 
-pub shape_of : (network : Project) (tank : Tank) (n : ℕ) → tank.shape ≡ Some n → IsSoundTank network tank
-    → IsShapeOf tank (shape_points network n)
-shape_of network tank n some is =
+pub shape_of : (project : Project) (tank : Tank) (n : ℕ) → tank.shape ≡ Some n → IsSoundTank project tank
+    → IsShapeOf tank (shape_points project n)
+shape_of project tank n some is =
     let named = subst (λ (o : Option ℕ). IfSome o (Numbers (λ (shape : ListView VolumePoint). IsShapeOf tank
-    shape.list) network.shapes.list)) some is.ranges.shape in
-    let found = there (ListView VolumePoint) network.shapes.list n named.in_range in
-    let e = get_or_from_slice_get network.shapes.list n found.item found.item found.is_item in
-    subst (IsShapeOf tank) (sym (points-are network.shapes.list n found.item found.is_item))
+    shape.list) project.shapes.list)) some is.ranges.shape in
+    let found = there (ListView VolumePoint) project.shapes.list n named.in_range in
+    let e = get_or_from_slice_get project.shapes.list n found.item found.item found.is_item in
+    subst (IsShapeOf tank) (sym (points-are project.shapes.list n found.item found.is_item))
     (subst (λ (shape : ListView VolumePoint). IsShapeOf tank shape.list) e (named.holds found.item))
 
-curve : (network : Project) (tank : Tank) (n : ℕ) → tank.shape ≡ Some n → IsSoundTank network tank
-    → IsVessel (Curve (shape_points network n)) tank
-curve network tank n some is =
-    let shape = shape_of network tank n some is in
+curve : (project : Project) (tank : Tank) (n : ℕ) → tank.shape ≡ Some n → IsSoundTank project tank
+    → IsVessel (Curve (shape_points project n)) tank
+curve project tank n some is =
+    let shape = shape_of project tank n some is in
     let apart = is.ranges.apart in
     let volumes = shape.apart in
     record {
@@ -96,11 +95,11 @@ curve network tank n some is =
       contents_ordered = omega (arith, ints, volumes);
     }
 
-by-shape : (network : Project) (tank : Tank) (shape : Option ℕ) → tank.shape ≡ shape → IsSoundTank network tank
-    → IsVessel (option_map_or (λ n. Curve (shape_points network n)) shape (Cylinder (unsigned_abs tank.area))) tank
-by-shape network tank None e is = cylinder network tank e is
-by-shape network tank (Some n) e is = curve network tank n e is
+by-shape : (project : Project) (tank : Tank) (shape : Option ℕ) → tank.shape ≡ shape → IsSoundTank project tank
+    → IsVessel (option_map_or (λ n. Curve (shape_points project n)) shape (Cylinder (unsigned_abs tank.area))) tank
+by-shape project tank None e is = cylinder project tank e is
+by-shape project tank (Some n) e is = curve project tank n e is
 
-pub vessels : (network : Project) → Sound network → Each network.tanks.list
-    (λ k tank. IsVessel (walls_of network tank) tank)
-vessels network sound k tank at = by-shape network tank tank.shape refl (sound_tank network sound k tank at)
+pub vessels : (project : Project) → Sound project → Each project.tanks.list
+    (λ k tank. IsVessel (walls_of project tank) tank)
+vessels project sound k tank at = by-shape project tank tank.shape refl (sound_tank project sound k tank at)

@@ -10,18 +10,18 @@ use Rattle.hyd_spec_certificates.specs.RecordAndStanding.{Record, Standing}
 use Rattle.hyd_spec_certificates.specs.Decided.{SomeReaches, IsClockLength, stocks_of_tank, inflow_of_tank}
 use Rattle.hyd_theorems_on_definitions.specs.TermsOfTheorems.{SomeReachesFirst, NoneReachesBefore}
 
-module _ (test : Walls → Tank → Stocks → Interval → ℤ → Bool → ℕ → Bool) (network : Project) (grid : Grid)
-    (standing : Standing) (row : Record) (cap : ℕ) (clock : IsClockLength network standing.time cap) where
-  one-cap : (k : ℕ) → IsClockLength network standing.time k → k ≡ cap
+module _ (test : Walls → Tank → Stocks → Interval → ℤ → Bool → ℕ → Bool) (project : Project) (grid : Grid)
+    (standing : Standing) (row : Record) (cap : ℕ) (clock : IsClockLength project standing.time cap) where
+  one-cap : (k : ℕ) → IsClockLength project standing.time k → k ≡ cap
   one-cap k other =
       let a = clock.least (standing.time + k) other.holds in
       let b = other.least (standing.time + cap) clock.holds in
       omega (arith, a, b)
 
-  pub ends_at_least : (second : ℕ) → NoneReachesBefore test network grid standing row cap second
-      → (second ≡ cap) ⊎ SomeReachesFirst test network grid standing row cap second
-      → IsLeast (λ s. IsClockLength network standing.time s ⊎
-      ((1 ≤ s) × SomeReaches test network grid standing row s)) second
+  pub ends_at_least : (second : ℕ) → NoneReachesBefore test project grid standing row cap second
+      → (second ≡ cap) ⊎ SomeReachesFirst test project grid standing row cap second
+      → IsLeast (λ s. IsClockLength project standing.time s ⊎
+      ((1 ≤ s) × SomeReaches test project grid standing row s)) second
   ends_at_least second none which =
       record {
         holds = elim which [ inl e ↦ at-cap e | inr first ↦ by-watch first first.is_first.holds ];
@@ -29,16 +29,16 @@ module _ (test : Walls → Tank → Stocks → Interval → ℤ → Bool → ℕ
             least;
       }
     where
-      at-cap : second ≡ cap → IsClockLength network standing.time second ⊎
-          ((1 ≤ second) × SomeReaches test network grid standing row second)
-      at-cap e = inl (subst (IsClockLength network standing.time) (sym e) clock)
+      at-cap : second ≡ cap → IsClockLength project standing.time second ⊎
+          ((1 ≤ second) × SomeReaches test project grid standing row second)
+      at-cap e = inl (subst (IsClockLength project standing.time) (sym e) clock)
 
-      by-watch : (first : SomeReachesFirst test network grid standing row cap second)
-          → (second ≡ cap) ⊎ ((1 ≤ second) × IsTrue (test (walls_of network first.tank) first.tank
+      by-watch : (first : SomeReachesFirst test project grid standing row cap second)
+          → (second ≡ cap) ⊎ ((1 ≤ second) × IsTrue (test (walls_of project first.tank) first.tank
           (stocks_of_tank standing first.watch.tank)
-          (inflow_of_tank network grid row first.watch.tank) first.watch.target first.watch.rising second))
-          → IsClockLength network standing.time second ⊎ ((1 ≤ second)
-          × SomeReaches test network grid standing row second)
+          (inflow_of_tank project grid row first.watch.tank) first.watch.target first.watch.rising second))
+          → IsClockLength project standing.time second ⊎ ((1 ≤ second)
+          × SomeReaches test project grid standing row second)
       by-watch first (inl e) = at-cap e
       by-watch first (inr is) = inr (
         is.0,
@@ -52,8 +52,8 @@ module _ (test : Walls → Tank → Stocks → Interval → ℤ → Bool → ℕ
         },
       )
 
-      least : (k : ℕ) → IsClockLength network standing.time k ⊎
-          ((1 ≤ k) × SomeReaches test network grid standing row k) → second ≤ k
+      least : (k : ℕ) → IsClockLength project standing.time k ⊎
+          ((1 ≤ k) × SomeReaches test project grid standing row k) → second ≤ k
       least k (inl other) = let e = one-cap k other in let l = none.by_clock in omega (arith, e, l)
       least k (inr reaches) =
           let some = reaches.1 in

@@ -17,7 +17,7 @@ use Rattle.hyd_spec.specs.Loss.{ValveLossAtLeast}
 use Rattle.hyd_spec.specs.Law.{Law, Capped, flow_at_least, flow_at_most}
 use Rattle.hyd_spec.specs.Tank.{Cylinder, exact_content, reaches}
 use Rattle.hyd_spec.specs.PeriodLength.{IsLeast}
-use Rattle.hyd_theorems_on_definitions.proofs.Outflows.{le-yes}
+use Rattle.hyd_lemmas.proofs.Trials.{le-yes}
 
 -- the minor loss of a diameter and a coefficient
 abbrev lost : ℕ → ℕ → Fraction
@@ -85,13 +85,13 @@ capped_at_least setting valve S x passes = (
   passes,
 )
 
-pub pattern_demands : (network : Project) (category : Demand) → category.base ≡ pos (10 ^ 8) → category.pattern ≡ Some 0
-    → network.options.multiplier.nano ≡ pos (5 * 10 ^ 8) → network.times.pattern ≡ 3600
-    → network.times.pattern_start ≡ 0
-    → multipliers_of network 0 ≡ pos (10 ^ 9) ∷ (pos (2 * 10 ^ 9) ∷ (pos 0 ∷ []))
-    → (category_demand network 0 category ≡ pos 50000000) × ((category_demand network 3600 category ≡ pos 100000000)
-    × ((category_demand network 7200 category ≡ pos 0) × (category_demand network 10800 category ≡ pos 50000000)))
-pattern_demands network category base pattern multiplier step start multipliers = (
+pub pattern_demands : (project : Project) (category : Demand) → category.base ≡ pos (10 ^ 8) → category.pattern ≡ Some 0
+    → project.options.multiplier.nano ≡ pos (5 * 10 ^ 8) → project.times.pattern ≡ 3600
+    → project.times.pattern_start ≡ 0
+    → multipliers_of project 0 ≡ pos (10 ^ 9) ∷ (pos (2 * 10 ^ 9) ∷ (pos 0 ∷ []))
+    → (category_demand project 0 category ≡ pos 50000000) × ((category_demand project 3600 category ≡ pos 100000000)
+    × ((category_demand project 7200 category ≡ pos 0) × (category_demand project 10800 category ≡ pos 50000000)))
+pattern_demands project category base pattern multiplier step start multipliers = (
   rw (base, pattern, multiplier, step, start, multipliers) refl,
   (
     rw (base, pattern, multiplier, step, start, multipliers) refl,

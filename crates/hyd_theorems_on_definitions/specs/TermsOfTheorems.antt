@@ -98,12 +98,12 @@ pub record IsSoundGrid (grid : Grid) : Type 0 where
 
 -- The capacities of emitters, of links and of the states that links are in are made of the file's numbers, and the
 -- quantities of links are in range, the points of their curves among them.
-pub record AreCapacitiesMade (network : Project) (links : List LinkState) : Type 0 where
-  pub emitters : All (λ j. IfSome j.emitter IsMade) network.junctions.list
-  pub kinds : All (λ l. IsKindMade network.options.unit l.kind) network.links.list
-  pub sizes : All (λ l. HasSizes network.options.unit network.patterns.list network.bends.list l.kind)
-      network.links.list
-  pub states : All (IsStateMade network.options.unit) links
+pub record AreCapacitiesMade (project : Project) (links : List LinkState) : Type 0 where
+  pub emitters : All (λ j. IfSome j.emitter IsMade) project.junctions.list
+  pub kinds : All (λ l. IsKindMade project.options.unit l.kind) project.links.list
+  pub sizes : All (λ l. HasSizes project.options.unit project.patterns.list project.bends.list l.kind)
+      project.links.list
+  pub states : All (IsStateMade project.options.unit) links
 
 -- A number of S-th parts of a tick lies in an interval of ticks.
 pub record LiesIn (S : ℕ) (interval : Interval) (z : ℤ) : Type 0 where
@@ -116,24 +116,24 @@ LevelsLie S intervals levels = AllZip (LiesIn S) intervals levels
 
 -- An assignment of a period, and the grid of that period: the laws are sound, and each tank's level lies in its
 -- interval.
-pub record IsCompared (network : Project) (S time : ℕ) (intervals : List Interval) (levels : List ℤ)
+pub record IsCompared (project : Project) (S time : ℕ) (intervals : List Interval) (levels : List ℤ)
     (tanks : List TankState)
     (links : List LinkState) (assignment : Assignment) (grid : Grid) : Type 0 where
   pub some : 0 < S
-  pub is_grid : IsGrid network time intervals tanks links grid
+  pub is_grid : IsGrid project time intervals tanks links grid
   pub sound : IsSoundGrid grid
   pub lie : LevelsLie S intervals levels
-  pub assigned : IsAssignment network S time levels tanks links assignment
+  pub assigned : IsAssignment project S time levels tanks links assignment
 
 -- The same of an assignment in which q S-th parts of a flow tick are drawn at junction number `place` besides.
-pub record IsComparedDrawing (network : Project) (S time : ℕ) (intervals : List Interval) (levels : List ℤ)
+pub record IsComparedDrawing (project : Project) (S time : ℕ) (intervals : List Interval) (levels : List ℤ)
     (tanks : List TankState) (links : List LinkState) (place : ℕ) (q : ℤ) (assignment : Assignment)
     (grid : Grid) : Type 0 where
   pub some : 0 < S
-  pub is_grid : IsGrid network time intervals tanks links grid
+  pub is_grid : IsGrid project time intervals tanks links grid
   pub sound : IsSoundGrid grid
   pub lie : LevelsLie S intervals levels
-  pub assigned : IsAssignmentDrawing network S time levels tanks links place q assignment
+  pub assigned : IsAssignmentDrawing project S time levels tanks links place q assignment
 
 -- At each node a head of the third list, in S-th parts of a tick, lies between those of the others.
 abbrev pub LieBetween : ℕ → List ℤ → List ℤ → List ℤ → Type 0
@@ -220,25 +220,25 @@ TellEach truths tests = AllZip Tells truths tests
 -- ---- watched levels
 
 -- Some watched level passes a test first at this second, up to a cap.
-pub record SomeReachesFirst (test : Walls → Tank → Stocks → Interval → ℤ → Bool → ℕ → Bool) (network : Project)
+pub record SomeReachesFirst (test : Walls → Tank → Stocks → Interval → ℤ → Bool → ℕ → Bool) (project : Project)
     (grid : Grid)
     (standing : Standing) (row : Record) (cap second : ℕ) : Type 0 where
   pub watch : Watch
-  pub is_watched : Contains (watches network standing) watch
+  pub is_watched : Contains (watches project standing) watch
   pub tank : Tank
-  pub is_tank : slice_get network.tanks.list watch.tank ≡ Some tank
-  pub is_first : IsFirstSecond (test (walls_of network tank) tank (stocks_of_tank standing watch.tank)
-      (inflow_of_tank network grid row watch.tank) watch.target watch.rising) cap second
+  pub is_tank : slice_get project.tanks.list watch.tank ≡ Some tank
+  pub is_first : IsFirstSecond (test (walls_of project tank) tank (stocks_of_tank standing watch.tank)
+      (inflow_of_tank project grid row watch.tank) watch.target watch.rising) cap second
 
 -- The second isn't after the cap, nor after the first second at which any watched level passes the test.
-pub record NoneReachesBefore (test : Walls → Tank → Stocks → Interval → ℤ → Bool → ℕ → Bool) (network : Project)
+pub record NoneReachesBefore (test : Walls → Tank → Stocks → Interval → ℤ → Bool → ℕ → Bool) (project : Project)
     (grid : Grid)
     (standing : Standing) (row : Record) (cap second : ℕ) : Type 0 where
   pub by_clock : second ≤ cap
-  pub each : (watch : Watch) → Contains (watches network standing) watch → (tank : Tank)
-      → slice_get network.tanks.list watch.tank ≡ Some tank
-      → (first : ℕ) × (IsFirstSecond (test (walls_of network tank) tank (stocks_of_tank standing watch.tank)
-      (inflow_of_tank network grid row watch.tank) watch.target watch.rising) cap first × (second ≤ first))
+  pub each : (watch : Watch) → Contains (watches project standing) watch → (tank : Tank)
+      → slice_get project.tanks.list watch.tank ≡ Some tank
+      → (first : ℕ) × (IsFirstSecond (test (walls_of project tank) tank (stocks_of_tank standing watch.tank)
+      (inflow_of_tank project grid row watch.tank) watch.target watch.rising) cap first × (second ≤ first))
 
 -- ---- outflows
 

@@ -51,12 +51,12 @@ pub fn events()
 /// (latest) first seconds of the watched levels, one by one, with that length as cap: for the test of levels that
 /// may, or must, have reached their targets.
 pub fn ends()
-    ensures { (test : Walls → Tank → Stocks → Interval → ℤ → Bool → ℕ → Bool) (network : Project) (grid : Grid)
-        (standing : Standing) (row : Record) (cap : ℕ) → IsClockLength network standing.time cap
-        → (second : ℕ) → NoneReachesBefore test network grid standing row cap second
-        → (second ≡ cap) ⊎ SomeReachesFirst test network grid standing row cap second
-        → IsLeast (λ s. IsClockLength network standing.time s
-        ⊎ ((1 ≤ s) × SomeReaches test network grid standing row s)) second }
+    ensures { (test : Walls → Tank → Stocks → Interval → ℤ → Bool → ℕ → Bool) (project : Project) (grid : Grid)
+        (standing : Standing) (row : Record) (cap : ℕ) → IsClockLength project standing.time cap
+        → (second : ℕ) → NoneReachesBefore test project grid standing row cap second
+        → (second ≡ cap) ⊎ SomeReachesFirst test project grid standing row cap second
+        → IsLeast (λ s. IsClockLength project standing.time s
+        ⊎ ((1 ≤ s) × SomeReaches test project grid standing row s)) second }
 {}
 
 /// Where the truth of each clause tells whether it holds, the truth of a rule tells whether the

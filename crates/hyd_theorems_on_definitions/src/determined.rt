@@ -22,14 +22,14 @@ ghost use Rattle.hyd_spec_reports.specs.PromisesOfRunsAndChecks.{Found, IsRun, I
 
 /// A period ends in one way.
 pub fn ends()
-    ensures { (network : Project) (grid : Grid) (standing : Standing) (row : Record) (a b : End)
-        → EndsBy network grid standing row a → EndsBy network grid standing row b → a ≡ b }
+    ensures { (project : Project) (grid : Grid) (standing : Standing) (row : Record) (a b : End)
+        → EndsBy project grid standing row a → EndsBy project grid standing row b → a ≡ b }
 {}
 
 /// A record leads on to one standing.
 pub fn standings()
-    ensures { (network : Project) (grid : Grid) (standing : Standing) (row : Record) (a b : Standing)
-        → LeadsOn network grid standing row a → LeadsOn network grid standing row b → a ≡ b }
+    ensures { (project : Project) (grid : Grid) (standing : Standing) (row : Record) (a b : Standing)
+        → LeadsOn project grid standing row a → LeadsOn project grid standing row b → a ≡ b }
 {}
 
 /// A grid has one tight vector of a problem and side.
@@ -40,23 +40,23 @@ pub fn vectors()
 
 /// A record has one report.
 pub fn reports()
-    ensures { (network : Project) (grid : Grid) (standing : Standing) (row : Record) (a b : List ReportLine)
-        → IsReport network grid standing row a → IsReport network grid standing row b → a ≡ b }
+    ensures { (project : Project) (grid : Grid) (standing : Standing) (row : Record) (a b : List ReportLine)
+        → IsReport project grid standing row a → IsReport project grid standing row b → a ≡ b }
 {}
 
 /// A record is refused at a standing by one cause, and one that is refused isn't valid there.
 pub fn refusals()
-    ensures one { (network : Project) (standing : Standing) (row : Record) (a b : CertRefused)
-        → IsRefused network standing row a → IsRefused network standing row b → a ≡ b }
-    ensures invalid { (network : Project) (standing : Standing) (row : Record) (cause : CertRefused)
-        → IsRefused network standing row cause → (grid : Grid) (next : Standing)
-        → IsValid network standing grid row next → ⊥ }
+    ensures one { (project : Project) (standing : Standing) (row : Record) (a b : CertRefused)
+        → IsRefused project standing row a → IsRefused project standing row b → a ≡ b }
+    ensures invalid { (project : Project) (standing : Standing) (row : Record) (cause : CertRefused)
+        → IsRefused project standing row cause → (grid : Grid) (next : Standing)
+        → IsValid project standing grid row next → ⊥ }
 {}
 
 /// A record that leads on has one length.
 pub fn lengths()
-    ensures { (network : Project) (grid : Grid) (standing : Standing) (row : Record) (other : ℕ) (a b : Standing)
-        → LeadsOn network grid standing row a → LeadsOn network grid standing (record row { length = other }) b
+    ensures { (project : Project) (grid : Grid) (standing : Standing) (row : Record) (other : ℕ) (a b : Standing)
+        → LeadsOn project grid standing row a → LeadsOn project grid standing (record row { length = other }) b
         → row.length ≡ other }
 {}
 
@@ -67,13 +67,13 @@ pub fn capacities()
 
 /// A standing has one grid.
 pub fn grids()
-    ensures { (network : Project) (standing : Standing) (a b : Grid) → IsGridAt network standing a
-        → IsGridAt network standing b → a ≡ b }
+    ensures { (project : Project) (standing : Standing) (a b : Grid) → IsGridAt project standing a
+        → IsGridAt project standing b → a ≡ b }
 {}
 
 /// Two tight runs of as many periods are the same, and leave the same standing.
 pub fn runs()
-    ensures { (network : Project) → (a b : List Found) (last other : Standing)
-        → IsRun network a last → IsRun network b other → AllByRecursion (IsTightThroughout network) a
-        → AllByRecursion (IsTightThroughout network) b → length a ≡ length b → (a ≡ b) × (last ≡ other) }
+    ensures { (project : Project) → (a b : List Found) (last other : Standing)
+        → IsRun project a last → IsRun project b other → AllByRecursion (IsTightThroughout project) a
+        → AllByRecursion (IsTightThroughout project) b → length a ≡ length b → (a ≡ b) × (last ≡ other) }
 {}

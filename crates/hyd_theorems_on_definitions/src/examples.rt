@@ -65,10 +65,10 @@ pub fn control_valve()
 /// multipliers 1, 2 and 0 is 5, 10 and 0 cubic metres a day at the start of the first three hours,
 /// and 5 again at that of the fourth.
 pub fn demands()
-    ensures { (network : Project) (category : Demand) → category.base ≡ pos (10 ^ 8) → category.pattern ≡ Some 0
-        → network.options.multiplier.nano ≡ pos (5 * 10 ^ 8) → network.times.pattern ≡ 3600
-        → network.times.pattern_start ≡ 0
-        → multipliers_of network 0 ≡ pos (10 ^ 9) ∷ (pos (2 * 10 ^ 9) ∷ (pos 0 ∷ []))
-        → (category_demand network 0 category ≡ pos 50000000) × ((category_demand network 3600 category ≡ pos 100000000)
-        × ((category_demand network 7200 category ≡ pos 0) × (category_demand network 10800 category ≡ pos 50000000))) }
+    ensures { (project : Project) (category : Demand) → category.base ≡ pos (10 ^ 8) → category.pattern ≡ Some 0
+        → project.options.multiplier.nano ≡ pos (5 * 10 ^ 8) → project.times.pattern ≡ 3600
+        → project.times.pattern_start ≡ 0
+        → multipliers_of project 0 ≡ pos (10 ^ 9) ∷ (pos (2 * 10 ^ 9) ∷ (pos 0 ∷ []))
+        → (category_demand project 0 category ≡ pos 50000000) × ((category_demand project 3600 category ≡ pos 100000000)
+        × ((category_demand project 7200 category ≡ pos 0) × (category_demand project 10800 category ≡ pos 50000000))) }
 {}

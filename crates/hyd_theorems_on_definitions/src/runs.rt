@@ -15,50 +15,50 @@ ghost use Rattle.hyd_spec_reports.specs.PromisesOfRunsAndChecks.{RunWrites, RunB
 
 /// The records of a run are valid one after another, from its start to the standing that it leaves.
 pub fn records()
-    ensures { (network : Project) (founds : List Found) (last : Standing) → IsRun network founds last
-        → AreValid network (rows_of founds) last }
+    ensures { (project : Project) (founds : List Found) (last : Standing) → IsRun project founds last
+        → AreValid project (rows_of founds) last }
 {}
 
 /// Fronts of what a whole run writes and prints are what one that breaks off may leave.
 pub fn fronts()
-    ensures { (network : Project) (rounds : ℕ) (sharpness : Sharpness) (outcome : Outcome)
+    ensures { (project : Project) (rounds : ℕ) (sharpness : Sharpness) (outcome : Outcome)
         (certificate report written unwritten printed unprinted : List ℕ)
-        → RunWrites network rounds sharpness outcome certificate report
+        → RunWrites project rounds sharpness outcome certificate report
         → written ++ unwritten ≡ certificate → printed ++ unprinted ≡ report
-        → RunBreaksOff network rounds sharpness written printed }
+        → RunBreaksOff project rounds sharpness written printed }
 {}
 
 /// A check accepts the certificate that a run wrote, and prints its report, with `PARTIAL` in place of the line of a
 /// stop.
 pub fn acceptance()
-    ensures { (network : Project) (rounds : ℕ) (sharpness : Sharpness) (outcome : Outcome) (certificate report : List ℕ)
-        (run : RunWrites network rounds sharpness outcome certificate report)
-        → CheckAccepts network certificate
-        (report_text network (lines_of run.founds) (accepted_line (length run.founds) run.left.finished)) }
+    ensures { (project : Project) (rounds : ℕ) (sharpness : Sharpness) (outcome : Outcome) (certificate report : List ℕ)
+        (run : RunWrites project rounds sharpness outcome certificate report)
+        → CheckAccepts project certificate
+        (report_text project (lines_of run.founds) (accepted_line (length run.founds) run.left.finished)) }
 {}
 
 /// A period that comes after the last one of a history makes it longer by one, and a front of a history is one.
 pub fn histories()
-    ensures longer { (network : Project) (S : ℕ) (periods : List Period) (last period : Period)
-        → IsHistory network S (periods ++ (last ∷ [])) → ComesAfter network S last period → IsPeriod network S period
-        → IsHistory network S (periods ++ (last ∷ (period ∷ []))) }
-    ensures front { (network : Project) (S : ℕ) (front rest : List Period) → IsHistory network S (front ++ rest)
-        → IsHistory network S front }
+    ensures longer { (project : Project) (S : ℕ) (periods : List Period) (last period : Period)
+        → IsHistory project S (periods ++ (last ∷ [])) → ComesAfter project S last period → IsPeriod project S period
+        → IsHistory project S (periods ++ (last ∷ (period ∷ []))) }
+    ensures front { (project : Project) (S : ℕ) (front rest : List Period) → IsHistory project S (front ++ rest)
+        → IsHistory project S front }
 {}
 
 /// What is found at the standing that a run leaves makes the run longer by one, and so does a record that is valid
 /// there with the records of a run.
 pub fn longer_runs()
-    ensures runs { (network : Project) (founds : List Found) (last : Standing) (found : Found)
-        → IsRun network founds last
-        → found.standing ≡ last → IsFound network found → IsRun network (founds ++ (found ∷ [])) found.next }
-    ensures records { (network : Project) (rows : List Record) (last next : Standing) (grid : Grid) (row : Record)
-        → AreValid network rows last → IsValid network last grid row next → AreValid network (rows ++ (row ∷ [])) next }
+    ensures runs { (project : Project) (founds : List Found) (last : Standing) (found : Found)
+        → IsRun project founds last
+        → found.standing ≡ last → IsFound project found → IsRun project (founds ++ (found ∷ [])) found.next }
+    ensures records { (project : Project) (rows : List Record) (last next : Standing) (grid : Grid) (row : Record)
+        → AreValid project rows last → IsValid project last grid row next → AreValid project (rows ++ (row ∷ [])) next }
 {}
 
 /// The clock ends a period after its start, and every period but that at the end of the run lasts a second at least.
 pub fn lengths()
-    ensures clock { (network : Project) (time e : ℕ) → EndsByClock network time e → time < e }
-    ensures period { (network : Project) (S : ℕ) (period : Period) → HasItsLength network S period
-        → period.time ≢ network.times.duration → 1 ≤ period.length }
+    ensures clock { (project : Project) (time e : ℕ) → EndsByClock project time e → time < e }
+    ensures period { (project : Project) (S : ℕ) (period : Period) → HasItsLength project S period
+        → period.time ≢ project.times.duration → 1 ≤ period.length }
 {}

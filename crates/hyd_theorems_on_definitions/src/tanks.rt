@@ -21,8 +21,8 @@ ghost use Rattle.hyd_theorems_on_definitions.specs.TermsOfTheorems.{IsWithin, Ha
 
 /// The tanks of a sound network hold water, and their bounds are in order.
 pub fn vessels()
-    ensures { (network : Project) → Sound network → Each network.tanks.list
-        (λ k tank. IsVessel (walls_of network tank) tank) }
+    ensures { (project : Project) → Sound project → Each project.tanks.list
+        (λ k tank. IsVessel (walls_of project tank) tank) }
 {}
 
 /// Each stock with which a next period may begin lies in the next stocks, lesser stocks lead into lesser ones, and

@@ -28,13 +28,13 @@ use Rattle.hyd_theorems_on_histories.proofs.Watching.{contains-here, contains-la
 
 -- ---- controls
 
-pub same_acts : (network : Project) (S time : ℕ) (intervals : List Interval) (levels : List ℤ) → 0 < S
-    → LevelsLie S intervals levels → ControlsAreDecided network intervals
-    → (each : Control) → Contains network.controls.list each → control_acts network time (acts_at S levels) each.when
-    ≡ control_acts network time (acts_on intervals) each.when
-same_acts network S time intervals levels some lie decided each contained = by-when each.when refl
+pub same_acts : (project : Project) (S time : ℕ) (intervals : List Interval) (levels : List ℤ) → 0 < S
+    → LevelsLie S intervals levels → ControlsAreDecided project intervals
+    → (each : Control) → Contains project.controls.list each → control_acts project time (acts_at S levels) each.when
+    ≡ control_acts project time (acts_on intervals) each.when
+same_acts project S time intervals levels some lie decided each contained = by-when each.when refl
   where
-    by-when : (w : When) → each.when ≡ w → control_acts network time (acts_at S levels) w ≡ control_acts network time
+    by-when : (w : When) → each.when ≡ w → control_acts project time (acts_at S levels) w ≡ control_acts project time
         (acts_on intervals) w
     by-when (AtLevel tank above ticks) is =
         sym (first-known (control_truth (slice_index_or intervals tank nowhere) above ticks)
@@ -46,30 +46,30 @@ same_acts network S time intervals levels some lie decided each contained = by-w
     by-when (AtClock t) is = refl
 
 abbrev carry : Project → ℕ → (ℕ → Bool → ℤ → Bool) → List LinkState → Control → List LinkState
-carry network time acts links control =
-    if control_acts network time acts control.when then slice_set links control.link control.to else links
+carry project time acts links control =
+    if control_acts project time acts control.when then slice_set links control.link control.to else links
 
-same-fold : (network : Project) (time : ℕ) (acts others : ℕ → Bool → ℤ → Bool) (controls : List Control)
-    → ((each : Control) → Contains controls each → control_acts network time acts each.when
-    ≡ control_acts network time others each.when)
-    → (links : List LinkState) → fold (carry network time acts) links controls ≡ fold (carry network time others)
+same-fold : (project : Project) (time : ℕ) (acts others : ℕ → Bool → ℤ → Bool) (controls : List Control)
+    → ((each : Control) → Contains controls each → control_acts project time acts each.when
+    ≡ control_acts project time others each.when)
+    → (links : List LinkState) → fold (carry project time acts) links controls ≡ fold (carry project time others)
     links controls
-same-fold network time acts others [] same links = refl
-same-fold network time acts others (c ∷ controls) same links =
+same-fold project time acts others [] same links = refl
+same-fold project time acts others (c ∷ controls) same links =
     let first = same c (contains-here Control c controls) in
-    (λ i. fold (carry network time acts) (if first i then slice_set links c.link c.to else links) controls)
-    ∙ same-fold network time acts others controls
+    (λ i. fold (carry project time acts) (if first i then slice_set links c.link c.to else links) controls)
+    ∙ same-fold project time acts others controls
     (λ each contained. same each (contains-later Control each c controls contained))
-    (carry network time others links c)
+    (carry project time others links c)
 
-pub same_links : (network : Project) (S time : ℕ) (standing : Standing) (levels volumes : List ℤ)
-    (commanded : List LinkState) → 0 < S → AgreesWith network S standing time levels volumes commanded
-    → ControlsAreDecided network standing.levels → started network time (acts_at S levels) commanded
-    ≡ links_at network standing
-same_links network S time standing levels volumes commanded some agrees decided =
-    same-fold network time (acts_at S levels) (acts_on standing.levels) network.controls.list
-    (same_acts network S time standing.levels levels some agrees.levels_lie decided) (patterned network time commanded)
-    ∙ (λ i. started network (agrees.time_is i) (acts_on standing.levels) (agrees.commanded_are i))
+pub same_links : (project : Project) (S time : ℕ) (standing : Standing) (levels volumes : List ℤ)
+    (commanded : List LinkState) → 0 < S → AgreesWith project S standing time levels volumes commanded
+    → ControlsAreDecided project standing.levels → started project time (acts_at S levels) commanded
+    ≡ links_at project standing
+same_links project S time standing levels volumes commanded some agrees decided =
+    same-fold project time (acts_at S levels) (acts_on standing.levels) project.controls.list
+    (same_acts project S time standing.levels levels some agrees.levels_lie decided) (patterned project time commanded)
+    ∙ (λ i. started project (agrees.time_is i) (acts_on standing.levels) (agrees.commanded_are i))
 
 -- ---- states
 
@@ -119,13 +119,13 @@ initial-states S (tank ∷ tanks) some =
     let rest = initial-states S tanks some in
     λ i. here i ∷ rest i
 
-pub agrees_at_start : (network : Project) (S : ℕ) → 0 < S → AgreesWith network S (initial_standing network) 0
-    (initial_levels network S) (initial_volumes network S) (initial_links network)
-agrees_at_start network S some = record {
+pub agrees_at_start : (project : Project) (S : ℕ) → 0 < S → AgreesWith project S (initial_standing project) 0
+    (initial_levels project S) (initial_volumes project S) (initial_links project)
+agrees_at_start project S some = record {
   time_is = refl;
-  levels_lie = initial-lie S (λ tank. tank.initial) network.tanks.list;
-  volumes_lie = initial-lie S (λ tank. kept_volume (walls_of network tank) tank.initial) network.tanks.list;
-  tanks_are = initial-states S network.tanks.list some;
+  levels_lie = initial-lie S (λ tank. tank.initial) project.tanks.list;
+  volumes_lie = initial-lie S (λ tank. kept_volume (walls_of project tank) tank.initial) project.tanks.list;
+  tanks_are = initial-states S project.tanks.list some;
   commanded_are = refl;
 }
 
@@ -140,5 +140,5 @@ exact-known [] k above ticks = both-same (reaches 1 above ticks (whole (pos 0)))
 exact-known (tank ∷ tanks) zero above ticks = both-same (reaches 1 above ticks (whole tank.initial))
 exact-known (tank ∷ tanks) (suc k) above ticks = exact-known tanks k above ticks
 
-pub decided_at_start : (network : Project) → ControlsAreDecided network (initial_standing network).levels
-decided_at_start network each tank above ticks contained is = exact-known network.tanks.list tank above ticks
+pub decided_at_start : (project : Project) → ControlsAreDecided project (initial_standing project).levels
+decided_at_start project each tank above ticks contained is = exact-known project.tanks.list tank above ticks

@@ -1,15 +1,14 @@
 -- A clause that both ends of what rules look at decide is decided so between them.
 use Rattle.std.proofs.Common.{◌≡◌, ℕ, ◌*◌, ◌<◌, ℤ, pos, ◌+ℤ◌, ◌-ℤ◌, ◌*ℤ◌, ◌≤ℤ◌, refl, ap, arith, Bool, true, false}
 use Rattle.std.proofs.Common.{mul-pos}
-use Rattle.std.specs.Prelude.{if◌then◌else◌, nat_le, slice_index_or, List}
+use Rattle.std.specs.Prelude.{if◌then◌else◌, slice_index_or, List}
 use Rattle.std.proofs.Math.IntN.{*ℤ_comm}
 use Rattle.std.proofs.lemmas.Int.{ints}
-use Rattle.hyd_num.proofs.Integers.{times_plus, times_minus, times_times}
+use Rattle.hyd_num.proofs.Integers.{times_plus, times_minus, times_times, one_times}
 use Rattle.hyd_num.specs.Rational.{Rational, whole, total_of}
 use Rattle.hyd_net.specs.ControlsAndRules.{Compares}
 use Rattle.hyd_spec.specs.ProgramTypes.{Project, LinkState, Clause, What, Head, Pressure, Level, Flow, Setting, Status}
-use Rattle.hyd_spec.specs.ProgramTypes.{Time}
-use Rattle.hyd_spec.specs.ProgramTypes.{Clock, Relation, Less, NotMore, More, NotLess, Equal, Unequal, Value}
+use Rattle.hyd_spec.specs.ProgramTypes.{Time, Clock, Relation, Less, NotMore, More, NotLess, Equal, Unequal, Value}
 use Rattle.hyd_spec.specs.Scale.{at_scale}
 use Rattle.hyd_spec.specs.NodeNumbers.{nodes_before_tanks, is_tank, tank_number}
 use Rattle.hyd_spec.specs.Assignment.{head_at}
@@ -17,8 +16,8 @@ use Rattle.hyd_spec.specs.Rules.{Readings, in_ticks, level_of, head_of, pressure
 use Rattle.hyd_spec.specs.Rules.{compares, holds_on, clause_holds, setting_of, state_of_link, status_holds, state_word}
 use Rattle.hyd_spec_certificates.specs.ThreeValuedLogic.{at_both_ends}
 use Rattle.hyd_theorems_on_definitions.specs.TermsOfTheorems.{IsAtMost, IsOneWay, Tells}
+use Rattle.hyd_lemmas.proofs.Trials.{nat-le-no}
 use Rattle.hyd_theorems_on_definitions.proofs.Deciding.{compare_tells}
-use Rattle.hyd_theorems_on_definitions.proofs.Leading.{one_times}
 use Rattle.hyd_theorems_on_histories.specs.Agreement.{IsValueBetween, AreBetween}
 
 -- ---- values
@@ -114,40 +113,37 @@ either-between : (S : ℕ) (b : Bool) (l m x y h g : Rational) → IsValueBetwee
 either-between S true l m x y h g p q = p
 either-between S false l m x y h g p q = q refl
 
-before-tanks : (n node : ℕ) → nat_le n node ≡ false → node < n
-before-tanks n node e = grind arith
-
 -- ---- what is measured
 
-head-between : (network : Project) (S : ℕ) (below x above : Readings) (node : ℕ) → AreBetween network S below x above
-    → IsValueBetween S (head_of network 1 below node) (head_of network S x node) (head_of network 1 above node)
-head-between network S below x above node b =
-    either-between S (is_tank network node) _ _ _ _ _ _
-    (raised S (bottom_of network (tank_number network node)) (level_of below (tank_number network node))
-    (level_of x (tank_number network node)) (level_of above (tank_number network node))
-    (b.levels (tank_number network node)))
-    (λ no. let lies = b.heads node (before-tanks (nodes_before_tanks network) node no) in
+head-between : (project : Project) (S : ℕ) (below x above : Readings) (node : ℕ) → AreBetween project S below x above
+    → IsValueBetween S (head_of project 1 below node) (head_of project S x node) (head_of project 1 above node)
+head-between project S below x above node b =
+    either-between S (is_tank project node) _ _ _ _ _ _
+    (raised S (bottom_of project (tank_number project node)) (level_of below (tank_number project node))
+    (level_of x (tank_number project node)) (level_of above (tank_number project node))
+    (b.levels (tank_number project node)))
+    (λ no. let lies = b.heads node (nat-le-no (nodes_before_tanks project) node no) in
     whole-between S (head_at below.heads node) (head_at x.heads node) (head_at above.heads node) lies.low lies.high)
 
-pressure-between : (network : Project) (S : ℕ) (below x above : Readings) (node : ℕ)
-    → AreBetween network S below x above
-    → IsValueBetween S (pressure_of network 1 below node) (pressure_of network S x node)
-    (pressure_of network 1 above node)
-pressure-between network S below x above node b =
-    either-between S (is_tank network node) _ _ _ _ _ _ (b.levels (tank_number network node))
-    (λ no. let lies = b.heads node (before-tanks (nodes_before_tanks network) node no) in
-    whole-between S (head_at below.heads node -ℤ at_scale 1 (elevation_of network node))
-    (head_at x.heads node -ℤ at_scale S (elevation_of network node)) (head_at above.heads node -ℤ at_scale 1
-    (elevation_of network node))
+pressure-between : (project : Project) (S : ℕ) (below x above : Readings) (node : ℕ)
+    → AreBetween project S below x above
+    → IsValueBetween S (pressure_of project 1 below node) (pressure_of project S x node)
+    (pressure_of project 1 above node)
+pressure-between project S below x above node b =
+    either-between S (is_tank project node) _ _ _ _ _ _ (b.levels (tank_number project node))
+    (λ no. let lies = b.heads node (nat-le-no (nodes_before_tanks project) node no) in
+    whole-between S (head_at below.heads node -ℤ at_scale 1 (elevation_of project node))
+    (head_at x.heads node -ℤ at_scale S (elevation_of project node)) (head_at above.heads node -ℤ at_scale 1
+    (elevation_of project node))
     (let l = lies.low in
-    rw one_times (omega (arith, ints, l, times_minus S (head_at below.heads node) (elevation_of network node))))
+    rw one_times (omega (arith, ints, l, times_minus S (head_at below.heads node) (elevation_of project node))))
     (let h = lies.high in
-    rw one_times (omega (arith, ints, h, times_minus S (head_at above.heads node) (elevation_of network node)))))
+    rw one_times (omega (arith, ints, h, times_minus S (head_at above.heads node) (elevation_of project node)))))
 
-flow-between : (network : Project) (S : ℕ) (below x above : Readings) (link : ℕ) → AreBetween network S below x above
+flow-between : (project : Project) (S : ℕ) (below x above : Readings) (link : ℕ) → AreBetween project S below x above
     → IsValueBetween S (whole (pos (slice_index_or below.flows link 0))) (whole (pos (slice_index_or x.flows link 0)))
     (whole (pos (slice_index_or above.flows link 0)))
-flow-between network S below x above link b =
+flow-between project S below x above link b =
     let l = b.flows_below link in let h = b.flows_above link in
     whole-between S (pos (slice_index_or below.flows link 0)) (pos (slice_index_or x.flows link 0))
     (pos (slice_index_or above.flows link 0))
@@ -205,37 +201,37 @@ links-tell : (f : List LinkState → Bool) (below x above : Readings) → below.
     → Tells (at_both_ends (f below.links) (f above.links)) (f x.links)
 links-tell f below x above l h = rw (l, h) (same-tells (f x.links))
 
-subject-tells : (network : Project) (S time : ℕ) (below x above : Readings) (what : What) (relation : Relation)
+subject-tells : (project : Project) (S time : ℕ) (below x above : Readings) (what : What) (relation : Relation)
     (value : Value)
-    → 0 < S → Compares what relation → AreBetween network S below x above
-    → Tells (at_both_ends (holds_on network 1 time below what relation value)
-    (holds_on network 1 time above what relation value)) (holds_on network S time x what relation value)
-subject-tells network S time below x above (Head node) relation value some way b =
-    value-tells relation S _ _ _ (amount network (Head node) value) (one-way-head node relation way) some
-    (head-between network S below x above node b)
-subject-tells network S time below x above (Pressure node) relation value some way b =
-    value-tells relation S _ _ _ (amount network (Pressure node) value) (one-way-pressure node relation way) some
-    (pressure-between network S below x above node b)
-subject-tells network S time below x above (Level tank) relation value some way b =
-    value-tells relation S _ _ _ (amount network (Level tank) value) (one-way-level tank relation way) some
+    → 0 < S → Compares what relation → AreBetween project S below x above
+    → Tells (at_both_ends (holds_on project 1 time below what relation value)
+    (holds_on project 1 time above what relation value)) (holds_on project S time x what relation value)
+subject-tells project S time below x above (Head node) relation value some way b =
+    value-tells relation S _ _ _ (amount project (Head node) value) (one-way-head node relation way) some
+    (head-between project S below x above node b)
+subject-tells project S time below x above (Pressure node) relation value some way b =
+    value-tells relation S _ _ _ (amount project (Pressure node) value) (one-way-pressure node relation way) some
+    (pressure-between project S below x above node b)
+subject-tells project S time below x above (Level tank) relation value some way b =
+    value-tells relation S _ _ _ (amount project (Level tank) value) (one-way-level tank relation way) some
     (b.levels tank)
-subject-tells network S time below x above (Flow link) relation value some way b =
-    value-tells relation S _ _ _ (amount network (Flow link) value) (one-way-flow link relation way) some
-    (flow-between network S below x above link b)
-subject-tells network S time below x above (Setting link) relation value some way b =
+subject-tells project S time below x above (Flow link) relation value some way b =
+    value-tells relation S _ _ _ (amount project (Flow link) value) (one-way-flow link relation way) some
+    (flow-between project S below x above link b)
+subject-tells project S time below x above (Setting link) relation value some way b =
     links-tell (λ ls. compares relation (whole (setting_of (state_of_link ls link)))
-    (amount network (Setting link) value)) below x above b.links_below b.links_above
-subject-tells network S time below x above (Status link) relation value some way b =
+    (amount project (Setting link) value)) below x above b.links_below b.links_above
+subject-tells project S time below x above (Status link) relation value some way b =
     links-tell (λ ls. status_holds relation (state_word (state_of_link ls link)) value)
     below x above b.links_below b.links_above
-subject-tells network S time below x above Time relation value some way b =
-    same-tells (holds_on network S time x Time relation value)
-subject-tells network S time below x above Clock relation value some way b =
-    same-tells (holds_on network S time x Clock relation value)
+subject-tells project S time below x above Time relation value some way b =
+    same-tells (holds_on project S time x Time relation value)
+subject-tells project S time below x above Clock relation value some way b =
+    same-tells (holds_on project S time x Clock relation value)
 
-pub clause_tells : (network : Project) (S time : ℕ) (below x above : Readings) (clause : Clause)
-    → 0 < S → Compares clause.what clause.relation → AreBetween network S below x above
-    → Tells (at_both_ends (clause_holds network 1 time below clause) (clause_holds network 1 time above clause))
-    (clause_holds network S time x clause)
-clause_tells network S time below x above clause some way b =
-    subject-tells network S time below x above clause.what clause.relation clause.value some way b
+pub clause_tells : (project : Project) (S time : ℕ) (below x above : Readings) (clause : Clause)
+    → 0 < S → Compares clause.what clause.relation → AreBetween project S below x above
+    → Tells (at_both_ends (clause_holds project 1 time below clause) (clause_holds project 1 time above clause))
+    (clause_holds project S time x clause)
+clause_tells project S time below x above clause some way b =
+    subject-tells project S time below x above clause.what clause.relation clause.value some way b

@@ -1,6 +1,5 @@
 -- The truths of rules tell the values that rules have in a period.
-use Rattle.std.proofs.Common.{◌≡◌, ℕ, suc, ◌+◌, ◌-◌, ◌<◌, refl, sym, ◌∙◌, arith, Bool, true, false, ◌||◌, List, [], ◌∷◌}
-use Rattle.std.proofs.Common.{map}
+use Rattle.std.proofs.Common.{◌≡◌, ℕ, suc, ◌+◌, ◌-◌, ◌<◌, refl, sym, ◌∙◌, arith, Bool, false, List, [], ◌∷◌, map}
 use Rattle.std.specs.Prelude.{slice_index_or, All}
 use Rattle.std.specs.List.{AllByRecursion, list_any}
 use Rattle.hyd_net.specs.ControlsAndRules.{Compares, IsRule}
@@ -15,6 +14,7 @@ use Rattle.hyd_spec_certificates.specs.PeriodNetwork.{Grid}
 use Rattle.hyd_spec_certificates.specs.RecordAndStanding.{Record, Standing}
 use Rattle.hyd_spec_certificates.specs.Decided.{clause_truth, rule_truths, decided_changes}
 use Rattle.hyd_theorems_on_definitions.specs.TermsOfTheorems.{Tells, TellEach}
+use Rattle.hyd_lemmas.proofs.Trials.{or-false}
 use Rattle.hyd_theorems_on_definitions.proofs.Deciding.{rule_tells}
 use Rattle.hyd_theorems_on_histories.specs.Agreement.{AreBetween, IsUnder}
 use Rattle.hyd_theorems_on_histories.proofs.Clauses.{clause_tells}
@@ -70,10 +70,6 @@ first-known Yes b e tells = sym tells
 first-known No b e tells = sym tells
 first-known Unknown b e tells = absurd (cc)
 
-or-false : (a b : Bool) → (a || b) ≡ false → (a ≡ false) × (b ≡ false)
-or-false true b e = absurd (cc)
-or-false false b e = (refl, e)
-
 pub all_known : (truths : List Verdict) (tests : List Bool) → list_any is_unknown truths ≡ false → TellEach truths tests
     → map is_yes truths ≡ tests
 all_known [] [] e tells = refl
@@ -86,55 +82,55 @@ all_known (t ∷ truths) (b ∷ tests) e tells =
     λ i. first i ∷ rest i
 
 -- the truths on readings between which those at scale S lie
-pub truths_tell : (network : Project) (S time : ℕ) (below x above : Readings) (truth : Clause → Verdict) → 0 < S
-    → Sound network → AreBetween network S below x above
+pub truths_tell : (project : Project) (S time : ℕ) (below x above : Readings) (truth : Clause → Verdict) → 0 < S
+    → Sound project → AreBetween project S below x above
     → ((clause : Clause) → Compares clause.what clause.relation
-    → Tells (truth clause) (clause_holds network S time x clause))
+    → Tells (truth clause) (clause_holds project S time x clause))
     → TellEach (map (λ rule. all_hold (map (λ group. some_holds (map truth group)) (groups_of rule)))
-    network.rules.list) (rule_values network S time x)
-truths_tell network S time below x above truth some sound between tells =
+    project.rules.list) (rule_values project S time x)
+truths_tell project S time below x above truth some sound between tells =
     tell-mapped Rule (λ rule. all_hold (map (λ group. some_holds (map truth group)) (groups_of rule)))
-    (rule_holds network S time x) network.rules.list
-    (all-mapped Rule (IsRule network)
+    (rule_holds project S time x) project.rules.list
+    (all-mapped Rule (IsRule project)
     (λ rule. Tells (all_hold (map (λ group. some_holds (map truth group)) (groups_of rule)))
-    (rule_holds network S time x rule)) network.rules.list
-    (λ rule is. rule_tells truth (clause_holds network S time x) (groups_of rule)
-    (in-groups (λ clause. Tells (truth clause) (clause_holds network S time x clause)) rule
-    (each_of RuleClause (λ row. Tells (truth row.clause) (clause_holds network S time x row.clause)) rule.clauses.list
+    (rule_holds project S time x rule)) project.rules.list
+    (λ rule is. rule_tells truth (clause_holds project S time x) (groups_of rule)
+    (in-groups (λ clause. Tells (truth clause) (clause_holds project S time x clause)) rule
+    (each_of RuleClause (λ row. Tells (truth row.clause) (clause_holds project S time x row.clause)) rule.clauses.list
     (λ k d le. tells (slice_index_or rule.clauses.list k d).clause (is.clauses k d le).relation))))
-    (each_of Rule (IsRule network) network.rules.list sound.rules))
+    (each_of Rule (IsRule project) project.rules.list sound.rules))
 
-module _ (network : Project) (sound : Sound network) (S : ℕ) (period : Period) (grid : Grid) (standing : Standing)
-    (row : Record) (under : IsUnder network S period grid standing row) where
-  values-tell : (seconds : ℕ) → TellEach (rule_truths network grid standing row seconds)
-      (rule_values network S (standing.time + seconds) (readings_after network S period seconds))
+module _ (project : Project) (sound : Sound project) (S : ℕ) (period : Period) (grid : Grid) (standing : Standing)
+    (row : Record) (under : IsUnder project S period grid standing row) where
+  values-tell : (seconds : ℕ) → TellEach (rule_truths project grid standing row seconds)
+      (rule_values project S (standing.time + seconds) (readings_after project S period seconds))
   values-tell seconds =
-      truths_tell network S (standing.time + seconds) _ _ _ (clause_truth network grid standing row seconds)
-      under.compared.some sound (readings_between network S period grid standing row under seconds)
-      (λ clause way. clause_tells network S (standing.time + seconds) _ _ _ clause under.compared.some way
-      (readings_between network S period grid standing row under seconds))
+      truths_tell project S (standing.time + seconds) _ _ _ (clause_truth project grid standing row seconds)
+      under.compared.some sound (readings_between project S period grid standing row under seconds)
+      (λ clause way. clause_tells project S (standing.time + seconds) _ _ _ clause under.compared.some way
+      (readings_between project S period grid standing row under seconds))
 
-  values-are : (seconds instant : ℕ) → instant ≡ standing.time + seconds → values_at network S period instant
-      ≡ rule_values network S (standing.time + seconds) (readings_after network S period seconds)
+  values-are : (seconds instant : ℕ) → instant ≡ standing.time + seconds → values_at project S period instant
+      ≡ rule_values project S (standing.time + seconds) (readings_after project S period seconds)
   values-are seconds instant e =
       let t = under.time in
       let s : instant - period.time ≡ seconds = omega (arith, e, t) in
-      λ i. rule_values network S (e i) (readings_after network S period (s i))
+      λ i. rule_values project S (e i) (readings_after project S period (s i))
 
   -- where no rule is open, the values are those that are decided
   pub decided_values : (seconds instant : ℕ) → instant ≡ standing.time + seconds
-      → list_any is_unknown (rule_truths network grid standing row seconds) ≡ false
-      → map is_yes (rule_truths network grid standing row seconds) ≡ values_at network S period instant
+      → list_any is_unknown (rule_truths project grid standing row seconds) ≡ false
+      → map is_yes (rule_truths project grid standing row seconds) ≡ values_at project S period instant
   decided_values seconds instant e known =
-      all_known (rule_truths network grid standing row seconds) _ known (values-tell seconds)
+      all_known (rule_truths project grid standing row seconds) _ known (values-tell seconds)
       ∙ sym (values-are seconds instant e)
 
   -- and so are the changes
   pub changes_are : (seconds instant : ℕ) → instant ≡ standing.time + seconds
-      → list_any is_unknown (rule_truths network grid standing row seconds) ≡ false
-      → decided_changes network grid standing row seconds ≡ rule_changes network (values_at network S period instant)
+      → list_any is_unknown (rule_truths project grid standing row seconds) ≡ false
+      → decided_changes project grid standing row seconds ≡ rule_changes project (values_at project S period instant)
       period.links
   changes_are seconds instant e known =
       let v = decided_values seconds instant e known in
       let l = under.links in
-      λ i. rule_changes network (v i) (sym l i)
+      λ i. rule_changes project (v i) (sym l i)

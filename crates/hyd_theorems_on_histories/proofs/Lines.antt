@@ -7,7 +7,7 @@ use Rattle.std.specs.List.{AllByRecursion, AllZip}
 use Rattle.std.proofs.lemmas.Int.{ints}
 use Rattle.std.proofs.lemmas.Bool.{cases_Bool, cond_both}
 use Rattle.std.proofs.lemmas.Option.{slice_get_within, get_or_from_slice_get}
-use Rattle.hyd_num.proofs.Integers.{times_plus, times_minus}
+use Rattle.hyd_num.proofs.Integers.{times_plus, times_minus, one_times}
 use Rattle.hyd_num.specs.Rational.{whole}
 use Rattle.hyd_num.specs.PrintedDecimals.{head_quantity, flow_quantity}
 use Rattle.hyd_net.specs.NetworkRanges.{HasSizes}
@@ -52,19 +52,17 @@ use Rattle.hyd_spec_reports.specs.Report.{event_line, status_of, EndBrings, at_e
 use Rattle.hyd_spec_reports.specs.Report.{by_rules as brings_by_rules, by_clock as brings_by_clock, AreEndLines}
 use Rattle.hyd_spec_reports.specs.Claims.{LineHolds, ReachesControl, ReachesAtEnd, StatusHolds, difference_along}
 use Rattle.hyd_theorems_on_definitions.specs.TermsOfTheorems.{LiesIn}
+use Rattle.hyd_lemmas.proofs.ListsAndOptions.{same_item}
+use Rattle.hyd_lemmas.proofs.Trials.{le-from, le-yes}
 use Rattle.hyd_theorems_on_definitions.proofs.Boxed.{heads_between}
 use Rattle.hyd_theorems_on_definitions.proofs.Deciding.{control_tells}
-use Rattle.hyd_theorems_on_definitions.proofs.Placing.{le-from}
-use Rattle.hyd_theorems_on_definitions.proofs.Leading.{one_times}
-use Rattle.hyd_theorems_on_definitions.proofs.Outflows.{le-yes}
 use Rattle.hyd_theorems_on_histories.specs.Agreement.{IsUnder, IsOwnState, IsKept}
-use Rattle.hyd_theorems_on_histories.proofs.Places.{same_item, numbered_from_start}
+use Rattle.hyd_theorems_on_histories.proofs.Places.{numbered_from_start}
 use Rattle.hyd_theorems_on_histories.proofs.Reaching.{watched_above, watched_below}
 use Rattle.hyd_theorems_on_histories.proofs.Looks.{level_lies, stock_lies, inflow_within}
 use Rattle.hyd_theorems_on_histories.proofs.Judging.{changes_are}
 use Rattle.hyd_theorems_on_histories.proofs.Watching.{contains-here, contains-later, contains-cons, contains-none}
-use Rattle.hyd_theorems_on_histories.proofs.Watching.{known-no}
-use Rattle.hyd_theorems_on_histories.proofs.Watching.{isnt-full, isnt-empty}
+use Rattle.hyd_theorems_on_histories.proofs.Watching.{known-no, isnt-full, isnt-empty}
 use Rattle.hyd_theorems_on_definitions.proofs.Vessels.{sound_tank}
 use Rattle.hyd_theorems_on_histories.proofs.PrintedValues.{prints_hold, head_proportional, flow_proportional}
 use Rattle.hyd_theorems_on_histories.proofs.LinesHold.{IsCovered, all_after, flow_holds}
@@ -122,11 +120,11 @@ IsByControl (ByRule rule) = ⊥
 IsByControl (ByControl number) = ⊤
 
 -- what rules change, rules change
-rules-change : (network : Project) (values : List Bool) (links : List LinkState)
-    → AllByRecursion (λ (c : Change). IsByRule c.source) (rule_changes network values links)
-rules-change network values links =
-    all-present LinkState Change (λ c. IsByRule c.source) (change_of network values) 0 links
-    (λ k state at. by-offer state (best_offer (0 + k) (offers_from 0 network.rules.list values)))
+rules-change : (project : Project) (values : List Bool) (links : List LinkState)
+    → AllByRecursion (λ (c : Change). IsByRule c.source) (rule_changes project values links)
+rules-change project values links =
+    all-present LinkState Change (λ c. IsByRule c.source) (change_of project values) 0 links
+    (λ k state at. by-offer state (best_offer (0 + k) (offers_from 0 project.rules.list values)))
   where
     by-offer : (state : LinkState) (best : Option Offer)
         → IfSome (option_and_then (change_by state) best) (λ (c : Change). IsByRule c.source)
@@ -137,20 +135,20 @@ rules-change network values links =
         (λ o. IfSome o (λ (c : Change). IsByRule c.source)) (λ e. tt) (λ e. tt)
 
 -- what controls change, controls change
-controls-change : (network : Project) (time : ℕ) (acts : ℕ → Bool → ℤ → Bool) (k : ℕ) (controls : List Control)
+controls-change : (project : Project) (time : ℕ) (acts : ℕ → Bool → ℤ → Bool) (k : ℕ) (controls : List Control)
     (links : List LinkState)
-    → AllByRecursion (λ (c : Change). IsByControl c.source) (control_changes network time acts k controls links)
-controls-change network time acts k [] links = tt
-controls-change network time acts k (c ∷ controls) links =
-    cond_both (control_acts network time acts c.when)
+    → AllByRecursion (λ (c : Change). IsByControl c.source) (control_changes project time acts k controls links)
+controls-change project time acts k [] links = tt
+controls-change project time acts k (c ∷ controls) links =
+    cond_both (control_acts project time acts c.when)
     ((if is_same_state (state_of_link links c.link) c.to then [] else record {
       source = ByControl k;
       link = c.link;
       to =
           c.to;
     } ∷ [])
-    ++ control_changes network time acts (suc k) controls (slice_set links c.link c.to))
-    (control_changes network time acts (suc k) controls links) (AllByRecursion (λ (x : Change). IsByControl x.source))
+    ++ control_changes project time acts (suc k) controls (slice_set links c.link c.to))
+    (control_changes project time acts (suc k) controls links) (AllByRecursion (λ (x : Change). IsByControl x.source))
     (λ e. all_after Change (λ x. IsByControl x.source) _ _
     (cond_both (is_same_state (state_of_link links c.link) c.to) [] (record {
       source = ByControl k;
@@ -158,23 +156,23 @@ controls-change network time acts k (c ∷ controls) links =
       to =
           c.to;
     } ∷ []) (AllByRecursion (λ (x : Change). IsByControl x.source)) (λ f. tt) (λ f. (tt, tt)))
-    (controls-change network time acts (suc k) controls (slice_set links c.link c.to)))
-    (λ e. controls-change network time acts (suc k) controls links)
+    (controls-change project time acts (suc k) controls (slice_set links c.link c.to)))
+    (λ e. controls-change project time acts (suc k) controls links)
 
 -- ---- controls
 
-pub same-changes : (network : Project) (time : ℕ) (acts others : ℕ → Bool → ℤ → Bool) (k : ℕ) (controls : List Control)
-    → ((each : Control) → Contains controls each → control_acts network time acts each.when
-    ≡ control_acts network time others each.when)
-    → (links : List LinkState) → control_changes network time acts k controls links
-    ≡ control_changes network time others k controls links
-same-changes network time acts others k [] same links = refl
-same-changes network time acts others k (c ∷ controls) same links =
+pub same-changes : (project : Project) (time : ℕ) (acts others : ℕ → Bool → ℤ → Bool) (k : ℕ) (controls : List Control)
+    → ((each : Control) → Contains controls each → control_acts project time acts each.when
+    ≡ control_acts project time others each.when)
+    → (links : List LinkState) → control_changes project time acts k controls links
+    ≡ control_changes project time others k controls links
+same-changes project time acts others k [] same links = refl
+same-changes project time acts others k (c ∷ controls) same links =
     let first = same c (contains-here Control c controls) in
     let later = λ (each : Control) (contained : Contains controls each). same each
     (contains-later Control each c controls contained) in
-    let set = same-changes network time acts others (suc k) controls later (slice_set links c.link c.to) in
-    let kept = same-changes network time acts others (suc k) controls later links in
+    let set = same-changes project time acts others (suc k) controls later (slice_set links c.link c.to) in
+    let kept = same-changes project time acts others (suc k) controls later links in
     λ i. if first i
     then (if is_same_state (state_of_link links c.link) c.to then [] else record {
       source = ByControl k;
@@ -186,18 +184,18 @@ same-changes network time acts others k (c ∷ controls) same links =
 
 -- ---- a link of the grid
 
-same-ends : (network : Project) (tanks : List TankState) (links : List Link) (states : List LinkState) (l : ℕ)
+same-ends : (project : Project) (tanks : List TankState) (links : List Link) (states : List LinkState) (l : ℕ)
     (link : Link) (place : GridLink)
-    → slice_get links l ≡ Some link → slice_get (grid_links network tanks links states) l ≡ Some place
+    → slice_get links l ≡ Some link → slice_get (grid_links project tanks links states) l ≡ Some place
     → (place.from ≡ link.from) × (place.to ≡ link.to)
-same-ends network tanks [] states l link place at is = absurd (cc)
-same-ends network tanks (x ∷ links) [] l link place at is = absurd (cc)
-same-ends network tanks (x ∷ links) (s ∷ states) zero link place at is =
+same-ends project tanks [] states l link place at is = absurd (cc)
+same-ends project tanks (x ∷ links) [] l link place at is = absurd (cc)
+same-ends project tanks (x ∷ links) (s ∷ states) zero link place at is =
     let a = same_item Link x link at in
-    let b = same_item GridLink (record { from = x.from; to = x.to; law = law_of network tanks x s }) place is in
+    let b = same_item GridLink (record { from = x.from; to = x.to; law = law_of project tanks x s }) place is in
     ((λ i. (sym b i).from) ∙ ap (λ (y : Link). y.from) a, (λ i. (sym b i).to) ∙ ap (λ (y : Link). y.to) a)
-same-ends network tanks (x ∷ links) (s ∷ states) (suc l) link place at is =
-    same-ends network tanks links states l link place at is
+same-ends project tanks (x ∷ links) (s ∷ states) (suc l) link place at is =
+    same-ends project tanks links states l link place at is
 
 record IsZipped (X Y : Type 0) (P : X → Y → Type 0) (ys : List Y) (k : ℕ) (x : X) : Type 0 where
   other : Y
@@ -251,15 +249,15 @@ above-reached t z e = let a = le-yes ((pos 1 *ℤ t) *ℤ pos 1) (z *ℤ pos 1) 
 below-reached : (t z : ℤ) → reaches 1 false t (whole z) ≡ true → z ≤ℤ t
 below-reached t z e = let a = le-yes (z *ℤ pos 1) ((pos 1 *ℤ t) *ℤ pos 1) e in omega (arith, ints, a, one_times t)
 
-module _ (network : Project) (sound : Sound network) (S : ℕ) (commanded : List LinkState) (period : Period)
+module _ (project : Project) (sound : Sound project) (S : ℕ) (commanded : List LinkState) (period : Period)
     (grid : Grid) (standing : Standing) (row : Record)
-    (under : IsUnder network S period grid standing row) (kept : IsKept network standing)
-    (own : AllZip (IsOwnState network) network.links.list (links_at network standing))
+    (under : IsUnder project S period grid standing row) (kept : IsKept project standing)
+    (own : AllZip (IsOwnState project) project.links.list (links_at project standing))
     (from_standing : commanded ≡ standing.commanded) (lasts : period.length ≡ row.length) where
   abbrev Holds : ReportLine → Type 0
-  Holds each = LineHolds network S commanded period each
+  Holds each = LineHolds project S commanded period each
 
-  pub covered : IsCovered network S period grid standing row
+  pub covered : IsCovered project S period grid standing row
   covered = record {
     compared = under.compared;
     lower = under.certificates.each Main Lower tt;
@@ -275,22 +273,22 @@ module _ (network : Project) (sound : Sound network) (S : ℕ) (commanded : List
     high = let h = lies.high in omega (arith, ints, h, times_plus S x.hi b);
   }
 
-  pub tank_holds : (k : ℕ) (tank : Tank) (each : ReportLine) → slice_get network.tanks.list k ≡ Some tank
-      → IsTankLine network grid standing row k tank each → Holds each
+  pub tank_holds : (k : ℕ) (tank : Tank) (each : ReportLine) → slice_get project.tanks.list k ≡ Some tank
+      → IsTankLine project grid standing row k tank each → Holds each
   tank_holds k tank each at line =
-      let level = level_lies network S period grid standing row under k in
-      let inflow = inflow_within network S period grid standing row under k tank at in
+      let level = level_lies project S period grid standing row under k in
+      let inflow = inflow_within project S period grid standing row under k tank at in
       subst Holds (sym line.is_line) (record {
         tank = tank;
         is_tank = at;
-        head_lies = prints_hold S (head_quantity (is_us network)) (head_proportional (is_us network))
+        head_lies = prints_hold S (head_quantity (is_us project)) (head_proportional (is_us project))
             (shifted tank.bottom (level_of_tank standing k)) line.head
             (at_scale S tank.bottom +ℤ level_at_start period k) line.head_is
             (shifted-lies tank.bottom (level_of_tank standing k) (level_at_start period k) level);
-        level_lies = prints_hold S (head_quantity (is_us network)) (head_proportional (is_us network))
+        level_lies = prints_hold S (head_quantity (is_us project)) (head_proportional (is_us project))
             (level_of_tank standing k) line.level (level_at_start period k) line.level_is level;
-        inflow_lies = prints_hold S (flow_quantity network.options.unit) (flow_proportional network.options.unit)
-            (inflow_of_tank network grid row k) line.inflow (tank_inflow network k period.assignment.flows)
+        inflow_lies = prints_hold S (flow_quantity project.options.unit) (flow_proportional project.options.unit)
+            (inflow_of_tank project grid row k) line.inflow (tank_inflow project k period.assignment.flows)
             line.inflow_is inflow;
         state_is = ap (λ (ts : List TankState). slice_get ts k) under.tanks ∙ line.state_is;
       })
@@ -299,11 +297,11 @@ module _ (network : Project) (sound : Sound network) (S : ℕ) (commanded : List
 
   difference-lies : (link : Link) (place : GridLink) → place.from ≡ link.from → place.to ≡ link.to
       → LiesIn S (difference place (heads_below grid row) (heads_above grid row))
-      (difference_along network S period link)
+      (difference_along project S period link)
   difference-lies link place from to =
-      let between = heads_between network S period.time standing.levels period.levels period.tanks period.links
+      let between = heads_between project S period.time standing.levels period.levels period.tanks period.links
       period.assignment grid row.main.lower row.main.upper under.compared covered.lower covered.upper in
-      let heads = node_heads network S period.time period.levels period.assignment.heads in
+      let heads = node_heads project S period.time period.levels period.assignment.heads in
       subst (λ m. LiesIn S (difference place (heads_below grid row) (heads_above grid row))
       (head_at heads m -ℤ head_at heads link.to)) from
       (subst (λ m. LiesIn S (difference place (heads_below grid row) (heads_above grid row))
@@ -329,29 +327,29 @@ module _ (network : Project) (sound : Sound network) (S : ℕ) (commanded : List
             );
       }))
 
-  link-made : (l : ℕ) (link : Link) → slice_get network.links.list l ≡ Some link
-      → IsKindMade network.options.unit link.kind
+  link-made : (l : ℕ) (link : Link) → slice_get project.links.list l ≡ Some link
+      → IsKindMade project.options.unit link.kind
   link-made l link at =
-      subst (λ (x : Link). IsKindMade network.options.unit x.kind)
-      (get_or_from_slice_get network.links.list l link link at)
-      (sound.made.links l link (slice_get_within network.links.list l link at))
+      subst (λ (x : Link). IsKindMade project.options.unit x.kind)
+      (get_or_from_slice_get project.links.list l link link at)
+      (sound.made.links l link (slice_get_within project.links.list l link at))
 
-  link-sizes : (l : ℕ) (link : Link) → slice_get network.links.list l ≡ Some link
-      → HasSizes network.options.unit network.patterns.list network.bends.list link.kind
+  link-sizes : (l : ℕ) (link : Link) → slice_get project.links.list l ≡ Some link
+      → HasSizes project.options.unit project.patterns.list project.bends.list link.kind
   link-sizes l link at =
-      subst (λ (x : Link). HasSizes network.options.unit network.patterns.list network.bends.list x.kind)
-      (get_or_from_slice_get network.links.list l link link at)
-      (sound.quantities.links l link (slice_get_within network.links.list l link at))
+      subst (λ (x : Link). HasSizes project.options.unit project.patterns.list project.bends.list x.kind)
+      (get_or_from_slice_get project.links.list l link link at)
+      (sound.quantities.links l link (slice_get_within project.links.list l link at))
 
-  pub link_holds : (l : ℕ) (link : Link) (each : ReportLine) → slice_get network.links.list l ≡ Some link
-      → IsLinkLine network grid standing row l link each → Holds each
+  pub link_holds : (l : ℕ) (link : Link) (each : ReportLine) → slice_get project.links.list l ≡ Some link
+      → IsLinkLine project grid standing row l link each → Holds each
   link_holds l link each at line =
-      let found = zipped-at Link LinkState (IsOwnState network) network.links.list (links_at network standing)
+      let found = zipped-at Link LinkState (IsOwnState project) project.links.list (links_at project standing)
       l link at own in
       let state = found.other in
-      let same : state_of_link (links_at network standing) l ≡ state =
-      get_or_from_slice_get (links_at network standing) l state Closed found.is_other in
-      let ends = same-ends network period.tanks network.links.list period.links l link line.place at
+      let same : state_of_link (links_at project standing) l ≡ state =
+      get_or_from_slice_get (links_at project standing) l state Closed found.is_other in
+      let ends = same-ends project period.tanks project.links.list period.links l link line.place at
       (subst (λ ls. slice_get ls l ≡ Some line.place) under.compared.is_grid.links_are line.place_is) in
       let d = difference line.place (heads_below grid row) (heads_above grid row) in
       subst Holds (sym line.is_line) (record {
@@ -359,14 +357,14 @@ module _ (network : Project) (sound : Sound network) (S : ℕ) (commanded : List
         is_link = at;
         state = state;
         is_state = ap (λ (ls : List LinkState). slice_get ls l) under.links ∙ found.is_other;
-        flow_lies = flow_holds network S commanded period grid standing row covered l line.box line.flow line.box_is
+        flow_lies = flow_holds project S commanded period grid standing row covered l line.box line.flow line.box_is
             line.flow_is;
         status_holds =
-            subst (λ s. StatusHolds (is_us network) network.bends.list
-            (status_of (is_us network) network.bends.list link.kind s d) link.kind state S
-            (difference_along network S period link)) (sym same)
-            (status_holds network.options.unit (is_us network) network.patterns.list network.bends.list link.kind state
-            S d (difference_along network S period link) under.compared.some
+            subst (λ s. StatusHolds (is_us project) project.bends.list
+            (status_of (is_us project) project.bends.list link.kind s d) link.kind state S
+            (difference_along project S period link)) (sym same)
+            (status_holds project.options.unit (is_us project) project.patterns.list project.bends.list link.kind state
+            S d (difference_along project S period link) under.compared.some
             (link-made l link at) (link-sizes l link at) (difference-lies link line.place ends.0 ends.1));
       })
 
@@ -375,14 +373,14 @@ module _ (network : Project) (sound : Sound network) (S : ℕ) (commanded : List
   end-time : standing.time + row.length ≡ period.time + period.length
   end-time = let t = under.time in omega (arith, t, lasts)
 
-  carried-is : (k : ℕ) (tank : Tank) (level : Interval) → slice_get network.tanks.list k ≡ Some tank
-      → slice_get (carried_at network grid standing row row.length) k ≡ Some level
-      → level ≡ carried_levels (walls_of network tank) tank (stocks_of_tank standing k)
-      (inflow_of_tank network grid row k) row.length
+  carried-is : (k : ℕ) (tank : Tank) (level : Interval) → slice_get project.tanks.list k ≡ Some tank
+      → slice_get (carried_at project grid standing row row.length) k ≡ Some level
+      → level ≡ carried_levels (walls_of project tank) tank (stocks_of_tank standing k)
+      (inflow_of_tank project grid row k) row.length
   carried-is k tank level at is =
-      sym (get_or_from_slice_get (carried_at network grid standing row row.length) k level nowhere is)
-      ∙ numbered_from_start Tank Interval (λ n t. carried_levels (walls_of network t) t (stocks_of_tank standing n)
-      (inflow_of_tank network grid row n) row.length) network.tanks.list k tank nowhere at
+      sym (get_or_from_slice_get (carried_at project grid standing row row.length) k level nowhere is)
+      ∙ numbered_from_start Tank Interval (λ n t. carried_levels (walls_of project t) t (stocks_of_tank standing n)
+      (inflow_of_tank project grid row n) row.length) project.tanks.list k tank nowhere at
 
   abbrev end : ℕ
   end = standing.time + row.length
@@ -391,49 +389,49 @@ module _ (network : Project) (sound : Sound network) (S : ℕ) (commanded : List
   abbrev Happens : Event → Type 0
   Happens event = Holds (event_line end event)
 
-  reached-so : (k : ℕ) (tank : Tank) (above : Bool) (target : ℤ) → slice_get network.tanks.list k ≡ Some tank
-      → reaches S above target (watched_after network S period k tank row.length) ≡ true
-      → ReachesAtEnd network S period end k above target
+  reached-so : (k : ℕ) (tank : Tank) (above : Bool) (target : ℤ) → slice_get project.tanks.list k ≡ Some tank
+      → reaches S above target (watched_after project S period k tank row.length) ≡ true
+      → ReachesAtEnd project S period end k above target
   reached-so k tank above target at reached = record {
     at_end = end-time;
     tank = tank;
     is_tank = at;
-    reached = subst (λ s. reaches S above target (watched_after network S period k tank s) ≡ true) (sym lasts) reached;
+    reached = subst (λ s. reaches S above target (watched_after project S period k tank s) ≡ true) (sym lasts) reached;
   }
 
-  come-up : (k : ℕ) (tank : Tank) (target : ℤ) → slice_get network.tanks.list k ≡ Some tank → tank.minimum <ℤ target
-      → target ≤ℤ (carried_levels (walls_of network tank) tank (stocks_of_tank standing k)
-      (inflow_of_tank network grid row k) row.length).lo
-      → ReachesAtEnd network S period end k true target
+  come-up : (k : ℕ) (tank : Tank) (target : ℤ) → slice_get project.tanks.list k ≡ Some tank → tank.minimum <ℤ target
+      → target ≤ℤ (carried_levels (walls_of project tank) tank (stocks_of_tank standing k)
+      (inflow_of_tank project grid row k) row.length).lo
+      → ReachesAtEnd project S period end k true target
   come-up k tank target at over reached = reached-so k tank true target at
-      (watched_above S (walls_of network tank) tank (stocks_of_tank standing k) (inflow_of_tank network grid row k)
+      (watched_above S (walls_of project tank) tank (stocks_of_tank standing k) (inflow_of_tank project grid row k)
       target row.length (stock_at_start period k)
-      (tank_inflow network k period.assignment.flows) under.compared.some (under.vessels k tank at)
-      (stock_lies network S period grid standing row under k)
-      (inflow_within network S period grid standing row under k tank at) over reached)
+      (tank_inflow project k period.assignment.flows) under.compared.some (under.vessels k tank at)
+      (stock_lies project S period grid standing row under k)
+      (inflow_within project S period grid standing row under k tank at) over reached)
 
-  come-down : (k : ℕ) (tank : Tank) (target : ℤ) → slice_get network.tanks.list k ≡ Some tank → target <ℤ tank.maximum
-      → (carried_levels (walls_of network tank) tank (stocks_of_tank standing k) (inflow_of_tank network grid row k)
+  come-down : (k : ℕ) (tank : Tank) (target : ℤ) → slice_get project.tanks.list k ≡ Some tank → target <ℤ tank.maximum
+      → (carried_levels (walls_of project tank) tank (stocks_of_tank standing k) (inflow_of_tank project grid row k)
       row.length).hi ≤ℤ target
-      → ReachesAtEnd network S period end k false target
+      → ReachesAtEnd project S period end k false target
   come-down k tank target at below reached = reached-so k tank false target at
-      (watched_below S (walls_of network tank) tank (stocks_of_tank standing k) (inflow_of_tank network grid row k)
+      (watched_below S (walls_of project tank) tank (stocks_of_tank standing k) (inflow_of_tank project grid row k)
       target row.length (stock_at_start period k)
-      (tank_inflow network k period.assignment.flows) under.compared.some (under.vessels k tank at)
-      (stock_lies network S period grid standing row under k)
-      (inflow_within network S period grid standing row under k tank at) below reached)
+      (tank_inflow project k period.assignment.flows) under.compared.some (under.vessels k tank at)
+      (stock_lies project S period grid standing row under k)
+      (inflow_within project S period grid standing row under k tank at) below reached)
 
   own-state : (k : ℕ) (state : TankState) → slice_get standing.tanks k ≡ Some state
       → slice_get period.tanks k ≡ Some state
   own-state k state is = ap (λ (ts : List TankState). slice_get ts k) under.tanks ∙ is
 
   tank-event-holds : (k : ℕ) (tank : Tank) (state : TankState) (level : Interval)
-      → slice_get network.tanks.list k ≡ Some tank → slice_get standing.tanks k ≡ Some state
-      → level ≡ carried_levels (walls_of network tank) tank (stocks_of_tank standing k)
-      (inflow_of_tank network grid row k) row.length
+      → slice_get project.tanks.list k ≡ Some tank → slice_get standing.tanks k ≡ Some state
+      → level ≡ carried_levels (walls_of project tank) tank (stocks_of_tank standing k)
+      (inflow_of_tank project grid row k) row.length
       → AllByRecursion Happens (tank_event k tank state level)
   tank-event-holds k tank state level at is same =
-      let apart = (sound_tank network sound k tank at).ranges.apart in
+      let apart = (sound_tank project sound k tank at).ranges.apart in
       all-none Event Happens (not (is_full state) && int_le tank.maximum level.lo)
       (record { tank = k; what = BecomesFull } ∷ [])
       (λ e.
@@ -488,27 +486,27 @@ module _ (network : Project) (sound : Sound network) (S : ℕ) (commanded : List
   -- ---- level controls
 
   level-there : (number : ℕ) (control : Control) (k : ℕ) (above : Bool) (ticks : ℤ)
-      → slice_get network.controls.list number ≡ Some control → control.when ≡ AtLevel k above ticks
-      → (tank : Tank) × (slice_get network.tanks.list k ≡ Some tank)
+      → slice_get project.controls.list number ≡ Some control → control.when ≡ AtLevel k above ticks
+      → (tank : Tank) × (slice_get project.tanks.list k ≡ Some tank)
   level-there number control k above ticks at is =
-      let inside = slice_get_within network.controls.list number control at in
-      let command : IsControl network control =
-      subst (IsControl network) (get_or_from_slice_get network.controls.list number control control at)
+      let inside = slice_get_within project.controls.list number control at in
+      let command : IsControl project control =
+      subst (IsControl project) (get_or_from_slice_get project.controls.list number control control at)
       (sound.controls number control inside) in
-      let moment : IsMoment network (AtLevel k above ticks) = subst (IsMoment network) is command.moment in
-      there network.tanks.list k moment.0
+      let moment : IsMoment project (AtLevel k above ticks) = subst (IsMoment project) is command.moment in
+      there project.tanks.list k moment.0
     where
       there : (tanks : List Tank) (k : ℕ) → k < length tanks → (tank : Tank) × (slice_get tanks k ≡ Some tank)
       there [] k le = absurd (omega (arith, le))
       there (t ∷ tanks) zero le = (t, refl)
       there (t ∷ tanks) (suc k) le = there tanks k (omega (arith, le))
 
-  contains-at : (number : ℕ) (control : Control) → slice_get network.controls.list number ≡ Some control
-      → Contains network.controls.list control
+  contains-at : (number : ℕ) (control : Control) → slice_get project.controls.list number ≡ Some control
+      → Contains project.controls.list control
   contains-at number control at = (
     number,
-    slice_get_within network.controls.list number control at,
-    get_or_from_slice_get network.controls.list
+    slice_get_within project.controls.list number control at,
+    get_or_from_slice_get project.controls.list
         number control control at,
   )
 
@@ -517,15 +515,15 @@ module _ (network : Project) (sound : Sound network) (S : ℕ) (commanded : List
 
   -- where a control didn't act and its tank's whole interval of carried levels has reached its level, that level
   -- isn't the bound at which the tank would be held, since each level at the start would have reached it
-  control-reached : (k : ℕ) (tank : Tank) (above : Bool) (ticks : ℤ) → slice_get network.tanks.list k ≡ Some tank
+  control-reached : (k : ℕ) (tank : Tank) (above : Bool) (ticks : ℤ) → slice_get project.tanks.list k ≡ Some tank
       → acts_on standing.levels k above ticks ≡ false
-      → is_yes (control_truth (carried_levels (walls_of network tank) tank (stocks_of_tank standing k)
-      (inflow_of_tank network grid row k) row.length) above ticks) ≡ true
-      → ReachesAtEnd network S period end k above ticks
+      → is_yes (control_truth (carried_levels (walls_of project tank) tank (stocks_of_tank standing k)
+      (inflow_of_tank project grid row k) row.length) above ticks) ≡ true
+      → ReachesAtEnd project S period end k above ticks
   control-reached k tank true ticks at before after =
       let level = level_of_tank standing k in
-      let carried = carried_levels (walls_of network tank) tank (stocks_of_tank standing k)
-      (inflow_of_tank network grid row k) row.length in
+      let carried = carried_levels (walls_of project tank) tank (stocks_of_tank standing k)
+      (inflow_of_tank project grid row k) row.length in
       let bounds = kept.levels k tank at in
       let ends = ends-yes (reaches 1 true ticks (whole carried.lo)) (reaches 1 true ticks (whole carried.hi)) after in
       elim (cases_Bool (int_le ticks tank.minimum)) [
@@ -541,8 +539,8 @@ module _ (network : Project) (sound : Sound network) (S : ℕ) (commanded : List
       ]
   control-reached k tank false ticks at before after =
       let level = level_of_tank standing k in
-      let carried = carried_levels (walls_of network tank) tank (stocks_of_tank standing k)
-      (inflow_of_tank network grid row k) row.length in
+      let carried = carried_levels (walls_of project tank) tank (stocks_of_tank standing k)
+      (inflow_of_tank project grid row k) row.length in
       let bounds = kept.levels k tank at in
       let ends = ends-yes (reaches 1 false ticks (whole carried.lo)) (reaches 1 false ticks (whole carried.hi)) after in
       elim (cases_Bool (int_le tank.maximum ticks)) [
@@ -558,25 +556,25 @@ module _ (network : Project) (sound : Sound network) (S : ℕ) (commanded : List
       ]
 
   abbrev carried : List Interval
-  carried = carried_at network grid standing row row.length
+  carried = carried_at project grid standing row row.length
 
-  control-event-holds : (number : ℕ) (control : Control) → slice_get network.controls.list number ≡ Some control
+  control-event-holds : (number : ℕ) (control : Control) → slice_get project.controls.list number ≡ Some control
       → IfSome (control_event standing.levels carried number control) Happens
   control-event-holds number control at = by-when control.when refl
     where
       reaches-it : (k : ℕ) (above : Bool) (ticks : ℤ) → control.when ≡ AtLevel k above ticks
           → (not (acts_on standing.levels k above ticks) && is_yes
           (control_truth (slice_index_or carried k nowhere) above ticks)) ≡ true
-          → ReachesControl network S period end k number
+          → ReachesControl project S period end k number
       reaches-it k above ticks is e =
           let there = level-there number control k above ticks at is in
           let tank = there.0 in
           let parts = and-parts (not (acts_on standing.levels k above ticks))
           (is_yes (control_truth (slice_index_or carried k nowhere) above ticks)) e in
           let before = not-parts (acts_on standing.levels k above ticks) parts.0 in
-          let same = numbered_from_start Tank Interval (λ n t. carried_levels (walls_of network t) t
-          (stocks_of_tank standing n) (inflow_of_tank network grid row n) row.length)
-          network.tanks.list k tank nowhere there.1 in
+          let same = numbered_from_start Tank Interval (λ n t. carried_levels (walls_of project t) t
+          (stocks_of_tank standing n) (inflow_of_tank project grid row n) row.length)
+          project.tanks.list k tank nowhere there.1 in
           record {
             control = control;
             is_control = at;
@@ -586,13 +584,13 @@ module _ (network : Project) (sound : Sound network) (S : ℕ) (commanded : List
             before = known-no (control_truth (level_of_tank standing k) above ticks)
                 (reaches S above ticks (whole (level_at_start period k)))
                 (control_tells S (level_of_tank standing k) above ticks (level_at_start period k) under.compared.some
-                (level_lies network S period grid standing row under k))
+                (level_lies project S period grid standing row under k))
                 (under.controls control k above ticks (contains-at number control at) is) before;
             reaches_it = control-reached k tank above ticks there.1 before
                 (subst (λ (x : Interval). is_yes (control_truth x above ticks) ≡ true) same parts.1);
           }
 
-      if-so : (b : Bool) (k : ℕ) → (b ≡ true → ReachesControl network S period end k number)
+      if-so : (b : Bool) (k : ℕ) → (b ≡ true → ReachesControl project S period end k number)
           → IfSome (if b then Some (record { tank = k; what = ReachesLevel number }) else None) Happens
       if-so true k h = h refl
       if-so false k h = tt
@@ -611,33 +609,33 @@ module _ (network : Project) (sound : Sound network) (S : ℕ) (commanded : List
       by-when (AtClock t) is = let same : control_event standing.levels carried number control ≡ None = rw is refl in
           subst (λ o. IfSome o Happens) (sym same) tt
 
-  pub events_happen : AllByRecursion Happens (events_of network grid standing row)
+  pub events_happen : AllByRecursion Happens (events_of project grid standing row)
   events_happen = all_after Event Happens _ _
-      (all-tank-events 0 network.tanks.list standing.tanks carried
+      (all-tank-events 0 project.tanks.list standing.tanks carried
       (λ k tank state level at is in_place. let n : k ≡ 0 + k = omega arith in
       subst (λ m. AllByRecursion Happens (tank_event m tank state level)) n (tank-event-holds k tank state level at is
       (carried-is k tank level at in_place))))
-      (all-present Control Event Happens (control_event standing.levels carried) 0 network.controls.list
+      (all-present Control Event Happens (control_event standing.levels carried) 0 project.controls.list
       (λ k control at. let n : k ≡ 0 + k = omega arith in
       subst (λ m. IfSome (control_event standing.levels carried m control) Happens) n
       (control-event-holds k control at)))
 
-  event-lines-hold : AllByRecursion Holds (map (event_line end) (events_of network grid standing row))
-  event-lines-hold = all-lines Event Holds (event_line end) (events_of network grid standing row) events_happen
+  event-lines-hold : AllByRecursion Holds (map (event_line end) (events_of project grid standing row))
+  event-lines-hold = all-lines Event Holds (event_line end) (events_of project grid standing row) events_happen
 
   -- ---- rules
 
-  rule-lines-hold : EndsBy network grid standing row (ByRules row.length)
-      → AllByRecursion Holds (map (change_line end) (decided_changes network grid standing row row.length))
+  rule-lines-hold : EndsBy project grid standing row (ByRules row.length)
+      → AllByRecursion Holds (map (change_line end) (decided_changes project grid standing row row.length))
   rule-lines-hold (decided_by_rules first known) =
-      let changes = decided_changes network grid standing row row.length in
+      let changes = decided_changes project grid standing row row.length in
       all-mapped Change ReportLine Holds (change_line end) changes
       (λ change contained. by-source change contained change.source refl
       (in-all Change (λ c. IsByRule c.source) changes change
-      (rules-change network (map is_yes (rule_truths network grid standing row row.length))
-      (links_at network standing)) contained))
+      (rules-change project (map is_yes (rule_truths project grid standing row row.length))
+      (links_at project standing)) contained))
     where
-      by-source : (change : Change) → Contains (decided_changes network grid standing row row.length) change
+      by-source : (change : Change) → Contains (decided_changes project grid standing row row.length) change
           → (s : Source) → change.source ≡ s → IsByRule s → Holds (change_line end change)
       by-source change contained (ByControl number) is other = absurd other
       by-source change contained (ByRule rule) is own =
@@ -646,25 +644,25 @@ module _ (network : Project) (sound : Sound network) (S : ℕ) (commanded : List
           subst (λ c. Holds (change_line end c)) (sym same) (record {
             at_end = end-time;
             is_tried = first.first.holds.tried.is_multiple;
-            is_change = subst (λ c. Contains (rule_changes network (values_at network S period end) period.links) c)
+            is_change = subst (λ c. Contains (rule_changes project (values_at project S period end) period.links) c)
                 same
                 (subst (λ cs. Contains cs change)
-                (changes_are network sound S period grid standing row under row.length end refl known) contained);
+                (changes_are project sound S period grid standing row under row.length end refl known) contained);
           })
 
   -- ---- the start
 
-  pub control_lines_hold : start_changes network standing.time (acts_on standing.levels) standing.commanded
-      ≡ start_changes network period.time (acts_at S period.levels) commanded
-      → AllByRecursion Holds (control_lines network standing)
+  pub control_lines_hold : start_changes project standing.time (acts_on standing.levels) standing.commanded
+      ≡ start_changes project period.time (acts_at S period.levels) commanded
+      → AllByRecursion Holds (control_lines project standing)
   control_lines_hold agree =
-      all-mapped Change ReportLine Holds (change_line standing.time) (changes_at network standing)
+      all-mapped Change ReportLine Holds (change_line standing.time) (changes_at project standing)
       (λ change contained. by-source change contained change.source refl
-      (in-all Change (λ c. IsByControl c.source) (changes_at network standing) change
-      (controls-change network standing.time (acts_on standing.levels) 0 network.controls.list
-      (patterned network standing.time standing.commanded)) contained))
+      (in-all Change (λ c. IsByControl c.source) (changes_at project standing) change
+      (controls-change project standing.time (acts_on standing.levels) 0 project.controls.list
+      (patterned project standing.time standing.commanded)) contained))
     where
-      by-source : (change : Change) → Contains (changes_at network standing) change → (s : Source) → change.source ≡ s
+      by-source : (change : Change) → Contains (changes_at project standing) change → (s : Source) → change.source ≡ s
           → IsByControl s → Holds (change_line standing.time change)
       by-source change contained (ByRule rule) is other = absurd other
       by-source change contained (ByControl number) is own =
@@ -672,19 +670,19 @@ module _ (network : Project) (sound : Sound network) (S : ℕ) (commanded : List
           λ i. record { source = is i; link = change.link; to = change.to } in
           subst (λ c. Holds (change_line standing.time c)) (sym same) (record {
             at_start = sym under.time;
-            is_change = subst (λ c. Contains (start_changes network period.time (acts_at S period.levels) commanded) c)
+            is_change = subst (λ c. Contains (start_changes project period.time (acts_at S period.levels) commanded) c)
                 same (subst (λ cs. Contains cs change) agree contained);
           })
 
   -- ---- the end
 
-  end-brings : (events : List Event) (changes : List Change) → EndBrings network grid standing row events changes
+  end-brings : (events : List Event) (changes : List Change) → EndBrings project grid standing row events changes
       → AllByRecursion Holds (map (event_line end) events ++ map (change_line end) changes)
   end-brings _ _ (brings_last e) = tt
   end-brings _ _ (brings_by_rules ends) = all_after ReportLine Holds _ _ event-lines-hold (rule-lines-hold ends)
   end-brings _ _ (brings_by_clock ends) = all_after ReportLine Holds _ _ event-lines-hold tt
 
-  pub end_lines_hold : (lines : List ReportLine) → AreEndLines network grid standing row lines
+  pub end_lines_hold : (lines : List ReportLine) → AreEndLines project grid standing row lines
       → AllByRecursion Holds lines
   end_lines_hold lines are = subst (AllByRecursion Holds) (sym are.lines_are)
       (end-brings are.events are.changes are.brings)

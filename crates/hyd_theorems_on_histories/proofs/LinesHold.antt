@@ -1,7 +1,7 @@
 -- What the lines of a report time say holds of a period whose heads lie between the record's vectors.
 use Rattle.std.proofs.Common.{◌≡◌, ℕ, zero, suc, ◌+◌, ◌<◌, ℤ, pos, ◌+ℤ◌, ◌-ℤ◌, ◌<ℤ◌, List, [], ◌∷◌, ◌++◌, length, map}
 use Rattle.std.proofs.Common.{refl, sym, subst, ◌∙◌, arith}
-use Rattle.std.specs.Prelude.{Option, Some, slice_get}
+use Rattle.std.specs.Prelude.{Some, slice_get}
 use Rattle.std.specs.List.{AllByRecursion}
 use Rattle.std.proofs.lemmas.Int.{ints}
 use Rattle.std.proofs.lemmas.Option.{slice_get-get_or, slice_get_within}
@@ -25,15 +25,13 @@ use Rattle.hyd_spec_reports.specs.Report.{Prints, LineEach, IsJunctionLine, IsRe
 use Rattle.hyd_spec_reports.specs.Report.{AreStateLines}
 use Rattle.hyd_spec_reports.specs.Claims.{LineHolds, FlowLies}
 use Rattle.hyd_theorems_on_definitions.specs.TermsOfTheorems.{LiesIn, IsCompared}
+use Rattle.hyd_lemmas.proofs.ListsAndOptions.{same_item}
 use Rattle.hyd_theorems_on_definitions.proofs.Comparison.{below_main, above_main, place_at}
 use Rattle.hyd_theorems_on_definitions.proofs.Boxed.{heads_between, flow_lies, outflow_lies}
 use Rattle.hyd_theorems_on_histories.proofs.PrintedValues.{prints_hold, head_proportional, pressure_proportional}
 use Rattle.hyd_theorems_on_histories.proofs.PrintedValues.{flow_proportional}
 
 -- ---- lists
-
-same_item : (X : Type 0) (x y : X) → ◌≡◌ {A = Option X} (Some x) (Some y) → x ≡ y
-same_item X x y e = cc
 
 pub record IsMapped (X Y : Type 0) (f : X → Y) (xs : List X) (k : ℕ) (y : Y) : Type 0 where
   pub item : X
@@ -93,34 +91,34 @@ exactly_lies S t = record { low = omega (arith, ints); high = omega (arith, ints
 
 -- A period on a grid, with levels in the standing's intervals, and a record whose vectors with all tanks alike are
 -- certificates.
-pub record IsCovered (network : Project) (S : ℕ) (period : Period) (grid : Grid) (standing : Standing)
+pub record IsCovered (project : Project) (S : ℕ) (period : Period) (grid : Grid) (standing : Standing)
     (row : Record) : Type 0 where
-  pub compared : IsCompared network S period.time standing.levels period.levels period.tanks period.links
+  pub compared : IsCompared project S period.time standing.levels period.levels period.tanks period.links
       period.assignment grid
   pub lower : IsCertificate grid Main Lower row.main.lower
   pub upper : IsCertificate grid Main Upper row.main.upper
 
-module _ (network : Project) (S : ℕ) (commanded : List LinkState) (period : Period) (grid : Grid) (standing : Standing)
+module _ (project : Project) (S : ℕ) (commanded : List LinkState) (period : Period) (grid : Grid) (standing : Standing)
     (row : Record)
-    (covered : IsCovered network S period grid standing row) where
+    (covered : IsCovered project S period grid standing row) where
   pub junction_holds : (j : ℕ) (here : GridJunction) (each : ReportLine) → slice_get grid.junctions j ≡ Some here
-      → IsJunctionLine network grid row j here each → LineHolds network S commanded period each
+      → IsJunctionLine project grid row j here each → LineHolds project S commanded period each
   junction_holds j here each at line =
       let c = covered.compared in
-      let place = place_at (IsJunctionOf network period.time) network.junctions.list grid.junctions c.is_grid.junctions
+      let place = place_at (IsJunctionOf project period.time) project.junctions.list grid.junctions c.is_grid.junctions
       j (slice_get_within grid.junctions j here at) in
       let same : place.here ≡ here = same_item GridJunction place.here here (sym place.is_here ∙ at) in
-      let is : IsJunctionOf network period.time place.junction here =
-      subst (IsJunctionOf network period.time place.junction) same place.holds in
-      let within = slice_get_within network.junctions.list j place.junction place.is_junction in
+      let is : IsJunctionOf project period.time place.junction here =
+      subst (IsJunctionOf project period.time place.junction) same place.holds in
+      let within = slice_get_within project.junctions.list j place.junction place.is_junction in
       let inside : j < length period.assignment.heads = (let e = c.assigned.head_each in omega (arith, within, e)) in
       let found = slice_get-get_or period.assignment.heads j (pos 0) inside in
       let h = head_at period.assignment.heads j in
       let below : at_scale S (head_at row.main.lower j) <ℤ h =
-      above_main network S period.time standing.levels period.levels period.tanks period.links period.assignment grid
+      above_main project S period.time standing.levels period.levels period.tanks period.links period.assignment grid
       row.main.lower c covered.lower j h found in
       let above : h <ℤ at_scale S (head_at row.main.upper j) =
-      below_main network S period.time standing.levels period.levels period.tanks period.links period.assignment grid
+      below_main project S period.time standing.levels period.levels period.tanks period.links period.assignment grid
       row.main.upper c covered.upper j h found in
       let head : LiesIn S line.heads h =
       subst (λ (x : Interval). LiesIn S x h) (sym line.heads_are) (record {
@@ -131,69 +129,69 @@ module _ (network : Project) (S : ℕ) (commanded : List LinkState) (period : Pe
       let q = flow_at period.assignment.demands j +ℤ flow_at period.assignment.emitters j in
       let outflow : LiesIn S (out_box here line.heads.lo line.heads.hi) q =
       subst (λ (x : Interval). LiesIn S (out_box here x.lo x.hi) q) (sym line.heads_are)
-      (outflow_lies network S period.time standing.levels period.levels period.tanks period.links period.assignment grid
+      (outflow_lies project S period.time standing.levels period.levels period.tanks period.links period.assignment grid
       row.main.lower row.main.upper c covered.lower covered.upper j here at) in
-      subst (LineHolds network S commanded period) (sym line.is_line) (record {
+      subst (LineHolds project S commanded period) (sym line.is_line) (record {
         junction = place.junction;
         is_junction = place.is_junction;
-        head_lies = prints_hold S (head_quantity (is_us network)) (head_proportional (is_us network))
+        head_lies = prints_hold S (head_quantity (is_us project)) (head_proportional (is_us project))
             line.heads line.head h line.head_is head;
-        pressure_lies = prints_hold S (pressure_quantity (is_us network)) (pressure_proportional (is_us network))
+        pressure_lies = prints_hold S (pressure_quantity (is_us project)) (pressure_proportional (is_us project))
             _ line.pressure
             (h -ℤ at_scale S place.junction.elevation) line.pressure_is
             (lowered S line.heads here.elevation place.junction.elevation h is.elevation head);
-        outflow_lies = prints_hold S (flow_quantity network.options.unit) (flow_proportional network.options.unit)
+        outflow_lies = prints_hold S (flow_quantity project.options.unit) (flow_proportional project.options.unit)
             _ line.outflow q line.outflow_is outflow;
       })
 
   pub reservoir_holds : (r : ℕ) (height : ℤ) (each : ReportLine) → slice_get grid.reservoirs r ≡ Some height
-      → IsReservoirLine network r height each → LineHolds network S commanded period each
+      → IsReservoirLine project r height each → LineHolds project S commanded period each
   reservoir_holds r height each at line =
-      let listed : slice_get (map (reservoir_head network period.time) network.reservoirs.list) r ≡ Some height =
+      let listed : slice_get (map (reservoir_head project period.time) project.reservoirs.list) r ≡ Some height =
       subst (λ (hs : List ℤ). slice_get hs r ≡ Some height) covered.compared.is_grid.reservoirs at in
-      let found = mapped_at Reservoir ℤ (reservoir_head network period.time) network.reservoirs.list r height listed in
-      subst (LineHolds network S commanded period) (sym line.is_line) (record {
+      let found = mapped_at Reservoir ℤ (reservoir_head project period.time) project.reservoirs.list r height listed in
+      subst (LineHolds project S commanded period) (sym line.is_line) (record {
         reservoir = found.item;
         is_reservoir = found.is_item;
-        head_lies = prints_hold S (head_quantity (is_us network)) (head_proportional (is_us network))
+        head_lies = prints_hold S (head_quantity (is_us project)) (head_proportional (is_us project))
             (exactly height) line.head
-            (at_scale S (reservoir_head network period.time found.item)) line.head_is
+            (at_scale S (reservoir_head project period.time found.item)) line.head_is
             (subst (λ (t : ℤ). LiesIn S (exactly height) (at_scale S t)) (sym found.same) (exactly_lies S height));
       })
 
   -- the flow of a link's line
   pub flow_holds : (l : ℕ) (box flow : Interval) → slice_get (flow_boxes grid row) l ≡ Some box
-      → Prints (flow_quantity network.options.unit) box flow
-      → FlowLies network S flow (flow_at period.assignment.flows l)
+      → Prints (flow_quantity project.options.unit) box flow
+      → FlowLies project S flow (flow_at period.assignment.flows l)
   flow_holds l box flow at prints =
       let c = covered.compared in
       let found = mapped_at GridLink Interval (λ (link : GridLink). flow_box link (heads_below grid row)
       (heads_above grid row)) grid.links l box at in
-      let between = heads_between network S period.time standing.levels period.levels period.tanks period.links
+      let between = heads_between project S period.time standing.levels period.levels period.tanks period.links
       period.assignment grid row.main.lower row.main.upper c covered.lower covered.upper in
-      let lies = flow_lies network S period.time standing.levels period.levels period.tanks period.links
+      let lies = flow_lies project S period.time standing.levels period.levels period.tanks period.links
       period.assignment grid (heads_below grid row) (heads_above grid row) c between l found.item found.is_item in
-      prints_hold S (flow_quantity network.options.unit) (flow_proportional network.options.unit) box flow
+      prints_hold S (flow_quantity project.options.unit) (flow_proportional project.options.unit) box flow
       (flow_at period.assignment.flows l) prints
       (subst (λ (x : Interval). LiesIn S x (flow_at period.assignment.flows l)) found.same lies)
 
   -- all lines of a report time hold where those of tanks and of links do
-  pub state_lines_hold : (lines : List ReportLine) → AreStateLines network grid standing row lines
+  pub state_lines_hold : (lines : List ReportLine) → AreStateLines project grid standing row lines
       → period.time ≡ standing.time
-      → ((k : ℕ) (tank : Tank) (each : ReportLine) → slice_get network.tanks.list k ≡ Some tank
-      → IsTankLine network grid standing row k tank each → LineHolds network S commanded period each)
-      → ((l : ℕ) (link : Link) (each : ReportLine) → slice_get network.links.list l ≡ Some link
-      → IsLinkLine network grid standing row l link each → LineHolds network S commanded period each)
-      → AllByRecursion (LineHolds network S commanded period) lines
+      → ((k : ℕ) (tank : Tank) (each : ReportLine) → slice_get project.tanks.list k ≡ Some tank
+      → IsTankLine project grid standing row k tank each → LineHolds project S commanded period each)
+      → ((l : ℕ) (link : Link) (each : ReportLine) → slice_get project.links.list l ≡ Some link
+      → IsLinkLine project grid standing row l link each → LineHolds project S commanded period each)
+      → AllByRecursion (LineHolds project S commanded period) lines
   state_lines_hold lines are time tank_holds link_holds =
-      let Q : ReportLine → Type 0 = LineHolds network S commanded period in
-      let junctions = every_line GridJunction (IsJunctionLine network grid row)
+      let Q : ReportLine → Type 0 = LineHolds project S commanded period in
+      let junctions = every_line GridJunction (IsJunctionLine project grid row)
       Q grid.junctions are.junctions are.junctions_are junction_holds in
-      let reservoirs = every_line ℤ (IsReservoirLine network) Q grid.reservoirs are.reservoirs are.reservoirs_are
+      let reservoirs = every_line ℤ (IsReservoirLine project) Q grid.reservoirs are.reservoirs are.reservoirs_are
       reservoir_holds in
-      let tanks = every_line Tank (IsTankLine network grid standing row) Q network.tanks.list are.tanks are.tanks_are
+      let tanks = every_line Tank (IsTankLine project grid standing row) Q project.tanks.list are.tanks are.tanks_are
       tank_holds in
-      let links = every_line Link (IsLinkLine network grid standing row) Q network.links.list are.links are.links_are
+      let links = every_line Link (IsLinkLine project grid standing row) Q project.links.list are.links are.links_are
       link_holds in
       subst (AllByRecursion Q) (sym are.lines_are) (
         time,

@@ -6,7 +6,7 @@ use Rattle.std.specs.Int.{int_max}
 use Rattle.std.proofs.lemmas.Int.{ints}
 use Rattle.std.proofs.lemmas.Bool.{cond_both}
 use Rattle.std.proofs.lemmas.Option.{slice_get-get_or, slice_get_within}
-use Rattle.hyd_num.proofs.Integers.{times_neg, times_rises, times_times}
+use Rattle.hyd_num.proofs.Integers.{times_neg, times_rises, times_times, one_times}
 use Rattle.hyd_num.specs.Rational.{Rational, whole}
 use Rattle.hyd_spec.specs.ProgramTypes.{Project, Link, LinkState, Tank}
 use Rattle.hyd_spec.specs.declared.TankState.{TankState}
@@ -26,9 +26,8 @@ use Rattle.hyd_spec_certificates.specs.Decided.{level_of_tank, stocks_of_tank, i
 use Rattle.hyd_spec_certificates.specs.Decided.{greatest_magnitude, readings_below, readings_above, heads_below}
 use Rattle.hyd_spec_certificates.specs.Decided.{heads_above}
 use Rattle.hyd_theorems_on_definitions.specs.TermsOfTheorems.{LiesIn, LiesAround, StockLies}
-use Rattle.hyd_lemmas.proofs.Integers.{max_left, max_right}
-use Rattle.hyd_theorems_on_definitions.proofs.Outflows.{le-yes}
-use Rattle.hyd_theorems_on_definitions.proofs.Leading.{one_times}
+use Rattle.hyd_lemmas.proofs.Integers.{max_left, max_right, abs_above}
+use Rattle.hyd_lemmas.proofs.Trials.{le-yes}
 use Rattle.hyd_theorems_on_definitions.proofs.Boxed.{heads_between, flow_lies}
 use Rattle.hyd_theorems_on_definitions.proofs.Pinning.{inflow_lies}
 use Rattle.hyd_theorems_on_definitions.proofs.Levelling.{carried_lies}
@@ -46,10 +45,6 @@ abs-negative (pos zero) le = refl
 abs-negative (pos (suc n)) le = absurd (omega (arith, ints, le))
 abs-negative (negsuc n) le = refl
 
-abs-above : (z : ℤ) → z ≤ℤ pos (unsigned_abs z)
-abs-above (pos n) = omega (arith, ints)
-abs-above (negsuc n) = omega (arith, ints)
-
 abs-below : (z : ℤ) → neg_ℤ z ≤ℤ pos (unsigned_abs z)
 abs-below (pos n) = omega (arith, ints)
 abs-below (negsuc n) = omega (arith, ints)
@@ -61,7 +56,7 @@ abs-within (negsuc n) m a b = b
 pub least-within : (S : ℕ) (box : Interval) (q : ℤ) → LiesIn S box q
     → (pos S *ℤ pos (least_magnitude box)) ≤ℤ pos (unsigned_abs q)
 least-within S box q lies =
-    let l = lies.low in let h = lies.high in let a = abs-above q in let b = abs-below q in
+    let l = lies.low in let h = lies.high in let a = abs_above q in let b = abs-below q in
     cond_both (int_le (pos 0) box.lo) (unsigned_abs box.lo) (if int_le box.hi (pos 0) then unsigned_abs box.hi else 0)
     (λ m. (pos S *ℤ pos m) ≤ℤ pos (unsigned_abs q))
     (λ e. let same : pos S *ℤ pos (unsigned_abs box.lo) ≡ pos S *ℤ box.lo =
@@ -78,11 +73,11 @@ greatest-beyond S box q lies =
     let l = lies.low in let h = lies.high in
     let m = int_max box.hi (neg_ℤ box.lo) in
     let up : (pos S *ℤ box.hi) ≤ℤ (pos S *ℤ pos (unsigned_abs m)) =
-    times_rises S box.hi (pos (unsigned_abs m)) (let a = max_left box.hi (neg_ℤ box.lo) in let b = abs-above m in
+    times_rises S box.hi (pos (unsigned_abs m)) (let a = max_left box.hi (neg_ℤ box.lo) in let b = abs_above m in
     omega (arith, ints, a, b)) in
     let down : (pos S *ℤ neg_ℤ box.lo) ≤ℤ (pos S *ℤ pos (unsigned_abs m)) =
     times_rises S (neg_ℤ box.lo) (pos (unsigned_abs m)) (let a = max_right box.hi (neg_ℤ box.lo) in
-    let b = abs-above m in omega (arith, ints, a, b)) in
+    let b = abs_above m in omega (arith, ints, a, b)) in
     abs-within q (pos S *ℤ pos (unsigned_abs m)) (omega (arith, ints, h, up))
     (omega (arith, ints, l, down, times_neg S box.lo))
 
@@ -110,17 +105,17 @@ flows-high S box (link ∷ links) (q ∷ flows) same lie zero = let w = greatest
 flows-high S box (link ∷ links) (q ∷ flows) same lie (suc l) = flows-high S box links flows (omega (arith, same))
     (λ m other is. lie (suc m) other is) l
 
-pub followed-lengths : (network : Project) (tanks : List TankState) (S : ℕ) (heads : List ℤ) (links : List Link)
+pub followed-lengths : (project : Project) (tanks : List TankState) (S : ℕ) (heads : List ℤ) (links : List Link)
     (states : List LinkState) (flows : List ℤ)
-    → LinksFollow network tanks S heads links states flows → length (grid_links network tanks links states)
+    → LinksFollow project tanks S heads links states flows → length (grid_links project tanks links states)
     ≡ length flows
-followed-lengths network tanks S heads [] [] [] f = refl
-followed-lengths network tanks S heads [] [] (q ∷ flows) f = elim f [ ]
-followed-lengths network tanks S heads [] (state ∷ states) flows f = elim f [ ]
-followed-lengths network tanks S heads (link ∷ links) [] flows f = elim f [ ]
-followed-lengths network tanks S heads (link ∷ links) (state ∷ states) [] f = elim f [ ]
-followed-lengths network tanks S heads (link ∷ links) (state ∷ states) (q ∷ flows) (more follows rest) =
-    let r = followed-lengths network tanks S heads links states flows rest in omega (arith, r)
+followed-lengths project tanks S heads [] [] [] f = refl
+followed-lengths project tanks S heads [] [] (q ∷ flows) f = elim f [ ]
+followed-lengths project tanks S heads [] (state ∷ states) flows f = elim f [ ]
+followed-lengths project tanks S heads (link ∷ links) [] flows f = elim f [ ]
+followed-lengths project tanks S heads (link ∷ links) (state ∷ states) [] f = elim f [ ]
+followed-lengths project tanks S heads (link ∷ links) (state ∷ states) (q ∷ flows) (more follows rest) =
+    let r = followed-lengths project tanks S heads links states flows rest in omega (arith, r)
 
 -- ---- levels
 
@@ -159,67 +154,67 @@ levels-between S f g from (tank ∷ tanks) lie (suc k) =
 
 -- ---- a period under a record
 
-module _ (network : Project) (S : ℕ) (period : Period) (grid : Grid) (standing : Standing) (row : Record)
-    (under : IsUnder network S period grid standing row) where
+module _ (project : Project) (S : ℕ) (period : Period) (grid : Grid) (standing : Standing) (row : Record)
+    (under : IsUnder project S period grid standing row) where
   pub level_lies : (k : ℕ) → LiesIn S (level_of_tank standing k) (level_at_start period k)
   level_lies k = lies_at S standing.levels period.levels k under.compared.lie
 
   pub stock_lies : (k : ℕ) → StockLies S (stocks_of_tank standing k) (stock_at_start period k)
   stock_lies k = record { level = level_lies k; volume = lies_at S standing.volumes period.volumes k under.volumes }
 
-  pub inflow_within : (k : ℕ) (tank : Tank) → slice_get network.tanks.list k ≡ Some tank
-      → LiesIn S (inflow_of_tank network grid row k) (tank_inflow network k period.assignment.flows)
+  pub inflow_within : (k : ℕ) (tank : Tank) → slice_get project.tanks.list k ≡ Some tank
+      → LiesIn S (inflow_of_tank project grid row k) (tank_inflow project k period.assignment.flows)
   inflow_within k tank at =
-      let inside : k < length row.pinned = (let a = slice_get_within network.tanks.list k tank at in
+      let inside : k < length row.pinned = (let a = slice_get_within project.tanks.list k tank at in
       let b = under.certificates.pinned_each in omega (arith, a, b)) in
       let vectors : Vectors = slice_index_or row.pinned k no_vectors in
-      let e : inflow_of_tank network grid row k ≡ inflow_box grid k (tank_node network k) vectors.lower vectors.upper =
-      numbered_from_start Vectors Interval (λ n v. inflow_box grid n (tank_node network n) v.lower v.upper)
+      let e : inflow_of_tank project grid row k ≡ inflow_box grid k (tank_node project k) vectors.lower vectors.upper =
+      numbered_from_start Vectors Interval (λ n v. inflow_box grid n (tank_node project n) v.lower v.upper)
       row.pinned k vectors nowhere (slice_get-get_or row.pinned k no_vectors inside) in
-      let problem : k < tank_count network = slice_get_within network.tanks.list k tank at in
-      subst (λ (x : Interval). LiesIn S x (tank_inflow network k period.assignment.flows)) (sym e)
-      (inflow_lies network S period.time standing.levels period.levels period.tanks period.links period.assignment grid
+      let problem : k < tank_count project = slice_get_within project.tanks.list k tank at in
+      subst (λ (x : Interval). LiesIn S x (tank_inflow project k period.assignment.flows)) (sym e)
+      (inflow_lies project S period.time standing.levels period.levels period.tanks period.links period.assignment grid
       k vectors.lower vectors.upper under.compared
       (under.certificates.each (Pinned k) Lower problem) (under.certificates.each (Pinned k) Upper problem))
 
-  pub carried_within : (seconds k : ℕ) (tank : Tank) → slice_get network.tanks.list k ≡ Some tank
-      → LiesAround S (carried_levels (walls_of network tank) tank (stocks_of_tank standing k)
-      (inflow_of_tank network grid row k) seconds)
-      (carried_level S (walls_of network tank) tank (stock_at_start period k)
-      (tank_inflow network k period.assignment.flows) seconds)
+  pub carried_within : (seconds k : ℕ) (tank : Tank) → slice_get project.tanks.list k ≡ Some tank
+      → LiesAround S (carried_levels (walls_of project tank) tank (stocks_of_tank standing k)
+      (inflow_of_tank project grid row k) seconds)
+      (carried_level S (walls_of project tank) tank (stock_at_start period k)
+      (tank_inflow project k period.assignment.flows) seconds)
   carried_within seconds k tank at =
-      carried_lies S (walls_of network tank) (stocks_of_tank standing k) (inflow_of_tank network grid row k) seconds
-      (stock_at_start period k) (tank_inflow network k period.assignment.flows)
+      carried_lies S (walls_of project tank) (stocks_of_tank standing k) (inflow_of_tank project grid row k) seconds
+      (stock_at_start period k) (tank_inflow project k period.assignment.flows)
       (stock_lies k) (inflow_within k tank at) tank under.compared.some (under.vessels k tank at)
 
   flow_within : (l : ℕ) (link : GridLink) → slice_get grid.links l ≡ Some link
       → LiesIn S (flow_box link (heads_below grid row) (heads_above grid row)) (flow_at period.assignment.flows l)
   flow_within l link at =
-      flow_lies network S period.time standing.levels period.levels period.tanks period.links period.assignment grid
+      flow_lies project S period.time standing.levels period.levels period.tanks period.links period.assignment grid
       (heads_below grid row) (heads_above grid row) under.compared
-      (heads_between network S period.time standing.levels period.levels period.tanks period.links period.assignment
+      (heads_between project S period.time standing.levels period.levels period.tanks period.links period.assignment
       grid row.main.lower row.main.upper under.compared
       (under.certificates.each Main Lower tt) (under.certificates.each Main Upper tt)) l link at
 
   flow_each : length grid.links ≡ length period.assignment.flows
   flow_each = ap length under.compared.is_grid.links_are
-      ∙ followed-lengths network period.tanks S _ network.links.list period.links period.assignment.flows
+      ∙ followed-lengths project period.tanks S _ project.links.list period.links period.assignment.flows
       under.compared.assigned.links_follow
 
-  pub readings_between : (seconds : ℕ) → AreBetween network S (readings_below network grid standing row seconds)
-      (readings_after network S period seconds) (readings_above network grid standing row seconds)
+  pub readings_between : (seconds : ℕ) → AreBetween project S (readings_below project grid standing row seconds)
+      (readings_after project S period seconds) (readings_above project grid standing row seconds)
   readings_between seconds = record {
-    heads = λ m before. heads_between network S period.time standing.levels period.levels period.tanks period.links
+    heads = λ m before. heads_between project S period.time standing.levels period.levels period.tanks period.links
         period.assignment grid row.main.lower row.main.upper under.compared
         (under.certificates.each Main Lower tt) (under.certificates.each Main Upper tt) m;
-    levels = levels-between S (λ k tank. carried_levels (walls_of network tank) tank (stocks_of_tank standing k)
-        (inflow_of_tank network grid row k) seconds)
-        (λ k tank. carried_level S (walls_of network tank) tank (stock_at_start period k)
-        (tank_inflow network k period.assignment.flows) seconds) 0 network.tanks.list
+    levels = levels-between S (λ k tank. carried_levels (walls_of project tank) tank (stocks_of_tank standing k)
+        (inflow_of_tank project grid row k) seconds)
+        (λ k tank. carried_level S (walls_of project tank) tank (stock_at_start period k)
+        (tank_inflow project k period.assignment.flows) seconds) 0 project.tanks.list
         (λ k tank at. let n : k ≡ 0 + k = omega arith in
-        subst (λ (m : ℕ). LiesAround S (carried_levels (walls_of network tank) tank (stocks_of_tank standing m)
-        (inflow_of_tank network grid row m) seconds) (carried_level S (walls_of network tank) tank
-        (stock_at_start period m) (tank_inflow network m period.assignment.flows) seconds)) n
+        subst (λ (m : ℕ). LiesAround S (carried_levels (walls_of project tank) tank (stocks_of_tank standing m)
+        (inflow_of_tank project grid row m) seconds) (carried_level S (walls_of project tank) tank
+        (stock_at_start period m) (tank_inflow project m period.assignment.flows) seconds)) n
         (carried_within seconds k tank at));
     flows_below = flows-low S (λ link. flow_box link (heads_below grid row) (heads_above grid row))
         grid.links period.assignment.flows flow_each flow_within;

@@ -1,14 +1,12 @@
 -- Lists by place.
 use Rattle.std.proofs.Common.{◌≡◌, ℕ, zero, suc, ◌+◌, ℤ, pos, ap, ◌∙◌, arith, List, [], ◌∷◌}
-use Rattle.std.specs.Prelude.{Option, Some, slice_get, slice_index_or}
+use Rattle.std.specs.Prelude.{Some, slice_get, slice_index_or}
 use Rattle.std.proofs.lemmas.Int.{ints}
 use Rattle.hyd_spec.specs.Lists.{map_from}
 use Rattle.hyd_spec_certificates.specs.Interval.{Interval}
 use Rattle.hyd_spec_certificates.specs.Decided.{nowhere}
 use Rattle.hyd_theorems_on_definitions.specs.TermsOfTheorems.{LiesIn, LevelsLie}
-
-pub same_item : (X : Type 0) (x y : X) → ◌≡◌ {A = Option X} (Some x) (Some y) → x ≡ y
-same_item X x y e = cc
+use Rattle.hyd_lemmas.proofs.ListsAndOptions.{same_item}
 
 -- an item of a list that f made of the items and their numbers
 pub numbered_at : (X Y : Type 0) (f : ℕ → X → Y) (from : ℕ) (xs : List X) (k : ℕ) (x : X) (d : Y)

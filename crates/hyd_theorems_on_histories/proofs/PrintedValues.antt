@@ -2,7 +2,7 @@
 use Rattle.std.proofs.Common.{◌≡◌, ℕ, ◌*◌, ◌^◌, ℤ, pos, ◌*ℤ◌, ◌≤ℤ◌, Bool, true, false, refl, sym, ap, ◌∙◌, arith}
 use Rattle.std.proofs.Math.IntN.{*ℤ_comm}
 use Rattle.std.proofs.lemmas.Int.{ints}
-use Rattle.hyd_num.proofs.Integers.{times_rises, times_times}
+use Rattle.hyd_num.proofs.Integers.{times_rises, times_times, one_times}
 use Rattle.hyd_num.specs.Rational.{Rational}
 use Rattle.hyd_num.specs.FileQuantity.{flow_factor}
 use Rattle.hyd_num.specs.PrintedDecimals.{head_quantity, pressure_quantity, flow_quantity}
@@ -11,8 +11,7 @@ use Rattle.hyd_spec_certificates.specs.Interval.{Interval}
 use Rattle.hyd_spec_reports.specs.Report.{Prints}
 use Rattle.hyd_spec_reports.specs.Claims.{LiesBetween, at_part}
 use Rattle.hyd_theorems_on_definitions.specs.TermsOfTheorems.{LiesIn}
-use Rattle.hyd_theorems_on_definitions.proofs.Leading.{one_times}
-use Rattle.hyd_theorems_on_definitions.proofs.Placing.{le-from}
+use Rattle.hyd_lemmas.proofs.Trials.{le-from}
 
 -- ---- products of two scales
 

@@ -3,7 +3,7 @@ use Rattle.std.proofs.Common.{◌≡◌, ℕ, ◌<◌, ℤ, pos, ◌-ℤ◌, ◌
 use Rattle.std.proofs.Common.{true, false, ◌&&◌}
 use Rattle.std.specs.Prelude.{if◌then◌else◌}
 use Rattle.std.proofs.lemmas.Int.{ints}
-use Rattle.hyd_num.proofs.Integers.{times_rises}
+use Rattle.hyd_num.proofs.Integers.{times_rises, one_times}
 use Rattle.hyd_num.specs.Rational.{Rational, floor, ceiling}
 use Rattle.hyd_net.specs.Curves.{volume_at}
 use Rattle.hyd_spec.specs.ProgramTypes.{Tank}
@@ -14,8 +14,8 @@ use Rattle.hyd_spec_certificates.specs.Interval.{Interval}
 use Rattle.hyd_spec_certificates.specs.Stocks.{Stocks, least_stock, greatest_stock, carried_levels, must_reach}
 use Rattle.hyd_theorems_on_definitions.specs.TermsOfTheorems.{LiesIn, StockLies, IsVessel}
 use Rattle.hyd_lemmas.proofs.Integers.{floor_low, ceiling_high, max_is, min_is}
-use Rattle.hyd_theorems_on_definitions.proofs.Placing.{le-from, above-from, below-from, lower-is, upper-is}
-use Rattle.hyd_theorems_on_definitions.proofs.Leading.{one_times}
+use Rattle.hyd_lemmas.proofs.Trials.{le-from}
+use Rattle.hyd_theorems_on_definitions.proofs.Placing.{above-from, below-from, lower-is, upper-is}
 use Rattle.hyd_theorems_on_definitions.proofs.Levelling.{exact-some, carried_lies}
 use Rattle.hyd_theorems_on_definitions.proofs.Deciding.{must_reached}
 

@@ -21,9 +21,9 @@ use Rattle.hyd_spec_certificates.specs.Decided.{Watch, tank_watches, watch_of, w
 use Rattle.hyd_spec_certificates.specs.Decided.{level_of_tank, stocks_of_tank, inflow_of_tank, SomeMayReach}
 use Rattle.hyd_spec_certificates.specs.Decided.{SomeMustReach}
 use Rattle.hyd_theorems_on_definitions.specs.TermsOfTheorems.{Tells}
+use Rattle.hyd_lemmas.proofs.ListsAndOptions.{same_item}
 use Rattle.hyd_theorems_on_definitions.proofs.Deciding.{control_tells, reached_may, must_reached}
 use Rattle.hyd_theorems_on_histories.specs.Agreement.{IsUnder}
-use Rattle.hyd_theorems_on_histories.proofs.Places.{same_item}
 use Rattle.hyd_theorems_on_histories.proofs.Looks.{level_lies, stock_lies, inflow_within}
 use Rattle.hyd_theorems_on_histories.proofs.Reaching.{reaches_maximum, reaches_minimum}
 
@@ -289,12 +289,12 @@ known-no Unknown b tells known e = absurd (cc)
 
 -- ---- a period under a record
 
-module _ (network : Project) (S : ℕ) (period : Period) (grid : Grid) (standing : Standing) (row : Record)
-    (under : IsUnder network S period grid standing row) where
-  state-there : (k : ℕ) (tank : Tank) → slice_get network.tanks.list k ≡ Some tank
+module _ (project : Project) (S : ℕ) (period : Period) (grid : Grid) (standing : Standing) (row : Record)
+    (under : IsUnder project S period grid standing row) where
+  state-there : (k : ℕ) (tank : Tank) → slice_get project.tanks.list k ≡ Some tank
       → (state : TankState) × (slice_get period.tanks k ≡ Some state) × (slice_get standing.tanks k ≡ Some state)
   state-there k tank at =
-      let inside : k < length period.tanks = (let a = slice_get_within network.tanks.list k tank at in
+      let inside : k < length period.tanks = (let a = slice_get_within project.tanks.list k tank at in
       let b = under.compared.assigned.tank_each in omega (arith, a, b)) in
       let found = slice_get-get_or period.tanks k Between inside in (
         slice_index_or period.tanks k Between,
@@ -308,132 +308,132 @@ module _ (network : Project) (S : ℕ) (period : Period) (grid : Grid) (standing
   from-zero k t rising = at-number (0 + k) k t rising (omega arith)
 
   may-reach-level : (seconds k : ℕ) (tank : Tank) (target : ℤ) (rising : Bool)
-      → slice_get network.tanks.list k ≡ Some tank
-      → reached_after network S period k tank rising target seconds ≡ true
-      → may_reach (walls_of network tank) tank (stocks_of_tank standing k) (inflow_of_tank network grid row k)
+      → slice_get project.tanks.list k ≡ Some tank
+      → reached_after project S period k tank rising target seconds ≡ true
+      → may_reach (walls_of project tank) tank (stocks_of_tank standing k) (inflow_of_tank project grid row k)
       target rising seconds ≡ true
   may-reach-level seconds k tank target rising at reached =
-      reached_may S (walls_of network tank) tank (stocks_of_tank standing k) (inflow_of_tank network grid row k)
-      target rising seconds (stock_at_start period k) (tank_inflow network k period.assignment.flows)
-      under.compared.some (under.vessels k tank at) (stock_lies network S period grid standing row under k)
-      (inflow_within network S period grid standing row under k tank at) reached
+      reached_may S (walls_of project tank) tank (stocks_of_tank standing k) (inflow_of_tank project grid row k)
+      target rising seconds (stock_at_start period k) (tank_inflow project k period.assignment.flows)
+      under.compared.some (under.vessels k tank at) (stock_lies project S period grid standing row under k)
+      (inflow_within project S period grid standing row under k tank at) reached
 
   -- a level that ends the period may be seen to
-  pub level_may : (seconds : ℕ) → EndsByLevel network S period seconds → SomeMayReach network grid standing row seconds
+  pub level_may : (seconds : ℕ) → EndsByLevel project S period seconds → SomeMayReach project grid standing row seconds
   level_may seconds (full k tank at other reached) =
       let s = state-there k tank at in
       record {
         watch = record { tank = k; target = tank.maximum; rising = true };
-        is_watched = subst (λ w. Contains (watches network standing) w) (from-zero k tank.maximum true)
-            (contains-left Watch _ (tank_watches 0 network.tanks.list standing.tanks) _
-            (watches-maximum 0 network.tanks.list standing.tanks k tank s.0 at s.2
+        is_watched = subst (λ w. Contains (watches project standing) w) (from-zero k tank.maximum true)
+            (contains-left Watch _ (tank_watches 0 project.tanks.list standing.tanks) _
+            (watches-maximum 0 project.tanks.list standing.tanks k tank s.0 at s.2
             (not-full s.0 (λ e. other (s.1 ∙ e)))));
         tank = tank;
         is_tank = at;
         reached = may-reach-level seconds k tank tank.maximum true at
-            (reaches_maximum S (walls_of network tank) tank (stock_at_start period k)
-            (tank_inflow network k period.assignment.flows) seconds ∙ reached);
+            (reaches_maximum S (walls_of project tank) tank (stock_at_start period k)
+            (tank_inflow project k period.assignment.flows) seconds ∙ reached);
       }
   level_may seconds (empty k tank at other reached) =
       let s = state-there k tank at in
       record {
         watch = record { tank = k; target = tank.minimum; rising = false };
-        is_watched = subst (λ w. Contains (watches network standing) w) (from-zero k tank.minimum false)
-            (contains-left Watch _ (tank_watches 0 network.tanks.list standing.tanks) _
-            (watches-minimum 0 network.tanks.list standing.tanks k tank s.0 at s.2
+        is_watched = subst (λ w. Contains (watches project standing) w) (from-zero k tank.minimum false)
+            (contains-left Watch _ (tank_watches 0 project.tanks.list standing.tanks) _
+            (watches-minimum 0 project.tanks.list standing.tanks k tank s.0 at s.2
             (not-empty s.0 (λ e. other (s.1 ∙ e)))));
         tank = tank;
         is_tank = at;
         reached = may-reach-level seconds k tank tank.minimum false at
-            (reaches_minimum S (walls_of network tank) tank (stock_at_start period k)
-            (tank_inflow network k period.assignment.flows) seconds ∙ reached);
+            (reaches_minimum S (walls_of project tank) tank (stock_at_start period k)
+            (tank_inflow project k period.assignment.flows) seconds ∙ reached);
       }
   level_may seconds (at_control each k above ticks tank contained is at before reached) =
       record {
         watch = record { tank = k; target = ticks; rising = above };
-        is_watched = contains-right Watch _ (tank_watches 0 network.tanks.list standing.tanks) _
-            (watches-control standing.levels network.controls.list each k above ticks contained is
+        is_watched = contains-right Watch _ (tank_watches 0 project.tanks.list standing.tanks) _
+            (watches-control standing.levels project.controls.list each k above ticks contained is
             (not-yes (control_truth (level_of_tank standing k) above ticks)
             (reaches S above ticks (whole (level_at_start period k)))
             (control_tells S (level_of_tank standing k) above ticks (level_at_start period k) under.compared.some
-            (level_lies network S period grid standing row under k)) before));
+            (level_lies project S period grid standing row under k)) before));
         tank = tank;
         is_tank = at;
         reached = may-reach-level seconds k tank ticks above at reached;
       }
 
   must-reach-level : (seconds k : ℕ) (tank : Tank) (target : ℤ) (rising : Bool)
-      → slice_get network.tanks.list k ≡ Some tank
-      → must_reach (walls_of network tank) tank (stocks_of_tank standing k) (inflow_of_tank network grid row k)
+      → slice_get project.tanks.list k ≡ Some tank
+      → must_reach (walls_of project tank) tank (stocks_of_tank standing k) (inflow_of_tank project grid row k)
       target rising seconds ≡ true
-      → reached_after network S period k tank rising target seconds ≡ true
+      → reached_after project S period k tank rising target seconds ≡ true
   must-reach-level seconds k tank target rising at reached =
-      must_reached S (walls_of network tank) tank (stocks_of_tank standing k) (inflow_of_tank network grid row k)
-      target rising seconds (stock_at_start period k) (tank_inflow network k period.assignment.flows)
-      under.compared.some (under.vessels k tank at) (stock_lies network S period grid standing row under k)
-      (inflow_within network S period grid standing row under k tank at) reached
+      must_reached S (walls_of project tank) tank (stocks_of_tank standing k) (inflow_of_tank project grid row k)
+      target rising seconds (stock_at_start period k) (tank_inflow project k period.assignment.flows)
+      under.compared.some (under.vessels k tank at) (stock_lies project S period grid standing row under k)
+      (inflow_within project S period grid standing row under k tank at) reached
 
   own-states : (k : ℕ) (state : TankState) → slice_get standing.tanks k ≡ Some state
       → slice_get period.tanks k ≡ Some state
   own-states k state is = ap (λ (ts : List TankState). slice_get ts k) under.tanks ∙ is
 
-  tank-must : (seconds : ℕ) (w : Watch) → IsTankWatch 0 network.tanks.list standing.tanks w → (tank : Tank)
-      → slice_get network.tanks.list w.tank ≡ Some tank
-      → must_reach (walls_of network tank) tank (stocks_of_tank standing w.tank)
-      (inflow_of_tank network grid row w.tank) w.target w.rising seconds ≡ true
-      → EndsByLevel network S period seconds
+  tank-must : (seconds : ℕ) (w : Watch) → IsTankWatch 0 project.tanks.list standing.tanks w → (tank : Tank)
+      → slice_get project.tanks.list w.tank ≡ Some tank
+      → must_reach (walls_of project tank) tank (stocks_of_tank standing w.tank)
+      (inflow_of_tank project grid row w.tank) w.target w.rising seconds ≡ true
+      → EndsByLevel project S period seconds
   tank-must seconds _ (maximum k own state at is not) tank found reached =
       let n : 0 + k ≡ k = omega arith in
-      let here : slice_get network.tanks.list k ≡ Some tank = subst (λ m. slice_get network.tanks.list m ≡ Some tank)
+      let here : slice_get project.tanks.list k ≡ Some tank = subst (λ m. slice_get project.tanks.list m ≡ Some tank)
       n found in
       let same : tank ≡ own = same_item Tank tank own (sym here ∙ at) in
-      let own-reached : must_reach (walls_of network tank) tank (stocks_of_tank standing k)
-      (inflow_of_tank network grid row k) tank.maximum true seconds ≡ true =
-      subst (λ (t : Tank). must_reach (walls_of network tank) tank (stocks_of_tank standing k)
-      (inflow_of_tank network grid row k) t.maximum true seconds ≡ true) (sym same)
-      (subst (λ m. must_reach (walls_of network tank) tank (stocks_of_tank standing m)
-      (inflow_of_tank network grid row m) own.maximum true seconds ≡ true) n reached) in
+      let own-reached : must_reach (walls_of project tank) tank (stocks_of_tank standing k)
+      (inflow_of_tank project grid row k) tank.maximum true seconds ≡ true =
+      subst (λ (t : Tank). must_reach (walls_of project tank) tank (stocks_of_tank standing k)
+      (inflow_of_tank project grid row k) t.maximum true seconds ≡ true) (sym same)
+      (subst (λ m. must_reach (walls_of project tank) tank (stocks_of_tank standing m)
+      (inflow_of_tank project grid row m) own.maximum true seconds ≡ true) n reached) in
       full k tank here (λ e. isnt-full state not (sym (own-states k state is) ∙ e))
-      (sym (reaches_maximum S (walls_of network tank) tank (stock_at_start period k)
-      (tank_inflow network k period.assignment.flows) seconds)
+      (sym (reaches_maximum S (walls_of project tank) tank (stock_at_start period k)
+      (tank_inflow project k period.assignment.flows) seconds)
       ∙ must-reach-level seconds k tank tank.maximum true here own-reached)
   tank-must seconds _ (minimum k own state at is not) tank found reached =
       let n : 0 + k ≡ k = omega arith in
-      let here : slice_get network.tanks.list k ≡ Some tank = subst (λ m. slice_get network.tanks.list m ≡ Some tank)
+      let here : slice_get project.tanks.list k ≡ Some tank = subst (λ m. slice_get project.tanks.list m ≡ Some tank)
       n found in
       let same : tank ≡ own = same_item Tank tank own (sym here ∙ at) in
-      let own-reached : must_reach (walls_of network tank) tank (stocks_of_tank standing k)
-      (inflow_of_tank network grid row k) tank.minimum false seconds ≡ true =
-      subst (λ (t : Tank). must_reach (walls_of network tank) tank (stocks_of_tank standing k)
-      (inflow_of_tank network grid row k) t.minimum false seconds ≡ true) (sym same)
-      (subst (λ m. must_reach (walls_of network tank) tank (stocks_of_tank standing m)
-      (inflow_of_tank network grid row m) own.minimum false seconds ≡ true) n reached) in
+      let own-reached : must_reach (walls_of project tank) tank (stocks_of_tank standing k)
+      (inflow_of_tank project grid row k) tank.minimum false seconds ≡ true =
+      subst (λ (t : Tank). must_reach (walls_of project tank) tank (stocks_of_tank standing k)
+      (inflow_of_tank project grid row k) t.minimum false seconds ≡ true) (sym same)
+      (subst (λ m. must_reach (walls_of project tank) tank (stocks_of_tank standing m)
+      (inflow_of_tank project grid row m) own.minimum false seconds ≡ true) n reached) in
       empty k tank here (λ e. isnt-empty state not (sym (own-states k state is) ∙ e))
-      (sym (reaches_minimum S (walls_of network tank) tank (stock_at_start period k)
-      (tank_inflow network k period.assignment.flows) seconds)
+      (sym (reaches_minimum S (walls_of project tank) tank (stock_at_start period k)
+      (tank_inflow project k period.assignment.flows) seconds)
       ∙ must-reach-level seconds k tank tank.minimum false here own-reached)
 
-  control-must : (seconds : ℕ) (w : Watch) → IsControlWatch standing.levels network.controls.list w → (tank : Tank)
-      → slice_get network.tanks.list w.tank ≡ Some tank
-      → must_reach (walls_of network tank) tank (stocks_of_tank standing w.tank)
-      (inflow_of_tank network grid row w.tank) w.target w.rising seconds ≡ true
-      → EndsByLevel network S period seconds
+  control-must : (seconds : ℕ) (w : Watch) → IsControlWatch standing.levels project.controls.list w → (tank : Tank)
+      → slice_get project.tanks.list w.tank ≡ Some tank
+      → must_reach (walls_of project tank) tank (stocks_of_tank standing w.tank)
+      (inflow_of_tank project grid row w.tank) w.target w.rising seconds ≡ true
+      → EndsByLevel project S period seconds
   control-must seconds _ (level each k above ticks contained is not) tank found reached =
       at_control each k above ticks tank contained is found
       (known-no (control_truth (level_of_tank standing k) above ticks)
       (reaches S above ticks (whole (level_at_start period k)))
       (control_tells S (level_of_tank standing k) above ticks (level_at_start period k) under.compared.some
-      (level_lies network S period grid standing row under k))
+      (level_lies project S period grid standing row under k))
       (under.controls each k above ticks contained is) not)
       (must-reach-level seconds k tank ticks above found reached)
 
   -- and one that must be seen to does
-  pub must_level : (seconds : ℕ) → SomeMustReach network grid standing row seconds
-      → EndsByLevel network S period seconds
+  pub must_level : (seconds : ℕ) → SomeMustReach project grid standing row seconds
+      → EndsByLevel project S period seconds
   must_level seconds some =
-      elim (contains-split Watch some.watch (tank_watches 0 network.tanks.list standing.tanks) _ some.is_watched) [
-        | inl c ↦ tank-must seconds some.watch (tank-watched 0 network.tanks.list standing.tanks some.watch c)
+      elim (contains-split Watch some.watch (tank_watches 0 project.tanks.list standing.tanks) _ some.is_watched) [
+        | inl c ↦ tank-must seconds some.watch (tank-watched 0 project.tanks.list standing.tanks some.watch c)
             some.tank some.is_tank some.reached
-        | inr c ↦ control-must seconds some.watch (control-watched standing.levels network.controls.list some.watch c)
+        | inr c ↦ control-must seconds some.watch (control-watched standing.levels project.controls.list some.watch c)
             some.tank some.is_tank some.reached
       ]

@@ -32,8 +32,8 @@ pub record IsValueBetween (S : ℕ) (lo x hi : Rational) : Type 0 where
 
 -- What rules look at at scale S lies between two readings in ticks, with the same states of links: the heads of
 -- junctions and reservoirs, the carried levels of tanks (from which the heads of tanks follow) and the flows.
-pub record AreBetween (network : Project) (S : ℕ) (below x above : Readings) : Type 0 where
-  pub heads : (m : ℕ) → m < nodes_before_tanks network
+pub record AreBetween (project : Project) (S : ℕ) (below x above : Readings) : Type 0 where
+  pub heads : (m : ℕ) → m < nodes_before_tanks project
       → LiesIn S (record { lo = head_at below.heads m; hi = head_at above.heads m }) (head_at x.heads m)
   pub levels : (k : ℕ) → IsValueBetween S (level_of below k) (level_of x k) (level_of above k)
   pub flows_below : (l : ℕ) → S * slice_index_or below.flows l 0 ≤ slice_index_or x.flows l 0
@@ -50,39 +50,39 @@ VolumesLie S intervals volumes = AllZip (LiesIn S) intervals volumes
 -- A period of a history that begins as a standing says: its time and states are the standing's, its stocks lie in the
 -- intervals there, its heads and flows obey the laws on the grid of the standing, and the vectors of the record are
 -- certificates on that grid.
-pub record IsUnder (network : Project) (S : ℕ) (period : Period) (grid : Grid) (standing : Standing)
+pub record IsUnder (project : Project) (S : ℕ) (period : Period) (grid : Grid) (standing : Standing)
     (row : Record) : Type 0 where
-  pub compared : IsCompared network S period.time standing.levels period.levels period.tanks period.links
+  pub compared : IsCompared project S period.time standing.levels period.levels period.tanks period.links
       period.assignment grid
   pub volumes : VolumesLie S standing.volumes period.volumes
-  pub certificates : AreCertificates network grid row
+  pub certificates : AreCertificates project grid row
   pub time : period.time ≡ standing.time
   pub tanks : period.tanks ≡ standing.tanks
-  pub links : period.links ≡ links_at network standing
-  pub controls : ControlsAreDecided network standing.levels
-  pub vessels : Each network.tanks.list (λ k tank. IsVessel (walls_of network tank) tank)
+  pub links : period.links ≡ links_at project standing
+  pub controls : ControlsAreDecided project standing.levels
+  pub vessels : Each project.tanks.list (λ k tank. IsVessel (walls_of project tank) tank)
 
 -- Where a period of a history begins, at a time with levels and volumes and after links were commanded so, it agrees
 -- with a standing: the time is the same, the stocks lie in the intervals, the tanks are in the states that the
 -- standing has, and the links were commanded to be in the same states.
-pub record AgreesWith (network : Project) (S : ℕ) (standing : Standing) (time : ℕ) (levels volumes : List ℤ)
+pub record AgreesWith (project : Project) (S : ℕ) (standing : Standing) (time : ℕ) (levels volumes : List ℤ)
     (commanded : List LinkState) : Type 0 where
   pub time_is : time ≡ standing.time
   pub levels_lie : LevelsLie S standing.levels levels
   pub volumes_lie : VolumesLie S standing.volumes volumes
-  pub tanks_are : tank_states S network.tanks.list levels ≡ standing.tanks
+  pub tanks_are : tank_states S project.tanks.list levels ≡ standing.tanks
   pub commanded_are : commanded ≡ standing.commanded
 
 -- ---- standings of a run
 
 -- A state that a link may be in: it is made of the file's numbers, and a link of this kind can have it.
-pub record IsOwnState (network : Project) (link : Link) (state : LinkState) : Type 0 where
-  pub made : IsStateMade network.options.unit state
+pub record IsOwnState (project : Project) (link : Link) (state : LinkState) : Type 0 where
+  pub made : IsStateMade project.options.unit state
   pub can : CanHave link.kind state
 
 -- What every standing of a run keeps, whatever the history: the level controls are decided, the level intervals lie
 -- within the bounds of their tanks, and each link was commanded to be in a state of its own.
-pub record IsKept (network : Project) (standing : Standing) : Type 0 where
-  pub controls : ControlsAreDecided network standing.levels
-  pub levels : Each network.tanks.list (λ k (tank : Tank). IsWithin (level_bounds tank) (level_of_tank standing k))
-  pub states : AllZip (IsOwnState network) network.links.list standing.commanded
+pub record IsKept (project : Project) (standing : Standing) : Type 0 where
+  pub controls : ControlsAreDecided project standing.levels
+  pub levels : Each project.tanks.list (λ k (tank : Tank). IsWithin (level_bounds tank) (level_of_tank standing k))
+  pub states : AllZip (IsOwnState project) project.links.list standing.commanded

@@ -48,108 +48,108 @@ pub fn printed_values()
 /// What the rules look at in a period lies between what the record's ends give, and a clause that both ends decide is
 /// decided so between them.
 pub fn readings()
-    ensures lie { (network : Project) (S : ℕ) (period : Period) (grid : Grid) (standing : Standing) (row : Record)
-        → IsUnder network S period grid standing row → (seconds : ℕ)
-        → AreBetween network S (readings_below network grid standing row seconds)
-        (readings_after network S period seconds) (readings_above network grid standing row seconds) }
-    ensures clauses { (network : Project) (S time : ℕ) (below x above : Readings) (clause : Clause) → 0 < S
-        → Compares clause.what clause.relation → AreBetween network S below x above
-        → Tells (at_both_ends (clause_holds network 1 time below clause) (clause_holds network 1 time above clause))
-        (clause_holds network S time x clause) }
+    ensures lie { (project : Project) (S : ℕ) (period : Period) (grid : Grid) (standing : Standing) (row : Record)
+        → IsUnder project S period grid standing row → (seconds : ℕ)
+        → AreBetween project S (readings_below project grid standing row seconds)
+        (readings_after project S period seconds) (readings_above project grid standing row seconds) }
+    ensures clauses { (project : Project) (S time : ℕ) (below x above : Readings) (clause : Clause) → 0 < S
+        → Compares clause.what clause.relation → AreBetween project S below x above
+        → Tells (at_both_ends (clause_holds project 1 time below clause) (clause_holds project 1 time above clause))
+        (clause_holds project S time x clause) }
 {}
 
 /// Where no rule is open, the rules change what the record decides.
 pub fn changes()
-    ensures { (network : Project) → Sound network → (S : ℕ) (period : Period) (grid : Grid) (standing : Standing)
+    ensures { (project : Project) → Sound project → (S : ℕ) (period : Period) (grid : Grid) (standing : Standing)
         (row : Record)
-        → IsUnder network S period grid standing row → (seconds instant : ℕ) → instant ≡ standing.time + seconds
-        → list_any is_unknown (rule_truths network grid standing row seconds) ≡ false
-        → decided_changes network grid standing row seconds ≡ rule_changes network (values_at network S period instant)
+        → IsUnder project S period grid standing row → (seconds instant : ℕ) → instant ≡ standing.time + seconds
+        → list_any is_unknown (rule_truths project grid standing row seconds) ≡ false
+        → decided_changes project grid standing row seconds ≡ rule_changes project (values_at project S period instant)
         period.links }
 {}
 
 /// Where a level ends a period, some watched level may have reached its target, and where one must have, a level
 /// ends it.
 pub fn levels()
-    ensures may { (network : Project) (S : ℕ) (period : Period) (grid : Grid) (standing : Standing) (row : Record)
-        → IsUnder network S period grid standing row → (seconds : ℕ) → EndsByLevel network S period seconds
-        → SomeMayReach network grid standing row seconds }
-    ensures must { (network : Project) (S : ℕ) (period : Period) (grid : Grid) (standing : Standing) (row : Record)
-        → IsUnder network S period grid standing row → (seconds : ℕ) → SomeMustReach network grid standing row seconds
-        → EndsByLevel network S period seconds }
+    ensures may { (project : Project) (S : ℕ) (period : Period) (grid : Grid) (standing : Standing) (row : Record)
+        → IsUnder project S period grid standing row → (seconds : ℕ) → EndsByLevel project S period seconds
+        → SomeMayReach project grid standing row seconds }
+    ensures must { (project : Project) (S : ℕ) (period : Period) (grid : Grid) (standing : Standing) (row : Record)
+        → IsUnder project S period grid standing row → (seconds : ℕ) → SomeMustReach project grid standing row seconds
+        → EndsByLevel project S period seconds }
 {}
 
 /// A period that isn't the last lasts as long as the record decides, and leaves the links commanded as it decides.
 pub fn lengths()
-    ensures { (network : Project) → Sound network → (S : ℕ) (period : Period) (grid : Grid) (standing : Standing)
+    ensures { (project : Project) → Sound project → (S : ℕ) (period : Period) (grid : Grid) (standing : Standing)
         (row : Record)
-        → IsUnder network S period grid standing row → standing.time ≢ network.times.duration
-        → HasItsLength network S period
-        → (seconds : ℕ) (links : List LinkState) → LeavesLinks network grid standing row seconds links
-        → (period.length ≡ seconds) × (commanded_after network S period ≡ links) }
+        → IsUnder project S period grid standing row → standing.time ≢ project.times.duration
+        → HasItsLength project S period
+        → (seconds : ℕ) (links : List LinkState) → LeavesLinks project grid standing row seconds links
+        → (period.length ≡ seconds) × (commanded_after project S period ≡ links) }
 {}
 
 /// Each line that a record's end brings holds of the period.
 pub fn end_lines()
-    ensures { (network : Project) → Sound network → (S : ℕ) (commanded : List LinkState) (period : Period) (grid : Grid)
-        (standing : Standing) (row : Record) → IsUnder network S period grid standing row → IsKept network standing
-        → AllZip (IsOwnState network) network.links.list (links_at network standing) → commanded ≡ standing.commanded
-        → period.length ≡ row.length → (lines : List ReportLine) → AreEndLines network grid standing row lines
-        → AllByRecursion (LineHolds network S commanded period) lines }
+    ensures { (project : Project) → Sound project → (S : ℕ) (commanded : List LinkState) (period : Period) (grid : Grid)
+        (standing : Standing) (row : Record) → IsUnder project S period grid standing row → IsKept project standing
+        → AllZip (IsOwnState project) project.links.list (links_at project standing) → commanded ≡ standing.commanded
+        → period.length ≡ row.length → (lines : List ReportLine) → AreEndLines project grid standing row lines
+        → AllByRecursion (LineHolds project S commanded period) lines }
 {}
 
 // ---- from period to period
 
 /// Pump patterns, controls and rules leave each link in a state of its own.
 pub fn commands()
-    ensures starts { (network : Project) → Sound network
+    ensures starts { (project : Project) → Sound project
         → (time : ℕ) (acts : ℕ → Bool → ℤ → Bool) (states : List LinkState)
-        → AllZip (IsOwnState network) network.links.list states
-        → AllZip (IsOwnState network) network.links.list (started network time acts states) }
-    ensures acts { (network : Project) → Sound network → (values : List Bool) (states : List LinkState)
-        → AllZip (IsOwnState network) network.links.list states
-        → AllZip (IsOwnState network) network.links.list (acted network values states) }
+        → AllZip (IsOwnState project) project.links.list states
+        → AllZip (IsOwnState project) project.links.list (started project time acts states) }
+    ensures acts { (project : Project) → Sound project → (values : List Bool) (states : List LinkState)
+        → AllZip (IsOwnState project) project.links.list states
+        → AllZip (IsOwnState project) project.links.list (acted project values states) }
 {}
 
 /// The first standing of a run keeps what standings keep, and where a record leads on from one that does, so does the
 /// next.
 pub fn kept()
-    ensures start { (network : Project) → Sound network → IsKept network (initial_standing network) }
-    ensures next { (network : Project) → Sound network → (grid : Grid) (standing : Standing) (row : Record)
+    ensures start { (project : Project) → Sound project → IsKept project (initial_standing project) }
+    ensures next { (project : Project) → Sound project → (grid : Grid) (standing : Standing) (row : Record)
         (next : Standing)
-        → IsKept network standing → Continues network grid standing row next → IsKept network next }
+        → IsKept project standing → Continues project grid standing row next → IsKept project next }
 {}
 
 /// Histories agree with the first standing where they begin. Where one agrees with a standing and a record is valid
 /// there, the period is under the record, and where the record leads on, the history agrees with the next standing at
 /// the period's end.
 pub fn steps()
-    ensures start { (network : Project) (S : ℕ) → 0 < S
-        → AgreesWith network S (initial_standing network) 0 (initial_levels network S) (initial_volumes network S)
-        (initial_links network) }
-    ensures under { (network : Project) → Sound network → (S : ℕ) → 0 < S
+    ensures start { (project : Project) (S : ℕ) → 0 < S
+        → AgreesWith project S (initial_standing project) 0 (initial_levels project S) (initial_volumes project S)
+        (initial_links project) }
+    ensures under { (project : Project) → Sound project → (S : ℕ) → 0 < S
         → (grid : Grid) (standing : Standing) (row : Record)
-        (next : Standing) → IsKept network standing → IsValid network standing grid row next
+        (next : Standing) → IsKept project standing → IsValid project standing grid row next
         → (time : ℕ) (levels volumes : List ℤ) (commanded : List LinkState)
-        → AgreesWith network S standing time levels volumes commanded
-        → (period : Period) → Begins network S time levels volumes commanded period → IsPeriod network S period
-        → IsUnder network S period grid standing row }
-    ensures agrees { (network : Project) → Sound network → (S : ℕ) → 0 < S
+        → AgreesWith project S standing time levels volumes commanded
+        → (period : Period) → Begins project S time levels volumes commanded period → IsPeriod project S period
+        → IsUnder project S period grid standing row }
+    ensures agrees { (project : Project) → Sound project → (S : ℕ) → 0 < S
         → (grid : Grid) (standing : Standing) (row : Record)
-        (next : Standing) → IsKept network standing → IsValid network standing grid row next
+        (next : Standing) → IsKept project standing → IsValid project standing grid row next
         → (time : ℕ) (levels volumes : List ℤ) (commanded : List LinkState)
-        → AgreesWith network S standing time levels volumes commanded
-        → (period : Period) → Begins network S time levels volumes commanded period → IsPeriod network S period
-        → Continues network grid standing row next
-        → (after_levels after_volumes : List ℤ) → AreNextStocks network S period after_levels after_volumes
-        → AgreesWith network S next (period.time + period.length) after_levels after_volumes
-        (commanded_after network S period) }
+        → AgreesWith project S standing time levels volumes commanded
+        → (period : Period) → Begins project S time levels volumes commanded period → IsPeriod project S period
+        → Continues project grid standing row next
+        → (after_levels after_volumes : List ℤ) → AreNextStocks project S period after_levels after_volumes
+        → AgreesWith project S next (period.time + period.length) after_levels after_volumes
+        (commanded_after project S period) }
 {}
 
 // ---- every history
 
 /// Every history of a sound network agrees with every run of valid records.
 pub fn induction()
-    ensures { (network : Project) → Sound network → (founds : List Found) (last : Standing) → IsRun network founds last
-        → EveryHistoryAgrees network founds }
+    ensures { (project : Project) → Sound project → (founds : List Found) (last : Standing) → IsRun project founds last
+        → EveryHistoryAgrees project founds }
 {}

@@ -25,7 +25,7 @@ use Rattle.hyd_spec_input.specs.RowsTogether as others
 use Rattle.hyd_spec_input.specs.CapacitiesOutOfRange.{IsRefusedIn, IsRefusedRow}
 use Rattle.hyd_spec_input.specs.Faults.{IsWrongWithOthers, NoneIs, HasNoFault, lack}
 use Rattle.hyd_spec_input.specs.Project.{IsProject}
-use Rattle.hyd_theorems_on_input.specs.Example.{text, network}
+use Rattle.hyd_theorems_on_input.specs.Example.{text, project}
 
 -- ---- the rows of the text
 
@@ -379,7 +379,7 @@ no_fault = record {
 
 -- ---- its project
 
-its_network : IsProject rows network
+its_network : IsProject rows project
 unfolding rows items_of kind_of read_section is_passed_over heading_kind words_in is_keyword is_numeral magnitude_of
     nano_of flow_unit option_word time_word link_word node_word object_word attribute_word relation_word rule_word
     unit_seconds
@@ -490,5 +490,5 @@ its_network = record {
   );
 }
 
-pub its_project : IsProject (rows_in (items_of text)) network
-its_project = subst (λ (rs : List Row). IsProject rs network) (sym rows_are) its_network
+pub its_project : IsProject (rows_in (items_of text)) project
+its_project = subst (λ (rs : List Row). IsProject rs project) (sym rows_are) its_network

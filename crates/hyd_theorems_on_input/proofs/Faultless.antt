@@ -1,15 +1,15 @@
 -- A row of a text without a fault: it is right by itself and with the others, and each thing that is asked of it holds.
 use Rattle.std.proofs.Common.{◌≡◌, ℕ, ◌+◌, ◌≤◌, Bool, true, false, List, [], ◌∷◌, length, take, drop, Option, Some}
-use Rattle.std.proofs.Common.{None, refl, sym, ap, ◌∙◌, subst, arith, inl}
-use Rattle.std.specs.Prelude.{slice_get, ◌&&◌, ◌==◌, ℤ, ◌≤ℤ◌, ◌<ℤ◌, if◌then◌else◌}
+use Rattle.std.proofs.Common.{None, refl, sym, ap, ◌∙◌, subst, inl}
+use Rattle.std.specs.Prelude.{slice_get, ◌&&◌, ◌==◌, ℤ, if◌then◌else◌}
 use Rattle.std.specs.List.{All, AllByRecursion}
 use Rattle.std.proofs.lemmas.Bool.{and_parts, eqb-true}
-use Rattle.std.proofs.lemmas.Int.{ints}
 use Rattle.std.proofs.lemmas.List.Elements.{All-from_recursion}
-use lib.Signed.{le_z, lt_z}
+use lib.Signed.{le_z}
 use Rattle.hyd_num.specs.Numeral.{nano_of}
 use Rattle.hyd_spec_lines.specs.Lines.{Row, items_of, rows_in}
-use Rattle.hyd_lex.proofs.NotEmpty.{HasWords, not_empty}
+use Rattle.hyd_lemmas.proofs.Trials.{le_z-yes}
+use Rattle.hyd_theorems_on_input.proofs.NotEmpty.{HasWords, not_empty}
 use Rattle.hyd_spec_lines.specs.declared.section.Section.{Section}
 use Rattle.hyd_spec_lines.specs.declared.section.Section.TheVariants.{Junctions, Reservoirs, Tanks, Pipes, Pumps}
 use Rattle.hyd_spec_lines.specs.declared.section.Section.TheVariants.{Valves, Demands, Emitters, Curves, Patterns}
@@ -75,15 +75,9 @@ amount_or_is P default k words d each = by (slice_get words k) each
 pub in_range : (test : ℤ → Bool) (w : List ℕ) → number_where test w ≡ None → test (nano_of w) ≡ true
 in_range test w e = unless_none _ _ (or_none (number w) _ e).1
 
-pub at_most : (a b : ℤ) → le_z a b ≡ true → a ≤ℤ b
-at_most a b e = grind (arith, ints)
-
-pub below : (a b : ℤ) → lt_z a b ≡ true → a <ℤ b
-below a b e = grind (arith, ints)
-
 pub lies : (low high z : ℤ) → (le_z low z && le_z z high) ≡ true → Lies low high z
 lies low high z e = let both = and_parts (le_z low z) (le_z z high) e in
-    record { at_least = at_most low z both.0; at_most = at_most z high both.1 }
+    record { at_least = le_z-yes low z both.0; at_most = le_z-yes z high both.1 }
 
 pub within : (low high : ℤ) (w : List ℕ) → number_within low high w ≡ None → Lies low high (nano_of w)
 within low high w e = lies low high (nano_of w) (in_range (λ nano. le_z low nano && le_z nano high) w e)
@@ -97,7 +91,7 @@ pub record AreRight (rows : List Row) : Type 0 where
   pub not_empty : (k : ℕ) (row : Row) → slice_get rows k ≡ Some row → All (λ w. 1 ≤ length w) row.words
 
 -- no cause is there
-none_from : (fault : Option Cause) → ((cause : Cause) → fault ≡ Some cause → ⊥) → fault ≡ None
+pub none_from : (fault : Option Cause) → ((cause : Cause) → fault ≡ Some cause → ⊥) → fault ≡ None
 none_from None never = refl
 none_from (Some cause) never = absurd (never cause refl)
 
@@ -159,3 +153,7 @@ pub right_among : (rows : List Row) (section : Section) (k : ℕ) (row : Row) �
 right_among rows section k row right is of =
     let P : Section → Type 0 = λ s. others.section_fault s rows k row ≡ None in
     subst P (section_is section row of) (right.with_others k row is)
+
+pub or_last : (fault : Option Cause) → or_else fault None ≡ fault
+or_last (Some cause) = refl
+or_last None = refl

@@ -1,6 +1,6 @@
 -- The options and times that a file has in force, and what keywords stand for.
 use Rattle.std.proofs.Common.{◌≡◌, ℕ, suc, Bool, true, List, [], ◌∷◌, map, Option, Some, None, refl, sym, ap, subst}
-use Rattle.std.proofs.Common.{inl, inr, true≢false}
+use Rattle.std.proofs.Common.{inl, inr, true≢false, ◌+◌, ◌++◌, ◌∙◌}
 use Rattle.std.specs.Prelude.{slice_get, if◌then◌else◌}
 use Rattle.std.specs.Char.{to_ascii_lowercase}
 use Rattle.std.specs.Str.{bytes_eq}
@@ -89,3 +89,18 @@ is_one_of_same [] a word e = refl
 is_one_of_same (keyword ∷ keywords) a word e =
     rw (keyword_same a keyword word e) (ap (λ b. if is_keyword keyword a then true else b)
     (is_one_of_same keywords a word e))
+
+pub or_earlier_in_turn : (a b c : Option Row) → or_earlier (or_earlier a b) c ≡ or_earlier a (or_earlier b c)
+or_earlier_in_turn (Some a) b c = refl
+or_earlier_in_turn None b c = refl
+
+pub none_last : (o : Option Row) → or_earlier None o ≡ or_earlier o None
+none_last (Some row) = refl
+none_last None = refl
+
+pub last_where_push : (p : Row → Bool) (rows : List Row) (row : Row)
+    → last_where p (rows ++ row ∷ []) ≡ or_earlier (where_passes p row) (last_where p rows)
+last_where_push p [] row = none_last (where_passes p row)
+last_where_push p (next ∷ rows) row =
+    ap (λ o. or_earlier o (where_passes p next)) (last_where_push p rows row)
+    ∙ or_earlier_in_turn (where_passes p row) (last_where p rows) (where_passes p next)

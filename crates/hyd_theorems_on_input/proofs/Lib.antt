@@ -1,4 +1,5 @@
 pub mod Places
+pub mod NotEmpty
 pub mod Faultless
 pub mod Occurs
 pub mod Names
@@ -21,3 +22,4 @@ pub mod OneFault
 pub mod OneCapacity
 pub mod OneProject
 pub mod ExampleText
+pub mod Matching

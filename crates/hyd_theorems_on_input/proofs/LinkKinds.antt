@@ -47,11 +47,10 @@ use Rattle.hyd_spec_input.specs.Project as project
 use Rattle.hyd_spec_input.specs.Project.{Where, IsProject, IsLink, IsKind, IsPipeKind, IsPumpKind, IsValveKind}
 use Rattle.hyd_spec_input.specs.Project.{IsOpenValve, IsShutoffOf, pump_points, bend_points, numbered_links}
 use Rattle.hyd_lemmas.proofs.Each.{all_by}
+use Rattle.hyd_lemmas.proofs.Trials.{le_z-yes, lt_z-yes}
 use Rattle.hyd_theorems_on_input.proofs.Places.{match_all}
 use Rattle.hyd_theorems_on_input.proofs.Faultless.{AreRight, right_alone, right_among, or_none, all_none, unless_none}
-use Rattle.hyd_theorems_on_input.proofs.Faultless.{needed_none, optional_none, at_most, below, lies, within}
-use Rattle.hyd_theorems_on_input.proofs.Faultless.{amount_or_is}
-use Rattle.hyd_theorems_on_input.proofs.Faultless.{section_is}
+use Rattle.hyd_theorems_on_input.proofs.Faultless.{needed_none, optional_none, lies, within, amount_or_is, section_is}
 use Rattle.hyd_theorems_on_input.proofs.Occurs.{number_inside, number_names, itself}
 use Rattle.hyd_theorems_on_input.proofs.Names.{First, Second, Third, one_of_three, link_stands, link_alone, node_length}
 use Rattle.hyd_theorems_on_input.proofs.Numbered.{may_have_pattern, has_bend}
@@ -189,7 +188,7 @@ curve_right rows (Some name) there e =
     record { shape = unless_none _ _ both.0; range = both.1 }
 
 one_above : (z : ℤ) → lt_z (pos 0) z ≡ true → pos 1 ≤ℤ z
-one_above z e = let l = below (pos 0) z e in omega (arith, ints, l)
+one_above z e = let l = lt_z-yes (pos 0) z e in omega (arith, ints, l)
 
 -- a curve of one point or of three
 pump_origin : (unit : FlowUnit) (points : List Point) (head : ShutoffHead) (q h : Decimal) → is_bent points ≡ false
@@ -211,7 +210,7 @@ pump_origin unit (a ∷ []) (FourThirds d) q h bent curve flows shutoff is qn hn
         above = rw is (one_above a.y both.1);
         lost = hn ∙ sym is;
         in_thirds = refl;
-        range = rw is (at_most _ _ shutoff);
+        range = rw is (le_z-yes _ _ shutoff);
       },
     )
 pump_origin unit (a ∷ []) (Given d) q h bent curve flows shutoff is qn hn = absurd is
@@ -229,7 +228,7 @@ pump_origin unit (a ∷ b ∷ c ∷ []) (Given d) q h bent curve flows shutoff i
     let second = and_parts (is_flow unit b.x) (is_flow unit c.x && true) flow.1 in
     let top = and_parts (is_within (10 ^ 16) (head_ticks (is_us_unit unit) a.y)) (le_z (a.y -ℤ b.y) (pos (10 ^ 21)))
     shutoff in
-    let lower = below b.y a.y fall.0 in (
+    let lower = lt_z-yes b.y a.y fall.0 in (
       record {
         flows = rw qn (one_above b.x rise.0);
         flow_range = rw qn (lies _ _ (flow_ticks unit b.x) second.0);

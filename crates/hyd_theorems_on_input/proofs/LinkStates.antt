@@ -33,30 +33,29 @@ use Rattle.hyd_net.specs.declared.links.OpenValve.TheVariants.{Quadratic, Linear
 use Rattle.hyd_net.specs.declared.project.Project.{Project}
 use Rattle.hyd_spec_input.specs.Columns.{or_else, unless, is_there, up_to, not_negative, word, amount, units}
 use Rattle.hyd_spec_input.specs.NetworkRows as alone
-use Rattle.hyd_spec_input.specs.NetworkRows.{is_throttle, is_general, is_closed_pipe, pump_speed}
-use Rattle.hyd_spec_input.specs.NetworkRows.{pump_speed_word, speed_of, pair_value, pump_pairs, pump_key, pump_value}
-use Rattle.hyd_spec_input.specs.NetworkRows.{and_key}
+use Rattle.hyd_spec_input.specs.NetworkRows.{is_throttle, is_general, is_closed_pipe, pump_speed, pump_speed_word}
+use Rattle.hyd_spec_input.specs.NetworkRows.{speed_of, pair_value, pump_pairs, pump_key, pump_value, and_key}
 use Rattle.hyd_spec_input.specs.declared.EarlierKeys.{EarlierKeys}
 use Rattle.hyd_spec_input.specs.Tables.{is_of, is_link, own_id, link_rows, row_with, link_named}
 use Rattle.hyd_spec_input.specs.InForce.{unit}
-use Rattle.hyd_spec_input.specs.MeaningsAcrossRows.{link_ids, number_in, status_of}
+use Rattle.hyd_spec_input.specs.MeaningsAcrossRows.{link_ids, number_in, status_row_of}
 use Rattle.hyd_spec_input.specs.RowsTogether as others
 use Rattle.hyd_spec_input.specs.RowsTogether.{us, flow, is_speed, state_range, is_status, takes_number, is_check_valve}
 use Rattle.hyd_spec_input.specs.RowsTogether.{set_link}
 use Rattle.hyd_spec_input.specs.Project.{Where, IsProject, IsLink, IsKind, IsPipeKind, IsPumpKind, IsValveKind}
 use Rattle.hyd_spec_input.specs.Project.{IsOpenValve, IsLaw, IsThrottle, IsNumberState, IsState, IsStateOf, IsOwnState}
 use Rattle.hyd_spec_input.specs.Project.{IsStart, speed_state, open_state, numbered_links}
+use Rattle.hyd_lemmas.proofs.Trials.{le_z-yes}
 use Rattle.hyd_theorems_on_input.proofs.Places.{match_all, item_at, partner}
 use Rattle.hyd_theorems_on_input.proofs.Faultless.{AreRight, right_alone, right_among, or_none, all_none, unless_none}
-use Rattle.hyd_theorems_on_input.proofs.Faultless.{needed_none, at_most, lies, in_range}
+use Rattle.hyd_theorems_on_input.proofs.Faultless.{needed_none, lies, in_range}
 use Rattle.hyd_theorems_on_input.proofs.Occurs.{number_names, number_inside, same_name}
 use Rattle.hyd_theorems_on_input.proofs.InForce.{in_force}
 use Rattle.hyd_theorems_on_input.proofs.Names.{First, Second, Third, one_of_three, own_ids, link_stands, link_new}
 use Rattle.hyd_theorems_on_input.proofs.Names.{row_named, link_ids_are, link_length}
 use Rattle.hyd_theorems_on_input.proofs.NodeRanges.{flow_right}
 use Rattle.hyd_theorems_on_input.proofs.LinkKinds.{where_true, where_false, to_where, not_of, as_pipe, as_pump}
-use Rattle.hyd_theorems_on_input.proofs.LinkKinds.{as_valve}
-use Rattle.hyd_theorems_on_input.proofs.LinkKinds.{law_right, law_made, valve_numbers}
+use Rattle.hyd_theorems_on_input.proofs.LinkKinds.{as_valve, law_right, law_made, valve_numbers}
 
 -- ---- what is asked of a link
 
@@ -199,7 +198,7 @@ limit_asked rows row state of throttle (AsksNumber nano takes range is) =
     where_false (is_throttle row.words) _ _ throttle
     (where_false (is_of Pumps row) _ _ (not_of Valves Pumps row of refl) is) in
     subst (IsLimitState rows) (sym limit) (
-      record { not_negative = at_most (pos 0) nano (unless_none _ _ both.0); flow = flow_right rows nano both.1 },
+      record { not_negative = le_z-yes (pos 0) nano (unless_none _ _ both.0); flow = flow_right rows nano both.1 },
       refl,
     )
 
@@ -421,7 +420,7 @@ own_state rows k row state right at link is =
 
 pub start_by : (rows : List Row) (k : ℕ) (row : Row) (state : LinkState) (status : Option Row) → AreRight rows
     → slice_get rows k ≡ Some row → is_link row ≡ true
-    → status_of rows row ≡ status → IsStart rows row status state → Asked rows row state
+    → status_row_of rows row ≡ status → IsStart rows row status state → Asked rows row state
 start_by rows k row state None right at link e is = own_state rows k row state right at link is
 start_by rows k row state (Some status) right at link e is =
     let found = in_force rows StatusSection (λ r. bytes_eq (own_id row) (own_id r)) status e in
@@ -439,7 +438,7 @@ starts_right rows p right of =
     match_all (IsLink rows) (λ l. CanHave l.kind l.start × IsStateMade (unit rows) l.start) (numbered_links rows)
     p.links.list of.links (λ n row l at _ made.
     let stands = link_stands rows n row at in
-    let asks = start_by rows stands.0.place row l.start (status_of rows row) right stands.0.is stands.1 refl
+    let asks = start_by rows stands.0.place row l.start (status_row_of rows row) right stands.0.is stands.1 refl
     made.start in
     let state = state_right rows stands.0.place row l.kind l.start right stands.0.is stands.1 made.kind asks in
     (state.can, state.made))

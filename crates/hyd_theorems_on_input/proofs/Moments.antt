@@ -20,7 +20,8 @@ use Rattle.hyd_spec_input.specs.OptionRows.{step_line, step_or_start_line, start
 use Rattle.hyd_spec_input.specs.InForce.{begins, begins_both, time_row, time_row_of, duration, seconds_of, written_step}
 use Rattle.hyd_spec_input.specs.InForce.{pattern_step, report_step, pattern_start, report_start, start_clock}
 use Rattle.hyd_spec_input.specs.Project.{IsTimes}
-use Rattle.hyd_theorems_on_input.proofs.Faultless.{AreRight, right_alone, or_none, all_none, unless_none, below}
+use Rattle.hyd_lemmas.proofs.Trials.{lt_z-yes}
+use Rattle.hyd_theorems_on_input.proofs.Faultless.{AreRight, right_alone, or_none, all_none, unless_none}
 use Rattle.hyd_theorems_on_input.proofs.InForce.{in_force, say_is, word_is_keyword, first_named_same}
 
 -- ---- one moment
@@ -45,7 +46,7 @@ seconds_below (negsuc m) n l some = omega (arith, some)
 half_right : (o : Option (List ℕ)) (nano : ℤ) → clock_range o nano ≡ None → of_half o (whole_seconds nano) < 86400
 half_right None nano e =
     let both = and_parts (le_z (pos 0) nano) (lt_z nano (pos (86400 * 10 ^ 9))) (unless_none _ _ e) in
-    seconds_below nano 86400 (below nano (pos (86400 * 10 ^ 9)) both.1) (omega arith)
+    seconds_below nano 86400 (lt_z-yes nano (pos (86400 * 10 ^ 9)) both.1) (omega arith)
 half_right (Some half) nano e =
     cond_both (is_keyword (codes "PM") half) 43200 0 (λ n. whole_seconds nano % 43200 + n < 86400) (λ t. omega arith)
     (λ f. omega arith)
@@ -58,14 +59,15 @@ clock_right k words e =
 
 -- ---- the lines of times
 
-time_word_same : (a word : List ℕ) → is_keyword a word ≡ true → time_word word ≡ time_word a
+pub time_word_same : (a word : List ℕ) → is_keyword a word ≡ true → time_word word ≡ time_word a
 unfolding time_word
 time_word_same a word e = rw (first_named_same time_words a word e, first_named_same more_time_words a word e) refl
 
-about : (words : List (List ℕ)) (a : List ℕ) (meaning : TimeWord) → time_line words ≡ None → word_is 0 a words ≡ true
+pub about_time : (words : List (List ℕ)) (a : List ℕ) (meaning : TimeWord) → time_line words ≡ None → word_is 0 a
+    words ≡ true
     → time_word a ≡ Some meaning
     → time_about (Some meaning) words ≡ None
-about words a meaning line first is =
+about_time words a meaning line first is =
     let e : time_word (word 0 words) ≡ Some meaning =
     time_word_same a (word 0 words) (word_is_keyword 0 a words first) ∙ is in
     subst (λ (o : Option TimeWord). time_about o words ≡ None) e line
@@ -119,7 +121,7 @@ seconds_right rows key second least default right d each =
 written_right : (rows : List Row) → AreRight rows → Bounded 1 (written_step rows)
 written_right rows right = seconds_right rows (codes "HYDRAULIC") (codes "TIMESTEP") 1 3600 right
     (record { at_least = omega arith; at_most = omega arith })
-    (λ words a b line. step_right words (about words (codes "HYDRAULIC") at.Hydraulic line a hydraulic_is))
+    (λ words a b line. step_right words (about_time words (codes "HYDRAULIC") at.Hydraulic line a hydraulic_is))
 
 one_step : (words : List (List ℕ)) → word_is 1 (codes "TIMESTEP") words ≡ true
     → Bounded (if word_is 1 (codes "TIMESTEP") words then 1 else 0) (time_seconds 2 words)
@@ -134,25 +136,25 @@ pattern_step_right : (rows : List Row) → AreRight rows → Bounded 1 (pattern_
 pattern_step_right rows right = seconds_right rows (codes "PATTERN") (codes "TIMESTEP") 1 3600 right
     (record { at_least = omega arith; at_most = omega arith })
     (λ words a b line.
-    one_step words b (either_right words (about words (codes "PATTERN") at.Pattern line a pattern_is)))
+    one_step words b (either_right words (about_time words (codes "PATTERN") at.Pattern line a pattern_is)))
 
 report_step_right : (rows : List Row) → AreRight rows → Bounded 1 (report_step rows)
 report_step_right rows right = seconds_right rows (codes "REPORT") (codes "TIMESTEP") 1 3600 right
     (record { at_least = omega arith; at_most = omega arith })
     (λ words a b line.
-    one_step words b (either_right words (about words (codes "REPORT") at.Report line a report_is)))
+    one_step words b (either_right words (about_time words (codes "REPORT") at.Report line a report_is)))
 
 pattern_start_right : (rows : List Row) → AreRight rows → Bounded 0 (pattern_start rows)
 pattern_start_right rows right = seconds_right rows (codes "PATTERN") (codes "START") 0 0 right
     (record { at_least = omega arith; at_most = omega arith })
     (λ words a b line.
-    some_start words _ (either_right words (about words (codes "PATTERN") at.Pattern line a pattern_is)))
+    some_start words _ (either_right words (about_time words (codes "PATTERN") at.Pattern line a pattern_is)))
 
 report_start_right : (rows : List Row) → AreRight rows → Bounded 0 (report_start rows)
 report_start_right rows right = seconds_right rows (codes "REPORT") (codes "START") 0 0 right
     (record { at_least = omega arith; at_most = omega arith })
     (λ words a b line.
-    some_start words _ (either_right words (about words (codes "REPORT") at.Report line a report_is)))
+    some_start words _ (either_right words (about_time words (codes "REPORT") at.Report line a report_is)))
 
 tenth_right : (n : ℕ) → Bounded 1 n → Bounded 1 (max 1 (n / 10))
 tenth_right n bounds = record { at_least = omega arith; at_most = omega (arith, bounds.at_most) }
@@ -161,13 +163,13 @@ rule_right : (rows : List Row) → AreRight rows
     → Bounded 1 (seconds_of (max 1 (written_step rows / 10)) (codes "RULE") (codes "TIMESTEP") rows)
 rule_right rows right = seconds_right rows (codes "RULE") (codes "TIMESTEP") 1 (max 1 (written_step rows / 10)) right
     (tenth_right (written_step rows) (written_right rows right))
-    (λ words a b line. step_right words (about words (codes "RULE") at.Rule line a rule_is))
+    (λ words a b line. step_right words (about_time words (codes "RULE") at.Rule line a rule_is))
 
 duration_right : (rows : List Row) → AreRight rows → Bounded 0 (duration rows)
 duration_right rows right = say_is (Bounded 0) 0 (λ row. time_seconds 1 row.words) (time_row (codes "DURATION") rows)
     (record { at_least = omega arith; at_most = omega arith }) (λ row e.
     let found = in_force rows TimesSection (begins (codes "DURATION")) row e in
-    time_right 0 1 row.words (about row.words (codes "DURATION") at.Duration
+    time_right 0 1 row.words (about_time row.words (codes "DURATION") at.Duration
     (right_alone rows TimesSection found.place row right found.is found.of) found.passes duration_is))
 
 start_clock_right : (rows : List Row) → AreRight rows → start_clock rows < 86400
@@ -177,7 +179,7 @@ start_clock_right rows right = say_is (λ n. n < 86400) 0 (λ row. clock_seconds
     let both = and_parts (word_is 0 (codes "START") row.words) (word_is 1 (codes "CLOCKTIME") row.words)
     found.passes in
     let line : start_line row.words ≡ None =
-    about row.words (codes "START") at.Start
+    about_time row.words (codes "START") at.Start
     (right_alone rows TimesSection found.place row right found.is found.of) both.0 start_is in
     clock_right 2 row.words (or_none (needed (one_of (codes "CLOCKTIME" ∷ [])) 1 row.words) (clock 2 row.words)
     line).1)

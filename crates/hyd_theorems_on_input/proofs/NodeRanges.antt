@@ -32,18 +32,17 @@ use Rattle.hyd_spec_input.specs.NetworkRows as alone
 use Rattle.hyd_spec_input.specs.Tables.{is_of, rows_of, rows_with, own_id}
 use Rattle.hyd_spec_input.specs.InForce.{unit}
 use Rattle.hyd_spec_input.specs.MeaningsAcrossRows.{number_in, pattern_number, shape_names, as_list, is_among}
-use Rattle.hyd_spec_input.specs.MeaningsAcrossRows.{demand_of_row}
-use Rattle.hyd_spec_input.specs.MeaningsAcrossRows.{own_demand, or_own, demands_of, coefficient, last_naming}
-use Rattle.hyd_spec_input.specs.MeaningsAcrossRows.{emitter_of}
+use Rattle.hyd_spec_input.specs.MeaningsAcrossRows.{demand_of_row, own_demand, or_own, demands_of, coefficient}
+use Rattle.hyd_spec_input.specs.MeaningsAcrossRows.{last_naming, emitter_of}
 use Rattle.hyd_spec_input.specs.RowsTogether as others
 use Rattle.hyd_spec_input.specs.RowsTogether.{us, head, flow, multipliers_of, is_head_times}
 use Rattle.hyd_spec_input.specs.Project as project
 use Rattle.hyd_spec_input.specs.Project.{IsProject, shape_number, shape_points}
 use Rattle.hyd_lemmas.proofs.Each.{all_by}
+use Rattle.hyd_lemmas.proofs.Trials.{le_z-yes}
 use Rattle.hyd_theorems_on_input.proofs.Places.{all_from, kept_stands, kept_passes, match_all}
 use Rattle.hyd_theorems_on_input.proofs.Faultless.{AreRight, right_alone, right_among, all_none, unless_none}
-use Rattle.hyd_theorems_on_input.proofs.Faultless.{needed_none}
-use Rattle.hyd_theorems_on_input.proofs.Faultless.{at_most, lies, within, in_range}
+use Rattle.hyd_theorems_on_input.proofs.Faultless.{needed_none, lies, within, in_range}
 use Rattle.hyd_theorems_on_input.proofs.Occurs.{kept_once, has_number, itself}
 use Rattle.hyd_theorems_on_input.proofs.InForce.{in_force}
 use Rattle.hyd_theorems_on_input.proofs.Numbered.{may_have_pattern, numbers_from, found_by}
@@ -226,9 +225,9 @@ tank_numbers words e =
     (in_range (λ nano. le_z (pos 0) nano && le_z (amount 2 words) nano) (word 4 words)
     (needed_none (alone.level (λ nano. le_z (amount 2 words) nano)) 4 words each.1.1.1.1.0).right) in
     record {
-      lowest = at_most _ _ low.0;
-      above_lowest = at_most _ _ low.1;
-      below_highest = at_most _ _ high.1;
+      lowest = le_z-yes _ _ low.0;
+      above_lowest = le_z-yes _ _ low.1;
+      below_highest = le_z-yes _ _ high.1;
       across = within _ _ (word 5 words) (needed_none (alone.diameter words) 5 words each.1.1.1.1.1.0).right;
     }
 
@@ -295,7 +294,7 @@ tank_right rows p n k row t right of at is section made =
     let each = all_none (others.tank_faults rows k row) (right_among rows Tanks k row right is section) in
     let own = tank_numbers row.words (right_alone rows Tanks k row right is section) in
     let gap : pos 30480000000 ≤ℤ head_ticks (us rows) (amount 4 row.words -ℤ amount 3 row.words) =
-    at_most _ _ (unless_none _ _ each.1.1.1.1.0) in
+    le_z-yes _ _ (unless_none _ _ each.1.1.1.1.0) in
     let apart : pos 30480000000 ≤ℤ (head_ticks (us rows) (amount 4 row.words) -ℤ head_ticks (us rows)
     (amount 3 row.words)) =
     rw (head_difference (us rows) (amount 4 row.words) (amount 3 row.words)) at gap in

@@ -1,6 +1,6 @@
 -- A text has one fault at most, and a text without a fault has none.
-use Rattle.std.proofs.Common.{◌≡◌, ℕ, ◌<◌, ◌≤◌, ◌^◌, List, length, Option, Some, None, sym, ap, ◌∙◌, subst, arith}
-use Rattle.std.proofs.Common.{inl, inr}
+use Rattle.std.proofs.Common.{◌≡◌, ℕ, ◌<◌, ◌≤◌, ◌^◌, List, length, Option, Some, None, sym, ap, ◌∙◌, subst, arith, inl}
+use Rattle.std.proofs.Common.{inr}
 use Rattle.std.specs.Prelude.{slice_get, Result}
 use Rattle.hyd_spec_lines.specs.Lines.{Row, items_of, rows_in, fault_in}
 use Rattle.hyd_spec_lines.specs.declared.fault.LexFault.{LexFault}
@@ -10,6 +10,7 @@ use Rattle.hyd_spec_input.specs.SingleRows.{IsWrongByItself}
 use Rattle.hyd_spec_input.specs.RowsTogether as others
 use Rattle.hyd_spec_input.specs.Faults.{IsWrongWithOthers, NoneIs, IsFirst, line_cause, IsLineFault, lack, IsLater}
 use Rattle.hyd_spec_input.specs.Faults.{IsFaultOf, IsFault, HasNoFault}
+use Rattle.hyd_lemmas.proofs.Trials.{equal_by_order}
 
 -- two faults have the same line and cause
 pub record Same (line other : ℕ) (cause second : Cause) : Type 0 where
@@ -18,15 +19,12 @@ pub record Same (line other : ℕ) (cause second : Cause) : Type 0 where
 
 -- ---- the first wrong row
 
-same_place : (a b : ℕ) → (a < b → ⊥) → (b < a → ⊥) → a ≡ b
-same_place a b first second = omega (arith, first, second)
-
 -- where a row has one cause at most, the first wrong row has one line and cause
 one_first : (rows : List Row) (Wrong : ℕ → Cause → Type 0) (line other : ℕ) (cause second : Cause)
     → ((k : ℕ) (a b : Cause) → Wrong k a → Wrong k b → a ≡ b)
     → IsFirst rows Wrong line cause → IsFirst rows Wrong other second → Same line other cause second
 one_first rows Wrong line other cause second one f g =
-    let place : f.place ≡ g.place = same_place f.place g.place
+    let place : f.place ≡ g.place = equal_by_order f.place g.place
     (λ before. g.earlier f.place before cause f.wrong) (λ before. f.earlier g.place before second g.wrong) in
     let there : Wrong g.place cause = subst (λ k. Wrong k cause) place f.wrong in
     let is : slice_get rows g.place ≡ Some f.row = subst (λ k. slice_get rows k ≡ Some f.row) place f.row_is in

@@ -1,12 +1,11 @@
 -- Rows describe one network: two projects of them are the same, apart from what the comparison of projects leaves
 -- aside.
-use Rattle.std.proofs.Common.{◌≡◌, ℕ, ◌+◌, ◌*◌, ◌^◌, ℤ, pos, Bool, true, false, List, [], ◌∷◌, map, Option, Some, None}
-use Rattle.std.proofs.Common.{refl, sym, ap, ap₂, ◌∙◌, subst, arith, true≢false}
+use Rattle.std.proofs.Common.{◌≡◌, ℕ, ◌+◌, ◌*◌, ◌^◌, ℤ, pos, Bool, true, false, List, [], ◌∷◌, Option, Some, None, refl}
+use Rattle.std.proofs.Common.{sym, ap, ◌∙◌, subst, arith, true≢false}
 use Rattle.std.specs.Prelude.{slice_get, codes, ◌<ℤ◌, ◌*ℤ◌, if◌then◌else◌}
 use Rattle.std.specs.Option.{option_map}
 use Rattle.std.proofs.lemmas.Bool.{and_parts, not-true}
 use Rattle.std.proofs.lemmas.Int.{ints}
-use Rattle.std.proofs.lemmas.List.{map-id}
 use Rattle.hyd_num.specs.declared.decimals.Decimal.{Decimal}
 use Rattle.hyd_num.specs.declared.decimals.Span.{Span}
 use Rattle.hyd_num.specs.declared.flow_units.FlowUnit.{FlowUnit}
@@ -14,7 +13,7 @@ use Rattle.hyd_num.specs.declared.link_capacities.Capacity.{Capacity}
 use Rattle.hyd_num.specs.declared.link_capacities.Origin.TheVariants.{Pipe as PipeOrigin, Valve as ValveOrigin}
 use Rattle.hyd_num.specs.declared.link_capacities.Origin.TheVariants.{Pump as PumpOrigin, Emitter as EmitterOrigin}
 use Rattle.hyd_num.specs.Numeral.{nano_of}
-use Rattle.hyd_num.specs.QuotientsAndRoots.{IsFloor, IsCeiling}
+use Rattle.hyd_num.specs.QuotientsAndRoots.{IsFloor}
 use Rattle.hyd_num.specs.FileQuantity.{is_us_unit, head_ticks, flow_ticks}
 use Rattle.hyd_spec_lines.specs.WordsOfLines.{is_keyword}
 use Rattle.hyd_spec_lines.specs.Lines.{Row}
@@ -23,10 +22,9 @@ use Rattle.hyd_spec_lines.specs.declared.section.Section.TheVariants.{Controls, 
 use Rattle.hyd_net.proofs.Equal.{Decimal-equal, Span-equal}
 use Rattle.hyd_net.specs.RoundedFileNumbers.{IsRounded, IsExactly, IsSeconds, IsAmount, IsAreaMade, IsShutoffMade}
 use Rattle.hyd_net.specs.ProjectAsCompared.{no_number, no_head, bare_list, plain_capacity, plain_valve, plain_kind}
-use Rattle.hyd_net.specs.ProjectAsCompared.{plain_state}
-use Rattle.hyd_net.specs.ProjectAsCompared.{plain_link, plain_junction, plain_tank, plain_pattern, plain_control}
-use Rattle.hyd_net.specs.ProjectAsCompared.{plain_value}
-use Rattle.hyd_net.specs.ProjectAsCompared.{plain_rule_clause, plain_action, plain_rule, plain_project}
+use Rattle.hyd_net.specs.ProjectAsCompared.{plain_state, plain_link, plain_junction, plain_tank, plain_pattern}
+use Rattle.hyd_net.specs.ProjectAsCompared.{plain_control, plain_value, plain_rule_clause, plain_action, plain_rule}
+use Rattle.hyd_net.specs.ProjectAsCompared.{plain_project}
 use Rattle.hyd_net.specs.declared.options.Options.{Options}
 use Rattle.hyd_net.specs.declared.options.Times.{Times}
 use Rattle.hyd_net.specs.declared.nodes.Junction.{Junction}
@@ -54,74 +52,52 @@ use Rattle.hyd_net.specs.declared.rules.Action.{Action}
 use Rattle.hyd_net.specs.declared.rules.Rule.{Rule}
 use Rattle.hyd_net.specs.declared.project.Project.{Project}
 use Rattle.hyd_spec_input.specs.Columns.{word, amount, word_is}
-use Rattle.hyd_spec_input.specs.NetworkRows.{is_throttle, is_general, is_closed_pipe, pump_speed}
-use Rattle.hyd_spec_input.specs.NetworkRows.{valve_minor}
+use Rattle.hyd_spec_input.specs.NetworkRows.{is_throttle, is_general, is_closed_pipe, pump_speed, valve_minor}
 use Rattle.hyd_spec_input.specs.Tables.{Point, is_of, rows_of, words_of, link_named}
 use Rattle.hyd_spec_input.specs.InForce.{unit}
 use Rattle.hyd_spec_input.specs.Curves.{Drop, drop_of}
-use Rattle.hyd_spec_input.specs.MeaningsAcrossRows.{emitter_of, status_of, pattern_ids, shape_names, bend_names}
+use Rattle.hyd_spec_input.specs.MeaningsAcrossRows.{emitter_of, status_row_of, pattern_ids, shape_names, bend_names}
 use Rattle.hyd_spec_input.specs.MeaningsAcrossRows.{rule_groups, clause_lines, then_lines, else_lines}
 use Rattle.hyd_spec_input.specs.RowsTogether.{us}
-use Rattle.hyd_spec_input.specs.Project as project
-use Rattle.hyd_spec_input.specs.Project.{Match, Where, IsOptions, IsTimes, IsEmitter, IsEmitterOf, IsPipeOf}
-use Rattle.hyd_spec_input.specs.Project.{IsPipeKind, IsPumpOf, IsShutoffOf, pump_points, IsPumpKind, IsValveOf}
-use Rattle.hyd_spec_input.specs.Project.{IsOpenValve, IsValveKind, speed_state, open_state, IsThrottle}
-use Rattle.hyd_spec_input.specs.Project.{IsNumberState, IsState, IsStateOf, IsOwnState, IsStart, IsKind, IsLink, IsWhen}
-use Rattle.hyd_spec_input.specs.Project.{IsWhat, IsValue, IsClauseAt}
-use Rattle.hyd_spec_input.specs.Project.{IsClause, IsAction, numbered_links, shape_points, bend_points, IsProject}
+use Rattle.hyd_spec_input.specs.Project as project_of
+use Rattle.hyd_spec_input.specs.Project.{Where, IsOptions, IsTimes, IsEmitter, IsEmitterOf, IsPipeOf, IsPipeKind}
+use Rattle.hyd_spec_input.specs.Project.{IsPumpOf, IsShutoffOf, pump_points, IsPumpKind, IsValveOf, IsOpenValve}
+use Rattle.hyd_spec_input.specs.Project.{IsValveKind, speed_state, open_state, IsThrottle, IsNumberState, IsState}
+use Rattle.hyd_spec_input.specs.Project.{IsStateOf, IsOwnState, IsStart, IsKind, IsLink, IsWhen, IsWhat, IsValue}
+use Rattle.hyd_spec_input.specs.Project.{IsClauseAt, IsClause, IsAction, numbered_links, shape_points, bend_points}
+use Rattle.hyd_spec_input.specs.Project.{IsProject}
 use Rattle.hyd_spec_input.specs.declared.Attribute.{Attribute}
 use Rattle.hyd_spec_input.specs.declared.Attribute.TheVariants as attribute
+use Rattle.hyd_lemmas.proofs.Integers.{one_ceiling, one_floor}
+use Rattle.hyd_lemmas.proofs.ListsAndOptions.{same_some}
 use Rattle.hyd_theorems_on_input.proofs.OneCapacity.{one_capacity}
 use Rattle.hyd_theorems_on_input.proofs.ControlLines.{word_apart, at_not_if}
+use Rattle.hyd_theorems_on_input.proofs.Matching.{one_image, one_list}
 
 -- ---- the parts of a fact
 
-same_some : {A : Type 0} (o : Option A) (a b : A) → o ≡ Some a → o ≡ Some b → a ≡ b
-same_some o a b e f = let same : Some a ≡ Some b = sym e ∙ f in cc
-
-one_where : (b : Bool) (P Q R S C : Type 0) → (P → R → C) → (Q → S → C) → Where b P Q → Where b R S → C
+pub one_where : (b : Bool) (P Q R S C : Type 0) → (P → R → C) → (Q → S → C) → Where b P Q → Where b R S → C
 one_where true P Q R S C first second f g = first f g
 one_where false P Q R S C first second f g = second f g
 
--- lists that match one list have one image, where each item has one
-one_image : {A B : Type 0} (R : A → B → Type 0) (f : B → B) (xs : List A) (ys zs : List B)
-    → ((x : A) (y z : B) → R x y → R x z → f y ≡ f z) → Match R xs ys → Match R xs zs → map f ys ≡ map f zs
-one_image R f [] [] [] one m n = refl
-one_image R f [] [] (z ∷ zs) one m n = absurd n
-one_image R f [] (y ∷ ys) zs one m n = absurd m
-one_image R f (x ∷ xs) [] zs one m n = absurd m
-one_image R f (x ∷ xs) (y ∷ ys) [] one m n = absurd n
-one_image R f (x ∷ xs) (y ∷ ys) (z ∷ zs) one m n =
-    ap₂ (λ v vs. v ∷ vs) (one x y z m.0 n.0) (one_image R f xs ys zs one m.1 n.1)
-
-one_list : {A B : Type 0} (R : A → B → Type 0) (xs : List A) (ys zs : List B)
-    → ((x : A) (y z : B) → R x y → R x z → y ≡ z) → Match R xs ys → Match R xs zs → ys ≡ zs
-one_list R xs ys zs one m n = sym (map-id ys) ∙ one_image R (λ y. y) xs ys zs one m n ∙ map-id zs
-
-one_floor : (n c r s : ℤ) → IsFloor n c r → IsFloor n c s → r ≡ s
-one_floor n c r s x y = let l = y.greatest r x.at_most in let m = x.greatest s y.at_most in omega (arith, ints, l, m)
-
-one_ceiling : (n c r s : ℤ) → IsCeiling n c r → IsCeiling n c s → r ≡ s
-one_ceiling n c r s x y = let l = y.least r x.at_least in let m = x.least s y.at_least in omega (arith, ints, l, m)
-
-one_rounded : (n : ℤ) (d : ℕ) (s t : Span) → IsRounded n d s → IsRounded n d t → s ≡ t
+pub one_rounded : (n : ℤ) (d : ℕ) (s t : Span) → IsRounded n d s → IsRounded n d t → s ≡ t
 one_rounded n d s t f g =
     Span-equal s t (one_floor n (pos d) s.lo t.lo f.floor g.floor) (one_ceiling n (pos d) s.hi t.hi f.ceiling g.ceiling)
 
-one_exactly : (z : ℤ) (s t : Span) → IsExactly z s → IsExactly z t → s ≡ t
+pub one_exactly : (z : ℤ) (s t : Span) → IsExactly z s → IsExactly z t → s ≡ t
 one_exactly z s t f g = Span-equal s t (f.low ∙ sym g.low) (f.high ∙ sym g.high)
 
-one_seconds : (z : ℤ) (s t : Span) → IsSeconds z s → IsSeconds z t → s ≡ t
+pub one_seconds : (z : ℤ) (s t : Span) → IsSeconds z s → IsSeconds z t → s ≡ t
 one_seconds z s t f g =
     let low : s.lo ≡ t.lo = omega (arith, ints, f.whole, g.whole) in
     Span-equal s t low (f.high ∙ low ∙ sym g.high)
 
-not_above : (z : ℤ) → pos 0 <ℤ z → z ≡ pos 0 → ⊥
+pub not_above : (z : ℤ) → pos 0 <ℤ z → z ≡ pos 0 → ⊥
 not_above z l e = absurd (omega (arith, ints, l, e))
 
 -- ---- options and times
 
-one_options : (rows : List Row) (o p : Options) → IsOptions rows o → IsOptions rows p → o ≡ p
+pub one_options : (rows : List Row) (o p : Options) → IsOptions rows o → IsOptions rows p → o ≡ p
 one_options rows o p f g =
     let minimum = Decimal-equal o.p0 p.p0 (f.minimum ∙ sym g.minimum) in
     let required = Decimal-equal o.pf p.pf (f.required ∙ sym g.required) in
@@ -138,7 +114,7 @@ one_options rows o p f g =
       default_pattern = pattern i;
     }
 
-one_times : (rows : List Row) (s t : Times) → IsTimes rows s → IsTimes rows t → s ≡ t
+pub one_times : (rows : List Row) (s t : Times) → IsTimes rows s → IsTimes rows t → s ≡ t
 one_times rows s t f g =
     let duration = f.duration ∙ sym g.duration in
     let hydraulic = f.hydraulic ∙ sym g.hydraulic in
@@ -173,29 +149,29 @@ one_emitter u nano (Some a) (Some b) f g =
     let origins : EmitterOrigin x.c u ≡ EmitterOrigin y.c u = λ i. EmitterOrigin (c i) u in
     ap Some (one_capacity a b (x.origin ∙ origins ∙ sym y.origin) x.made y.made)
 
-one_junction : (rows : List Row) (row : Row) (j k : Junction) → project.IsJunction rows row j
-    → project.IsJunction rows row k → plain_junction j ≡ plain_junction k
+one_junction : (rows : List Row) (row : Row) (j k : Junction) → project_of.IsJunction rows row j
+    → project_of.IsJunction rows row k → plain_junction j ≡ plain_junction k
 one_junction rows row j k f g =
     let elevation = f.elevation ∙ sym g.elevation in
     let demands = f.demands ∙ sym g.demands in
     let emitter = one_emitter (unit rows) (emitter_of rows row) j.emitter k.emitter f.emitter g.emitter in
     λ i. record { elevation = elevation i; demands = record { list = demands i; spare = 0 }; emitter = emitter i }
 
-one_reservoir : (rows : List Row) (row : Row) (r s : Reservoir) → project.IsReservoir rows row r
-    → project.IsReservoir rows row s → r ≡ s
+pub one_reservoir : (rows : List Row) (row : Row) (r s : Reservoir) → project_of.IsReservoir rows row r
+    → project_of.IsReservoir rows row s → r ≡ s
 one_reservoir rows row r s f g =
     let head = f.head ∙ sym g.head in
     let pattern = f.pattern ∙ sym g.pattern in
     λ i. record { head = head i; pattern = pattern i }
 
-one_area : (u : FlowUnit) (s t : Tank) → s.diameter.nano ≡ t.diameter.nano → IsAreaMade u s → IsAreaMade u t
+pub one_area : (u : FlowUnit) (s t : Tank) → s.diameter.nano ≡ t.diameter.nano → IsAreaMade u s → IsAreaMade u t
     → s.area ≡ t.area
 one_area u s t same f g =
     let Area : ℤ → Type 0 = λ d. IsFloor
     (pos 3141592654 *ℤ (head_ticks (is_us_unit u) d *ℤ head_ticks (is_us_unit u) d)) (pos (4 * 10 ^ 26)) s.area in
     one_floor _ _ s.area t.area (subst Area same f) g
 
-one_tank : (rows : List Row) (row : Row) (s t : Tank) → project.IsTank rows row s → project.IsTank rows row t
+one_tank : (rows : List Row) (row : Row) (s t : Tank) → project_of.IsTank rows row s → project_of.IsTank rows row t
     → plain_tank s ≡ plain_tank t
 one_tank rows row s t f g =
     let bottom = f.bottom ∙ sym g.bottom in
@@ -254,7 +230,7 @@ one_law u d k Linear (Quadratic b) f g = absurd (not_above k g.0 f)
 one_law u d k Linear Linear f g = refl
 
 -- the shutoff head of one number
-shutoff_by : (u : FlowUnit) (z : ℤ) (h t : ShutoffHead) (s r : Span) → h ≡ t → IsShutoffMade u h s
+pub shutoff_by : (u : FlowUnit) (z : ℤ) (h t : ShutoffHead) (s r : Span) → h ≡ t → IsShutoffMade u h s
     → IsShutoffMade u t r → s ≡ r
 shutoff_by u z h t s r same f g = by t (subst (λ (x : ShutoffHead). IsShutoffMade u x s) same f) g
   where
@@ -262,7 +238,7 @@ shutoff_by u z h t s r same f g = by t (subst (λ (x : ShutoffHead). IsShutoffMa
     by (FourThirds x) f g = one_rounded _ 3 s r f g
     by (Given x) f g = one_exactly _ s r f g
 
-one_shutoff_head : (points : List Point) (h t : ShutoffHead) → IsShutoffOf points h → IsShutoffOf points t → h ≡ t
+pub one_shutoff_head : (points : List Point) (h t : ShutoffHead) → IsShutoffOf points h → IsShutoffOf points t → h ≡ t
 one_shutoff_head [] h t f g = absurd f
 one_shutoff_head (a ∷ []) (FourThirds h) (FourThirds t) f g = ap FourThirds (Decimal-equal h t (f ∙ sym g))
 one_shutoff_head (a ∷ []) (FourThirds h) (Given t) f g = absurd g
@@ -299,11 +275,11 @@ one_pump_kind rows row (Pump a s h p) _ f g = absurd g
 one_pump_kind rows row (CurvePump l p) _ f g = absurd g
 one_pump_kind rows row _ _ f g = absurd f
 
-general_not_throttle : is_keyword (codes "GPV") (codes "TCV") ≡ false
+pub general_not_throttle : is_keyword (codes "GPV") (codes "TCV") ≡ false
 unfolding is_keyword
 general_not_throttle = refl
 
-never_both : (words : List (List ℕ)) → is_throttle words ≡ true → is_general words ≡ true → ⊥
+pub never_both : (words : List (List ℕ)) → is_throttle words ≡ true → is_general words ≡ true → ⊥
 never_both words t g =
     true≢false (sym g ∙ word_apart (codes "TCV") (codes "GPV") (slice_get words 4) t general_not_throttle)
 
@@ -409,21 +385,23 @@ one_link rows row l m f g =
     let from = same_some _ l.from m.from f.ends.from g.ends.from in
     let to = same_some _ l.to m.to f.ends.to g.ends.to in
     let kind = one_kind rows row l.kind m.kind f.kind g.kind in
-    let start = one_start rows row (status_of rows row) l.start m.start f.start g.start in
+    let start = one_start rows row (status_row_of rows row) l.start m.start f.start g.start in
     λ i. record { from = from i; to = to i; kind = kind i; start = start i }
 
 -- ---- patterns and controls
 
-one_pattern : (rows : List Row) (id : List ℕ) (p q : Pattern) → project.IsPattern rows id p
-    → project.IsPattern rows id q → plain_pattern p ≡ plain_pattern q
+pub one_pattern : (rows : List Row) (id : List ℕ) (p q : Pattern) → project_of.IsPattern rows id p
+    → project_of.IsPattern rows id q → plain_pattern p ≡ plain_pattern q
 one_pattern rows id p q f g =
     let multipliers = f ∙ sym g in λ i. record { multipliers = record { list = multipliers i; spare = 0 } }
 
-never_if_at : (words : List (List ℕ)) → word_is 3 (codes "IF") words ≡ true → word_is 3 (codes "AT") words ≡ true → ⊥
+pub never_if_at : (words : List (List ℕ)) → word_is 3 (codes "IF") words ≡ true → word_is 3 (codes "AT") words ≡ true
+    → ⊥
 never_if_at words first second =
     true≢false (sym first ∙ word_apart (codes "AT") (codes "IF") (slice_get words 3) second at_not_if)
 
-one_when : (rows : List Row) (words : List (List ℕ)) (a b : When) → IsWhen rows words a → IsWhen rows words b → a ≡ b
+pub one_when : (rows : List Row) (words : List (List ℕ)) (a b : When) → IsWhen rows words a → IsWhen rows words b → a
+    ≡ b
 one_when rows words (LevelAt t a l) (LevelAt u b m) f g =
     let tanks = same_some _ t u f.1 g.1 in
     let above = f.2 ∙ sym g.2 in
@@ -446,8 +424,8 @@ one_when rows words (ClockAt s) (TimeAt t) f g =
     let off = not-true _ (and_parts (word_is 3 (codes "AT") words) _ g.0).1 in
     absurd (true≢false (sym (and_parts (word_is 3 (codes "AT") words) _ f.0).1 ∙ off))
 
-one_control : (rows : List Row) (words : List (List ℕ)) (c d : Control) → project.IsControl rows words c
-    → project.IsControl rows words d → plain_control c ≡ plain_control d
+one_control : (rows : List Row) (words : List (List ℕ)) (c d : Control) → project_of.IsControl rows words c
+    → project_of.IsControl rows words d → plain_control c ≡ plain_control d
 one_control rows words c d f g =
     let link = same_some _ c.link d.link f.link g.link in
     let to = one_state_of rows (link_named rows (word 1 words)) (word 2 words) c.to d.to f.to g.to in
@@ -456,7 +434,7 @@ one_control rows words c d f g =
 
 -- ---- rules
 
-one_what : (rows : List Row) (words : List (List ℕ)) (o : Option Attribute) (v w : What) → IsWhat rows words o v
+pub one_what : (rows : List Row) (words : List (List ℕ)) (o : Option Attribute) (v w : What) → IsWhat rows words o v
     → IsWhat rows words o w → v ≡ w
 one_what rows words (Some attribute.Head) (Head m) (Head n) f g = ap Head (same_some _ m n f g)
 one_what rows words (Some attribute.Pressure) (Pressure m) (Pressure n) f g = ap Pressure (same_some _ m n f g)
@@ -476,7 +454,7 @@ one_what rows words (Some attribute.Time) Time _ f g = absurd g
 one_what rows words (Some attribute.Clock) Clock _ f g = absurd g
 one_what rows words _ _ _ f g = absurd f
 
-one_amount : (u : FlowUnit) (what : What) (nano : ℤ) (s t : Span) → IsAmount u what nano s → IsAmount u what nano t
+pub one_amount : (u : FlowUnit) (what : What) (nano : ℤ) (s t : Span) → IsAmount u what nano s → IsAmount u what nano t
     → s ≡ t
 one_amount u (Head n) nano s t f g = one_exactly _ s t f g
 one_amount u (Pressure n) nano s t f g = one_rounded _ _ s t f g
@@ -532,8 +510,8 @@ one_action rows words a b f g =
     let to = one_state_of rows (link_named rows (word 2 words)) (word 5 words) a.to b.to f.to g.to in
     λ i. record { link = link i; to = to i }
 
-one_rule : (rows : List Row) (group : List (List (List ℕ))) (r s : Rule) → project.IsRule rows group r
-    → project.IsRule rows group s → plain_rule r ≡ plain_rule s
+one_rule : (rows : List Row) (group : List (List (List ℕ))) (r s : Rule) → project_of.IsRule rows group r
+    → project_of.IsRule rows group s → plain_rule r ≡ plain_rule s
 one_rule rows group r s f g =
     let id = f.id ∙ sym g.id in
     let clauses = one_image (IsClause rows) plain_rule_clause (clause_lines group) r.clauses.list s.clauses.list
@@ -561,24 +539,26 @@ one_project rows p q f g =
     let times = one_times rows p.times q.times f.times g.times in
     let node_ids = f.node_ids_are ∙ sym g.node_ids_are in
     let link_ids = f.link_ids_are ∙ sym g.link_ids_are in
-    let junctions = one_image (project.IsJunction rows) plain_junction (rows_of Junctions rows) p.junctions.list
+    let junctions = one_image (project_of.IsJunction rows) plain_junction (rows_of Junctions rows) p.junctions.list
     q.junctions.list (one_junction rows) f.junctions g.junctions in
-    let reservoirs = one_list (project.IsReservoir rows) (rows_of Reservoirs rows) p.reservoirs.list q.reservoirs.list
+    let reservoirs = one_list (project_of.IsReservoir rows) (rows_of Reservoirs rows) p.reservoirs.list
+    q.reservoirs.list
     (one_reservoir rows) f.reservoirs g.reservoirs in
-    let tanks = one_image (project.IsTank rows) plain_tank (rows_of Tanks rows) p.tanks.list q.tanks.list
+    let tanks = one_image (project_of.IsTank rows) plain_tank (rows_of Tanks rows) p.tanks.list q.tanks.list
     (one_tank rows) f.tanks g.tanks in
     let links = one_image (IsLink rows) plain_link (numbered_links rows) p.links.list q.links.list (one_link rows)
     f.links g.links in
-    let patterns = one_image (project.IsPattern rows) plain_pattern (pattern_ids rows) p.patterns.list
+    let patterns = one_image (project_of.IsPattern rows) plain_pattern (pattern_ids rows) p.patterns.list
     q.patterns.list (one_pattern rows) f.patterns g.patterns in
     let shapes = one_image (λ name list. list.list ≡ shape_points rows name) bare_list (shape_names rows)
     p.shapes.list q.shapes.list (λ name a b x y. ap (λ xs. record { list = xs; spare = 0 }) (x ∙ sym y)) f.shapes
     g.shapes in
     let bends = one_image (λ name list. list.list ≡ bend_points rows name) bare_list (bend_names rows) p.bends.list
     q.bends.list (λ name a b x y. ap (λ xs. record { list = xs; spare = 0 }) (x ∙ sym y)) f.bends g.bends in
-    let controls = one_image (project.IsControl rows) plain_control (words_of Controls rows) p.controls.list
+    let controls = one_image (project_of.IsControl rows) plain_control (words_of Controls rows) p.controls.list
     q.controls.list (one_control rows) f.controls g.controls in
-    let rules = one_image (project.IsRule rows) plain_rule (rule_groups (words_of Rules rows)) p.rules.list q.rules.list
+    let rules = one_image (project_of.IsRule rows) plain_rule (rule_groups (words_of Rules rows)) p.rules.list
+    q.rules.list
     (one_rule rows) f.rules g.rules in
     λ i. record {
       options = options i;

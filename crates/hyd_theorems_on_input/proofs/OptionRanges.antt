@@ -17,7 +17,8 @@ use Rattle.hyd_net.specs.NetworkRanges.{IsPressure, HasOptions}
 use Rattle.hyd_net.specs.declared.options.Options.{Options}
 use Rattle.hyd_net.specs.declared.project.Project.{Project}
 use Rattle.hyd_spec_input.specs.Columns.{first, or_else, unless, needed, ends, one_of, not_negative, up_to, word}
-use Rattle.hyd_spec_input.specs.Columns.{amount, units, word_is, word_is_of, is_option_of, is_option_keyword}
+use Rattle.hyd_spec_input.specs.Columns.{amount, units, word_is, word_is_of, is_option_of, is_option_keyword, of_needed}
+use Rattle.hyd_spec_input.specs.Columns.{number}
 use Rattle.hyd_spec_input.specs.Keywords.{option_word, option_words, more_option_words, unused_option, unused_words}
 use Rattle.hyd_spec_input.specs.Keywords.{more_unused_words, last_unused_words}
 use Rattle.hyd_spec_input.specs.declared.OptionWord.{OptionWord}
@@ -29,23 +30,24 @@ use Rattle.hyd_spec_input.specs.InForce.{pressure_line}
 use Rattle.hyd_spec_input.specs.RowsTogether.{us, pressure, pressures_apart}
 use Rattle.hyd_spec_input.specs.Tables.{pattern_named}
 use Rattle.hyd_spec_input.specs.Project.{IsOptions, IsProject}
+use Rattle.hyd_lemmas.proofs.Trials.{le_z-yes}
 use Rattle.hyd_theorems_on_input.proofs.Places.{all_from}
 use Rattle.hyd_theorems_on_input.proofs.Faultless.{AreRight, right_alone, right_among, or_none, all_none, unless_none}
-use Rattle.hyd_theorems_on_input.proofs.Faultless.{needed_none, at_most, within, in_range}
+use Rattle.hyd_theorems_on_input.proofs.Faultless.{needed_none, within, in_range}
 use Rattle.hyd_theorems_on_input.proofs.InForce.{IsInForce, in_force, say_is, word_is_keyword, first_named_same}
 use Rattle.hyd_theorems_on_input.proofs.InForce.{is_one_of_same}
 use Rattle.hyd_theorems_on_input.proofs.Numbered.{has_pattern}
 
 -- ---- lines
 
-unused_same : (a word : List ℕ) → is_keyword a word ≡ true → unused_option word ≡ unused_option a
+pub unused_same : (a word : List ℕ) → is_keyword a word ≡ true → unused_option word ≡ unused_option a
 unused_same a word e = rw (
   is_one_of_same unused_words a word e,
   is_one_of_same more_unused_words a word e,
   is_one_of_same last_unused_words a word e,
 ) refl
 
-option_word_same : (a word : List ℕ) → is_keyword a word ≡ true → option_word word ≡ option_word a
+pub option_word_same : (a word : List ℕ) → is_keyword a word ≡ true → option_word word ≡ option_word a
 unfolding option_word
 option_word_same a word e = rw (
   first_named_same option_words a word e,
@@ -53,7 +55,7 @@ option_word_same a word e = rw (
   unused_same a word e,
 ) refl
 
-about : (words : List (List ℕ)) (a : List ℕ) (meaning : OptionWord) → option words ≡ None → word_is 0 a words ≡ true
+pub about : (words : List (List ℕ)) (a : List ℕ) (meaning : OptionWord) → option words ≡ None → word_is 0 a words ≡ true
     → option_word a ≡ Some meaning
     → option_about (Some meaning) words ≡ None
 about words a meaning line first is =
@@ -61,15 +63,15 @@ about words a meaning line first is =
     option_word_same a (word 0 words) (word_is_keyword 0 a words first) ∙ is in
     subst (λ (o : Option OptionWord). option_about o words ≡ None) e line
 
-demand_is : option_word (codes "DEMAND") ≡ Some at.Demand
+pub demand_is : option_word (codes "DEMAND") ≡ Some at.Demand
 unfolding option_word is_keyword
 demand_is = refl
 
-minimum_is : option_word (codes "MINIMUM") ≡ Some at.Minimum
+pub minimum_is : option_word (codes "MINIMUM") ≡ Some at.Minimum
 unfolding option_word is_keyword
 minimum_is = refl
 
-required_is : option_word (codes "REQUIRED") ≡ Some at.Required
+pub required_is : option_word (codes "REQUIRED") ≡ Some at.Required
 unfolding option_word is_keyword
 required_is = refl
 
@@ -132,7 +134,7 @@ bound_in : (words : List (List ℕ)) → bound_line words ≡ None → pos 0 ≤
 bound_in words line =
     let each = all_none (needed (one_of (codes "PRESSURE" ∷ [])) 1 words ∷ needed not_negative 2 words ∷ ends 3 words
     ∷ []) line in
-    at_most (pos 0) (amount 2 words) (in_range (λ nano. le_z (pos 0) nano) (word 2 words)
+    le_z-yes (pos 0) (amount 2 words) (in_range (λ nano. le_z (pos 0) nano) (word 2 words)
     (needed_none not_negative 2 words each.1.0).right)
 
 pressure_right : (rows : List Row) (a : List ℕ) (row : Row) → AreRight rows → is_one_of pressure_words a ≡ true
@@ -140,7 +142,7 @@ pressure_right : (rows : List Row) (a : List ℕ) (row : Row) → AreRight rows 
     → bound_line row.words ≡ None → IsPressureOf (us rows) (amount 2 row.words)
 pressure_right rows a row right one found line = record {
   not_negative = bound_in row.words line;
-  at_most = at_most _ _ (unless_none _ _ (judged rows a row right one found).0);
+  at_most = le_z-yes _ _ (unless_none _ _ (judged rows a row right one found).0);
 }
 
 least_pressure : (us : Bool) → IsPressureOf us (pos 0)
@@ -176,7 +178,7 @@ apart_at rows a row right one found depends line =
     let here : (row.number == pressure_line rows) ≡ true = eq-eqb row.number (pressure_line rows) line in
     let test : unless (le_z (minimum_pressure rows +ℤ pos (10 ^ 8)) (required_pressure rows)) Range ≡ None =
     rw (depends, here) at (judged rows a row right one found).1 in
-    at_most _ _ (unless_none _ _ test)
+    le_z-yes _ _ (unless_none _ _ test)
 
 -- whichever of the two lines is the later one
 apart_by : (rows : List Row) (minimum required : Option Row) → AreRight rows → depends_on_pressure rows ≡ true
@@ -219,3 +221,13 @@ has_options rows p right of = record {
       of.options.default_pattern
       (all_from (λ _. ⊤) (pattern_named rows (default_pattern rows)) (λ k x is. tt));
 }
+
+pub of_needed_number : (o : Option (List ℕ)) → of_needed not_negative o ≡ None → of_needed number o ≡ None
+of_needed_number None e = absurd (let x : ⊥ = cc in x)
+of_needed_number (Some w) e = (or_none (number w) _ e).0
+
+pub bound_number : (words : List (List ℕ)) → bound_line words ≡ None → needed number 2 words ≡ None
+bound_number words line =
+    let each = all_none (needed (one_of (codes "PRESSURE" ∷ [])) 1 words ∷ needed not_negative 2 words ∷ ends 3 words
+    ∷ []) line in
+    of_needed_number (slice_get words 2) each.1.0

@@ -1,12 +1,15 @@
 -- Lists by their places: what holds of each item, items that match, what a filter keeps.
 use Rattle.std.proofs.Common.{◌≡◌, ℕ, ◌+◌, ◌<◌, zero, suc, Bool, true, false, List, [], ◌∷◌, ◌++◌, map, length, get_or}
-use Rattle.std.proofs.Common.{take, drop, Some, refl, ap, ◌∙◌, subst, arith, inl, inr, append-nil}
+use Rattle.std.proofs.Common.{take, drop, Some, refl, ap, ◌∙◌, subst, arith, inl, inr, append-nil, ◌==◌}
 use Rattle.std.specs.Prelude.{slice_get, filter, ◌⊎◌}
 use Rattle.std.specs.List.{All}
 use Rattle.std.proofs.lemmas.List.{take_more}
 use Rattle.std.proofs.lemmas.List.Elements.{All-filter, filter_passes, filter-append}
 use Rattle.std.proofs.lemmas.Option.{slice_get_within, get_or_from_slice_get, slice_get-get_or}
 use Rattle.hyd_spec_input.specs.Project.{Match}
+use Rattle.hyd_spec_lines.specs.declared.section.Section.{Section}
+use Rattle.hyd_spec_lines.specs.declared.section.Section.TheVariants.{Junctions}
+use Rattle.hyd_spec_input.specs.Tables.{place}
 
 -- ---- each item
 
@@ -125,3 +128,7 @@ pub split_at : {X : Type 0} (xs : List X) (k : ℕ) (x : X) → slice_get xs k �
 split_at [] k x e = absurd (let y : ⊥ = cc in y)
 split_at (y ∷ xs) zero x e = let same : y ≡ x = cc in ap (λ z. z ∷ xs) same
 split_at (y ∷ xs) (suc k) x e = ap (λ zs. y ∷ zs) (split_at xs k x e)
+
+pub own_section : (section : Section) → (place section == place section) ≡ true
+own_section Junctions = refl
+own_section _ = refl

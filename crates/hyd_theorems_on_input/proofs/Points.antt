@@ -22,7 +22,8 @@ use Rattle.hyd_spec_input.specs.Tables.{Point}
 use Rattle.hyd_spec_input.specs.Curves.{is_head, in_turn, at_start, at_end, head_points, is_slower, is_faster, has_flow}
 use Rattle.hyd_spec_input.specs.Curves.{is_pump_bend, begins_at_0, is_valve_bend, is_fuller, covers, is_volume_curve}
 use Rattle.hyd_lemmas.proofs.Each.{all_by}
-use Rattle.hyd_theorems_on_input.proofs.Faultless.{at_most, below, lies}
+use Rattle.hyd_lemmas.proofs.Trials.{le_z-yes, lt_z-yes}
+use Rattle.hyd_theorems_on_input.proofs.Faultless.{lies}
 
 -- ---- neighbours
 
@@ -121,10 +122,10 @@ has_flow_lies point e = lies _ _ point.flow e
 -- ---- curves of pumps
 
 slower_flow : (a b : HeadPoint) → is_slower a b ≡ true → a.flow <ℤ b.flow
-slower_flow a b e = below a.flow b.flow (and_parts (lt_z a.flow b.flow) (lt_z b.head a.head) e).0
+slower_flow a b e = lt_z-yes a.flow b.flow (and_parts (lt_z a.flow b.flow) (lt_z b.head a.head) e).0
 
 slower_head : (a b : HeadPoint) → is_slower a b ≡ true → b.head <ℤ a.head
-slower_head a b e = below b.head a.head (and_parts (lt_z a.flow b.flow) (lt_z b.head a.head) e).1
+slower_head a b e = lt_z-yes b.head a.head (and_parts (lt_z a.flow b.flow) (lt_z b.head a.head) e).1
 
 pub pump_curve_right : (points : List HeadPoint) → 4 ≤ length points → is_pump_bend points ≡ true → IsPumpCurve points
 pump_curve_right points four e =
@@ -139,11 +140,11 @@ pump_curve_right points four e =
       four = four;
       flows = all_by HeadPoint (λ p. IsFlow p.flow) has_flow has_flow_lies points first.0;
       forward = from_start (λ p. pos 0 ≤ℤ p.flow) (λ p. le_z (pos 0) p.flow) is_slower
-          (λ a s. at_most (pos 0) a.flow s)
+          (λ a s. le_z-yes (pos 0) a.flow s)
           (λ a b s p. let l = slower_flow a b s in omega (arith, ints, l, p)) points first.1 ends.0;
       flows_rise = rising (λ (p : HeadPoint). p.flow) is_slower slower_flow points first.1;
       heads_fall = falling (λ (p : HeadPoint). p.head) is_slower slower_head points first.1;
-      lifts = from_end (λ p. pos 0 ≤ℤ p.head) (λ p. le_z (pos 0) p.head) is_slower (λ a s. at_most (pos 0) a.head s)
+      lifts = from_end (λ p. pos 0 ≤ℤ p.head) (λ p. le_z (pos 0) p.head) is_slower (λ a s. le_z-yes (pos 0) a.head s)
           (λ a b s p. let l = slower_head a b s in omega (arith, ints, l, p)) points first.1 ends.1;
       shutoff = second.1;
     }
@@ -151,10 +152,10 @@ pump_curve_right points four e =
 -- ---- curves of general purpose valves
 
 faster_flow : (a b : HeadPoint) → is_faster a b ≡ true → a.flow <ℤ b.flow
-faster_flow a b e = below a.flow b.flow (and_parts (lt_z a.flow b.flow) (lt_z a.head b.head) e).0
+faster_flow a b e = lt_z-yes a.flow b.flow (and_parts (lt_z a.flow b.flow) (lt_z a.head b.head) e).0
 
 faster_head : (a b : HeadPoint) → is_faster a b ≡ true → a.head <ℤ b.head
-faster_head a b e = below a.head b.head (and_parts (lt_z a.flow b.flow) (lt_z a.head b.head) e).1
+faster_head a b e = lt_z-yes a.head b.head (and_parts (lt_z a.flow b.flow) (lt_z a.head b.head) e).1
 
 no_flow : (unit : FlowUnit) → flow_ticks unit (pos 0) ≡ pos 0
 no_flow Cfs = refl
@@ -203,10 +204,10 @@ loss_curve_right unit us points begins e =
 -- ---- volume curves
 
 fuller_level : (a b : VolumePoint) → is_fuller a b ≡ true → a.level <ℤ b.level
-fuller_level a b e = below a.level b.level (and_parts (lt_z a.level b.level) (lt_z a.volume b.volume) e).0
+fuller_level a b e = lt_z-yes a.level b.level (and_parts (lt_z a.level b.level) (lt_z a.volume b.volume) e).0
 
 fuller_volume : (a b : VolumePoint) → is_fuller a b ≡ true → a.volume <ℤ b.volume
-fuller_volume a b e = below a.volume b.volume (and_parts (lt_z a.level b.level) (lt_z a.volume b.volume) e).1
+fuller_volume a b e = lt_z-yes a.volume b.volume (and_parts (lt_z a.level b.level) (lt_z a.volume b.volume) e).1
 
 -- a curve that covers the levels of a tank
 pub record Covers (minimum maximum : ℤ) (points : List VolumePoint) : Type 0 where
@@ -241,10 +242,10 @@ volume_curve_right minimum maximum points e =
     let covered = and_parts (at_start (λ (p : VolumePoint). le_z p.level minimum) points)
     (at_end (λ (p : VolumePoint). le_z maximum p.level) points) second.0 in
     let least = from_start (λ p. pos 0 ≤ℤ p.volume) (λ p. le_z (pos 0) p.volume) is_fuller
-    (λ a s. at_most (pos 0) a.volume s)
+    (λ a s. le_z-yes (pos 0) a.volume s)
     (λ a b s p. let l = fuller_volume a b s in omega (arith, ints, l, p)) points inner.1 ends.0 in
     let most = from_end (λ p. p.volume ≤ℤ pos (10 ^ 18)) (λ p. le_z p.volume (pos (10 ^ 18))) is_fuller
-    (λ a s. at_most a.volume (pos (10 ^ 18)) s)
+    (λ a s. le_z-yes a.volume (pos (10 ^ 18)) s)
     (λ a b s p. let l = fuller_volume a b s in omega (arith, ints, l, p)) points inner.1 ends.1 in
     record {
       curve = record {
@@ -255,9 +256,9 @@ volume_curve_right minimum maximum points e =
         levels_rise = rising (λ (p : VolumePoint). p.level) is_fuller fuller_level points inner.1;
         volumes_rise = rising (λ (p : VolumePoint). p.volume) is_fuller fuller_volume points inner.1;
       };
-      from_minimum = first_is (λ p. p.level ≤ℤ minimum) (λ p. le_z p.level minimum) (λ p t. at_most p.level minimum t)
+      from_minimum = first_is (λ p. p.level ≤ℤ minimum) (λ p. le_z p.level minimum) (λ p t. le_z-yes p.level minimum t)
           points covered.0;
-      to_maximum = last_is (λ p. maximum ≤ℤ p.level) (λ p. le_z maximum p.level) (λ p t. at_most maximum p.level t)
+      to_maximum = last_is (λ p. maximum ≤ℤ p.level) (λ p. le_z maximum p.level) (λ p t. le_z-yes maximum p.level t)
           points covered.1;
-      apart = at_most _ _ second.1;
+      apart = le_z-yes _ _ second.1;
     }

@@ -20,7 +20,7 @@ use Rattle.hyd_spec_input.specs.Columns.{amount}
 use Rattle.hyd_spec_input.specs.NetworkRows.{valve_minor}
 use Rattle.hyd_spec_input.specs.Tables.{rows_of, is_of}
 use Rattle.hyd_spec_input.specs.InForce.{unit}
-use Rattle.hyd_spec_input.specs.MeaningsAcrossRows.{emitter_of, status_of}
+use Rattle.hyd_spec_input.specs.MeaningsAcrossRows.{emitter_of, status_row_of}
 use Rattle.hyd_spec_input.specs.RowsTogether.{us}
 use Rattle.hyd_spec_input.specs.Project as project
 use Rattle.hyd_spec_input.specs.Project.{Where, IsProject, IsLink, IsKind, IsValveKind, numbered_links}
@@ -120,7 +120,7 @@ across_right rows p right of number inside =
     let found = item_at p.links.list number inside in
     let pair = partner (IsLink rows) (numbered_links rows) p.links.list number found.item of.links found.is in
     let stands = link_stands rows number pair.item pair.is in
-    let asks = start_by rows stands.0.place pair.item found.item.start (status_of rows pair.item) right stands.0.is
+    let asks = start_by rows stands.0.place pair.item found.item.start (status_row_of rows pair.item) right stands.0.is
     stands.1 refl pair.holds.start in
     let start = state_right rows stands.0.place pair.item found.item.kind found.item.start right stands.0.is stands.1
     pair.holds.kind asks in

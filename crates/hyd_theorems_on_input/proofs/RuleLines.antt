@@ -15,7 +15,8 @@ use Rattle.hyd_spec_input.specs.declared.RuleWord.TheVariants.{Rule, If, And, Or
 use Rattle.hyd_spec_input.specs.declared.Stage.{Stage}
 use Rattle.hyd_spec_input.specs.declared.Stage.TheVariants.{Outside, Named, Asking, Acting, Otherwise, Closed}
 use Rattle.hyd_spec_input.specs.RuleRows as alone
-use Rattle.hyd_spec_input.specs.RuleRows.{stage_by, begins_with, stage_after, is_acting, line_words, words_about}
+use Rattle.hyd_spec_input.specs.RuleRows.{stage_by, begins_with, stage_after, is_acting, words_of_rule_line}
+use Rattle.hyd_spec_input.specs.RuleRows.{words_about}
 use Rattle.hyd_spec_input.specs.RuleRows.{in_order, is_rule, until_rule, gets_then}
 use Rattle.hyd_spec_input.specs.Tables.{is_of, rows_of, words_of, words_of_row}
 use Rattle.hyd_spec_input.specs.MeaningsAcrossRows.{rule_groups, lines_at, is_asking, is_doing, is_otherwise}
@@ -29,7 +30,7 @@ use Rattle.hyd_theorems_on_input.proofs.Faultless.{AreRight, right_alone, right_
 -- what no fault says of a line that stands at a stage
 pub record LineRight (rows : List Row) (stage : Stage) (words : List (List ℕ)) : Type 0 where
   pub order : in_order stage (begins_with words) ≡ None
-  pub by_itself : line_words (is_acting stage) words ≡ None
+  pub by_itself : words_of_rule_line (is_acting stage) words ≡ None
   pub with_others : is_part_word (begins_with words) ≡ true
       → (if is_action_word (begins_with words) (is_acting stage) then others.action rows words else
       others.clause rows words) ≡ None
@@ -91,7 +92,7 @@ row_line rows k row right is of =
     let earlier = words_of RulesSection (take k rows) in
     let later = words_of RulesSection (drop (k + 1) rows) in
     let each =
-    all_none (in_order (stage_after earlier) (begins_with row.words) ∷ line_words
+    all_none (in_order (stage_after earlier) (begins_with row.words) ∷ words_of_rule_line
     (is_acting (stage_after earlier)) row.words
     ∷ unless (gets_then row.words later) Syntax ∷ []) (right_alone rows RulesSection k row right is of) in
     record {

@@ -32,8 +32,8 @@ text =
 abbrev pub listed : {T : Type 0} → List T → ListView T
 listed items = record { list = items; spare = 0 }
 
-abbrev pub network : Project
-network = record {
+abbrev pub project : Project
+project = record {
   options = record {
     unit = Cmd;
     pda = true;

@@ -15,7 +15,7 @@ ghost use Rattle.hyd_net.specs.Sound.{HasIds, IsWithinLimits, HasEnds, AreTimes,
 ghost use Rattle.hyd_net.specs.RoundedFileNumbers.{IsAllMade};
 ghost use Rattle.hyd_spec_input.specs.Faults.{IsFault, HasNoFault};
 ghost use Rattle.hyd_spec_input.specs.Project.{IsProject};
-ghost use Rattle.hyd_theorems_on_input.specs.Example.{text, network};
+ghost use Rattle.hyd_theorems_on_input.specs.Example.{text, project};
 
 /// Each node and each link has one ID of 1 to 31 bytes, and no two nodes and no two links have the same one.
 pub fn ids()
@@ -98,7 +98,7 @@ pub fn sound()
 /// There are such texts and projects: a text with most kinds of rows has no fault, and this is its project.
 pub fn example()
     ensures fault { HasNoFault text }
-    ensures project { IsProject (rows_in (items_of text)) network }
+    ensures project { IsProject (rows_in (items_of text)) project }
 {}
 
 /// A text has one fault at most: any two have the same line and cause.

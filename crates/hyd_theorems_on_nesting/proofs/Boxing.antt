@@ -17,20 +17,20 @@ use Rattle.hyd_spec.specs.NodeNumbers.{tank_node, tank_count, junction_count, re
 use Rattle.hyd_spec.specs.DemandsReservoirHeadsAndCurves.{reservoir_head}
 use Rattle.hyd_spec.specs.Assignment.{head_at}
 use Rattle.hyd_spec_certificates.specs.PeriodNetwork.{Grid, GridLink, IsJunctionOf, all_heads, fixed_heads, end_on}
-use Rattle.hyd_spec_certificates.specs.PeriodNetwork.{opposite}
-use Rattle.hyd_spec_certificates.specs.PeriodNetwork.{tank_side, tank_intervals}
+use Rattle.hyd_spec_certificates.specs.PeriodNetwork.{opposite, tank_side, tank_intervals}
 use Rattle.hyd_spec_certificates.specs.FlowIntervals.{flow_box, inflow_box}
 use Rattle.hyd_spec_certificates.specs.Certificate.{IsCertificate}
 use Rattle.hyd_spec_certificates.specs.RecordAndStanding.{Record, Standing, Vectors, no_vectors, vector_of}
 use Rattle.hyd_spec_certificates.specs.Decided.{level_of_tank, inflow_of_tank, heads_below, heads_above, nowhere}
 use Rattle.hyd_spec_certificates.specs.Valid.{IsProblem}
 use Rattle.hyd_theorems_on_definitions.specs.TermsOfTheorems.{IsSoundLaw, IsInside}
+use Rattle.hyd_num.proofs.Integers.{one_times}
+use Rattle.hyd_lemmas.proofs.ListsAndOptions.{same_item}
 use Rattle.hyd_theorems_on_definitions.proofs.EachLaw.{IsLaw-each}
-use Rattle.hyd_theorems_on_definitions.proofs.Leading.{one_times}
 use Rattle.hyd_theorems_on_definitions.proofs.Nodes.{excess}
 use Rattle.hyd_theorems_on_definitions.proofs.Comparison.{place_long}
 use Rattle.hyd_theorems_on_nesting.specs.Nesting.{IsOrdered, AreNested}
-use Rattle.hyd_theorems_on_histories.proofs.Places.{same_item, numbered_from_start}
+use Rattle.hyd_theorems_on_histories.proofs.Places.{numbered_from_start}
 use Rattle.hyd_theorems_on_nesting.proofs.TwoSides.{heads_below_plus}
 use Rattle.hyd_theorems_on_definitions.proofs.NetRising.{low-rises, high-rises, net-rises, net-ordered, item-at}
 use Rattle.hyd_spec_certificates.specs.EnclosingFunctions.{low, high}
@@ -103,13 +103,13 @@ interval-there (u ∷ tanks) (l ∷ levels) zero t at same = ap (λ (v : Tank). 
     (same_item Tank u t at)
 interval-there (u ∷ tanks) (l ∷ levels) (suc k) t at same = interval-there tanks levels k t at (omega (arith, same))
 
-module _ (network : Project) (standing : Standing) (grid : Grid) (outer inner : Record)
-    (nested : AreNested network standing grid outer inner) where
+module _ (project : Project) (standing : Standing) (grid : Grid) (outer inner : Record)
+    (nested : AreNested project standing grid outer inner) where
   -- ---- the grid's tanks
 
   grid-ordered : (k : ℕ) (x : Interval) → slice_get grid.tanks k ≡ Some x → x.lo ≤ℤ x.hi
   grid-ordered k x at =
-      let is = interval-at network.tanks.list standing.levels k x
+      let is = interval-at project.tanks.list standing.levels k x
       (subst (λ xs. slice_get xs k ≡ Some x) nested.is_grid.tank_heads at) in
       let o = (nested.ordered k).level in
       subst (λ y. y.lo ≤ℤ y.hi) (sym is.1) (omega (arith, ints, o))
@@ -124,7 +124,7 @@ module _ (network : Project) (standing : Standing) (grid : Grid) (outer inner : 
       omega (arith, ints, o))) m in
       omega (arith, ints, h)
 
-  upper-within : (problem : Problem) → IsProblem network problem → (m : ℕ)
+  upper-within : (problem : Problem) → IsProblem project problem → (m : ℕ)
       → head_at (all_heads grid problem Upper (vector_of inner problem Upper)) m ≤ℤ head_at
       (all_heads grid problem Upper (vector_of outer problem Upper)) m
   upper-within problem is =
@@ -134,7 +134,7 @@ module _ (network : Project) (standing : Standing) (grid : Grid) (outer inner : 
       (a ∙ sym b)
       (λ m lt. let t = item-at grid.junctions m (omega (arith, lt, a)) in nested.about.upper problem is m t.0 t.1)
 
-  lower-within : (problem : Problem) → IsProblem network problem → (m : ℕ)
+  lower-within : (problem : Problem) → IsProblem project problem → (m : ℕ)
       → head_at (all_heads grid problem Lower (vector_of outer problem Lower)) m ≤ℤ head_at
       (all_heads grid problem Lower (vector_of inner problem Lower)) m
   lower-within problem is =
@@ -192,39 +192,39 @@ module _ (network : Project) (standing : Standing) (grid : Grid) (outer inner : 
   -- ---- inflow boxes
 
   tank-head : (problem : Problem) (side : Side) (u : List ℤ) (k : ℕ) (tank : Tank) → IsCertificate grid problem side u
-      → slice_get network.tanks.list k ≡ Some tank
-      → head_at (all_heads grid problem side u) (tank_node network k) ≡ end_on (tank_side problem side k)
+      → slice_get project.tanks.list k ≡ Some tank
+      → head_at (all_heads grid problem side u) (tank_node project k) ≡ end_on (tank_side problem side k)
       (shifted tank.bottom (level_of_tank standing k))
   tank-head problem side u k tank certificate at =
-      let junctions : length u ≡ junction_count network = certificate.one_each
+      let junctions : length u ≡ junction_count project = certificate.one_each
       ∙ sym
-      (place_long (IsJunctionOf network standing.time) network.junctions.list grid.junctions
+      (place_long (IsJunctionOf project standing.time) project.junctions.list grid.junctions
       nested.is_grid.junctions) in
-      let reservoirs : length grid.reservoirs ≡ reservoir_count network = ap length nested.is_grid.reservoirs
-      ∙ long-mapped Reservoir ℤ (reservoir_head network standing.time) network.reservoirs.list in
+      let reservoirs : length grid.reservoirs ≡ reservoir_count project = ap length nested.is_grid.reservoirs
+      ∙ long-mapped Reservoir ℤ (reservoir_head project standing.time) project.reservoirs.list in
       let place : slice_get grid.tanks k ≡ Some (shifted tank.bottom (level_of_tank standing k)) =
       ap (λ xs. slice_get xs k) nested.is_grid.tank_heads
-      ∙ interval-there network.tanks.list standing.levels k tank at nested.levels_each in
-      let n : tank_node network k ≡ junction_count network + (reservoir_count network + k) = omega arith in
+      ∙ interval-there project.tanks.list standing.levels k tank at nested.levels_each in
+      let n : tank_node project k ≡ junction_count project + (reservoir_count project + k) = omega arith in
       ap (head_at (all_heads grid problem side u)) n
-      ∙ past u (fixed_heads grid problem side) (junction_count network) (reservoir_count network + k) junctions
-      ∙ past grid.reservoirs _ (reservoir_count network) k reservoirs
+      ∙ past u (fixed_heads grid problem side) (junction_count project) (reservoir_count project + k) junctions
+      ∙ past grid.reservoirs _ (reservoir_count project) k reservoirs
       ∙ numbered_from_start Interval ℤ (λ i x. end_on (tank_side problem side i) x) grid.tanks k
       (shifted tank.bottom (level_of_tank standing k)) (pos 0) place
 
-  inflow-is : (row : Record) (k : ℕ) → length row.pinned ≡ tank_count network → k < tank_count network
-      → inflow_of_tank network grid row k ≡ inflow_box grid k (tank_node network k) (vector_of row (Pinned k) Lower)
+  inflow-is : (row : Record) (k : ℕ) → length row.pinned ≡ tank_count project → k < tank_count project
+      → inflow_of_tank project grid row k ≡ inflow_box grid k (tank_node project k) (vector_of row (Pinned k) Lower)
       (vector_of row (Pinned k) Upper)
   inflow-is row k same inside =
-      numbered_from_start Vectors Interval (λ n v. inflow_box grid n (tank_node network n) v.lower v.upper) row.pinned k
+      numbered_from_start Vectors Interval (λ n v. inflow_box grid n (tank_node project n) v.lower v.upper) row.pinned k
       (slice_index_or row.pinned k no_vectors) nowhere
       (slice_get-get_or row.pinned k no_vectors (omega (arith, same, inside)))
 
-  pub inflow_inside : (k : ℕ) (tank : Tank) → slice_get network.tanks.list k ≡ Some tank
-      → IsInside (inflow_of_tank network grid inner k) (inflow_of_tank network grid outer k)
+  pub inflow_inside : (k : ℕ) (tank : Tank) → slice_get project.tanks.list k ≡ Some tank
+      → IsInside (inflow_of_tank project grid inner k) (inflow_of_tank project grid outer k)
   inflow_inside k tank at =
-      let inside : k < tank_count network = slice_get_within network.tanks.list k tank at in
-      let node = tank_node network k in
+      let inside : k < tank_count project = slice_get_within project.tanks.list k tank at in
+      let node = tank_node project k in
       let up = upper-within (Pinned k) inside in
       let down = lower-within (Pinned k) inside in
       let a = tank-head (Pinned k) Upper (vector_of inner (Pinned k) Upper) k tank
@@ -266,16 +266,16 @@ module _ (network : Project) (standing : Standing) (grid : Grid) (outer inner : 
   own-high : (k : ℕ) (x : Interval) → end_on (tank_side (Pinned k) Upper k) x ≡ x.lo
   own-high k x = rw (eq-eqb k k refl) refl
 
-  pub inflow_ordered : (k : ℕ) (tank : Tank) → slice_get network.tanks.list k ≡ Some tank
-      → IsOrdered (inflow_of_tank network grid inner k)
+  pub inflow_ordered : (k : ℕ) (tank : Tank) → slice_get project.tanks.list k ≡ Some tank
+      → IsOrdered (inflow_of_tank project grid inner k)
   inflow_ordered k tank at =
-      let inside : k < tank_count network = slice_get_within network.tanks.list k tank at in
-      let node = tank_node network k in
+      let inside : k < tank_count project = slice_get_within project.tanks.list k tank at in
+      let node = tank_node project k in
       let x : Interval = shifted tank.bottom (level_of_tank standing k) in
       let o = (nested.ordered k).level in
       let room : pos 0 ≤ℤ (x.hi -ℤ x.lo) = omega (arith, ints, o) in
       let place : slice_get grid.tanks k ≡ Some x = ap (λ xs. slice_get xs k) nested.is_grid.tank_heads
-      ∙ interval-there network.tanks.list standing.levels k tank at nested.levels_each in
+      ∙ interval-there project.tanks.list standing.levels k tank at nested.levels_each in
       let v = vector_of inner (Pinned k) Lower in
       let u = vector_of inner (Pinned k) Upper in
       let over = nested.inner_certificates.each (Pinned k) Upper inside in

@@ -62,39 +62,39 @@ rule-known : (truth : Clause → Verdict) (rule : Rule)
     → is_unknown (all_hold (map (λ group. some_holds (map truth group)) (groups_of rule))) ≡ false
 rule-known truth rule all = groups-known truth (groups_of rule) (in-groups (IsKnown truth) rule all)
 
-module _ (network : Project) (grid : Grid) (standing : Standing) (row : Record) where
+module _ (project : Project) (grid : Grid) (standing : Standing) (row : Record) where
   abbrev clause-at : ℕ → Clause → Verdict
   clause-at seconds clause =
-      clause_between network (standing.time + seconds) (readings_below network grid standing row seconds)
-      (readings_above network grid standing row seconds) clause
+      clause_between project (standing.time + seconds) (readings_below project grid standing row seconds)
+      (readings_above project grid standing row seconds) clause
 
   abbrev truths : ℕ → List Verdict
-  truths seconds = rule_truths network grid standing row seconds
+  truths seconds = rule_truths project grid standing row seconds
 
   pub open_rule_is : (seconds : ℕ) → list_any is_unknown (truths seconds) ≡ true
-      → (open_rule : OpenRule) × IsOpenRule network grid standing row seconds open_rule
+      → (open_rule : OpenRule) × IsOpenRule project grid standing row seconds open_rule
   open_rule_is seconds unknown = elim (find_or_none Verdict is_unknown (truths seconds)) [
     | inr none ↦ absurd (
         let any = any-there Verdict is_unknown (truths seconds) unknown in
         never (is_unknown any.item) any.passes (none.fails any.item any.contained))
     | inl found ↦
-        let m = mapped_at Rule Verdict (rule_truth network grid standing row seconds)
-        network.rules.list found.place found.item found.is_item in
+        let m = mapped_at Rule Verdict (rule_truth project grid standing row seconds)
+        project.rules.list found.place found.item found.is_item in
         elim (find_or_none RuleClause (λ each. is_unknown (clause-at seconds each.clause)) m.item.clauses.list) [
           | inr none ↦ absurd (
               let known = rule-known (clause-at seconds) m.item
               (all_contained RuleClause (λ each. is_unknown (clause-at seconds each.clause) ≡ false)
               m.item.clauses.list none.fails) in
-              never (is_unknown (rule_truth network grid standing row seconds m.item)) (ap is_unknown m.same
+              never (is_unknown (rule_truth project grid standing row seconds m.item)) (ap is_unknown m.same
               ∙ found.passes) known)
           | inl clause ↦ (
             record {
               rule = found.place;
               clause = clause.place;
               lo =
-                  floor (measured network 1 (readings_below network grid standing row seconds) clause.item.clause.what);
+                  floor (measured project 1 (readings_below project grid standing row seconds) clause.item.clause.what);
               hi =
-                  ceiling (measured network 1 (readings_above network grid standing row seconds)
+                  ceiling (measured project 1 (readings_above project grid standing row seconds)
                   clause.item.clause.what);
             },
             record {
@@ -116,10 +116,10 @@ module _ (network : Project) (grid : Grid) (standing : Standing) (row : Record) 
 
   -- ---- whether the rules matter
 
-  tried-or-not : (seconds : ℕ) → IsTried network standing seconds ⊎ (IsTried network standing seconds → ⊥)
+  tried-or-not : (seconds : ℕ) → IsTried project standing seconds ⊎ (IsTried project standing seconds → ⊥)
   tried-or-not seconds = elim (cases_lt 0 seconds) [
     | inr none ↦ inr (λ tried. let l = tried.later in absurd (omega (arith, l, none)))
-    | inl later ↦ elim (cases_eq ((standing.time + seconds) % network.times.rule) 0) [
+    | inl later ↦ elim (cases_eq ((standing.time + seconds) % project.times.rule) 0) [
       | inl multiple ↦ inl (record { later = later; is_multiple = multiple })
       | inr other ↦ inr (λ tried. other tried.is_multiple)
     ]
@@ -127,24 +127,24 @@ module _ (network : Project) (grid : Grid) (standing : Standing) (row : Record) 
 
   abbrev Matters : ℕ → Type 0
   Matters seconds = (list_any is_unknown (truths seconds) ≡ true) ⊎
-      (decided_changes network grid standing row seconds ≢ [])
+      (decided_changes project grid standing row seconds ≢ [])
 
   matters-or-not : (seconds : ℕ) → Matters seconds ⊎ (Matters seconds → ⊥)
   matters-or-not seconds = elim (cases_Bool (list_any is_unknown (truths seconds))) [
     | inl unknown ↦ inl (inl unknown)
-    | inr known ↦ elim (is-empty Change (decided_changes network grid standing row seconds)) [
+    | inr known ↦ elim (is-empty Change (decided_changes project grid standing row seconds)) [
       | inl none ↦ inr (neither known none)
       | inr some ↦ inl (inr some)
     ]
   ]
     where
       neither : list_any is_unknown (truths seconds) ≡ false
-          → decided_changes network grid standing row seconds ≡ [] → Matters seconds → ⊥
+          → decided_changes project grid standing row seconds ≡ [] → Matters seconds → ⊥
       neither known none (inl unknown) = absurd (cc)
       neither known none (inr some) = some none
 
   rules-matter-or-not : (seconds : ℕ)
-      → RulesMatter network grid standing row seconds ⊎ (RulesMatter network grid standing row seconds → ⊥)
+      → RulesMatter project grid standing row seconds ⊎ (RulesMatter project grid standing row seconds → ⊥)
   rules-matter-or-not seconds = elim (tried-or-not seconds) [
     | inr untried ↦ inr (λ m. untried m.tried)
     | inl tried ↦ elim (matters-or-not seconds) [
@@ -155,33 +155,33 @@ module _ (network : Project) (grid : Grid) (standing : Standing) (row : Record) 
 
   -- ---- the end
 
-  module _ (some : 1 ≤ network.times.hydraulic) (not_last : standing.time ≢ network.times.duration) where
+  module _ (some : 1 ≤ project.times.hydraulic) (not_last : standing.time ≢ project.times.duration) where
     abbrev SomeEnd : Type 0
-    SomeEnd = (e : End) × EndsBy network grid standing row e
+    SomeEnd = (e : End) × EndsBy project grid standing row e
 
-    by-matter : (seconds : ℕ) → IsFirstMatter network grid standing row seconds → SomeEnd
+    by-matter : (seconds : ℕ) → IsFirstMatter project grid standing row seconds → SomeEnd
     by-matter seconds first = elim (cases_Bool (list_any is_unknown (truths seconds))) [
       | inr known ↦ (ByRules seconds, by_rules first known)
       | inl unknown ↦ let found = open_rule_is seconds unknown in (RuleIsOpen found.0, rule_is_open first found.1)
     ]
 
-    without-rules : (earliest : ℕ) → NoRuleMatters network grid standing row earliest → SomeEnd
+    without-rules : (earliest : ℕ) → NoRuleMatters project grid standing row earliest → SomeEnd
     without-rules earliest none =
-        let latest = latest_is network grid standing row some in
+        let latest = latest_is project grid standing row some in
         elim (cases_eq earliest latest.0) [
           | inl same ↦ (
             WithoutRules earliest,
-            by_clock none (subst (IsLatestEnd network grid standing row)
+            by_clock none (subst (IsLatestEnd project grid standing row)
                 (sym same) latest.1),
           )
           | inr differ ↦ (EventIsOpen earliest latest.0, event_is_open none latest.1 differ)
         ]
 
     pub some_end : SomeEnd
-    some_end = by-earliest (earliest_is network grid standing row some)
+    some_end = by-earliest (earliest_is project grid standing row some)
       where
-        by-earliest : ((e : ℕ) × IsEarliestEnd network grid standing row e) → SomeEnd
-        by-earliest (earliest, is) = elim (first-below (RulesMatter network grid standing row) rules-matter-or-not
+        by-earliest : ((e : ℕ) × IsEarliestEnd project grid standing row e) → SomeEnd
+        by-earliest (earliest, is) = elim (first-below (RulesMatter project grid standing row) rules-matter-or-not
             (suc earliest)) [
               | inr none ↦ without-rules earliest (record {
                 not_last = not_last;

@@ -40,9 +40,9 @@ use Rattle.hyd_theorems_on_nesting.proofs.Holding.{tight_continues, tight-nested
 
 -- ---- positions
 
-none-open : (network : Project) (levels : List Interval) (states : List TankState) → AreStates network levels states
-    → (k : ℕ) → k < length (open_states network levels) → slice_index_or (open_states network levels) k false ≡ false
-none-open network levels = over (λ k tank. state_of tank (slice_index_or levels k nowhere)) 0 network.tanks.list
+pub none-open : (project : Project) (levels : List Interval) (states : List TankState) → AreStates project levels states
+    → (k : ℕ) → k < length (open_states project levels) → slice_index_or (open_states project levels) k false ≡ false
+none-open project levels = over (λ k tank. state_of tank (slice_index_or levels k nowhere)) 0 project.tanks.list
   where
     over : (f : ℕ → Tank → Option TankState) (from : ℕ) (tanks : List Tank) (states : List TankState)
         → map_from f from tanks ≡ map Some states
@@ -56,23 +56,23 @@ none-open network levels = over (λ k tank. state_of tank (slice_index_or levels
         let others : map_from f (suc from) tanks ≡ map {B = Option TankState} Some states = cc in
         over f (suc from) tanks states others k (omega (arith, lt))
 
-module _ (network : Project) (sound : Sound network) (standing : Standing) (grid : Grid) (row : Record)
-    (next : Standing) (kept : IsKept network standing) (tidy : IsTidy network standing)
-    (valid : IsValid network standing grid row next) where
+module _ (project : Project) (sound : Sound project) (standing : Standing) (grid : Grid) (row : Record)
+    (next : Standing) (kept : IsKept project standing) (tidy : IsTidy project standing)
+    (valid : IsValid project standing grid row next) where
   -- a grid of the standing is the record's
-  same-grid : (b : Grid) → IsGridAt network standing b → b ≡ grid
-  same-grid b is = one_grid network standing b grid is valid.is_grid
+  same-grid : (b : Grid) → IsGridAt project standing b → b ≡ grid
+  same-grid b is = one_grid project standing b grid is valid.is_grid
 
-  tight-here : (b : Grid) (tight : Record) → IsTightRow network standing b tight
-      → IsTightRow network standing grid tight
-  tight-here b tight is = subst (λ g. IsTightRow network standing g tight) (same-grid b is.is_grid) is
+  tight-here : (b : Grid) (tight : Record) → IsTightRow project standing b tight
+      → IsTightRow project standing grid tight
+  tight-here b tight is = subst (λ g. IsTightRow project standing g tight) (same-grid b is.is_grid) is
 
   -- a tight row with the record's numbers
   abbrev numbered : Record → Record
   numbered tight = record tight { number = row.number; time = row.time; length = row.length }
 
-  as-tightened : (tight : Record) → IsTightRow network standing grid tight
-      → IsTightened network grid row (numbered tight)
+  as-tightened : (tight : Record) → IsTightRow project standing grid tight
+      → IsTightened project grid row (numbered tight)
   as-tightened tight is = record {
     number = refl;
     time = refl;
@@ -83,19 +83,19 @@ module _ (network : Project) (sound : Sound network) (standing : Standing) (grid
   }
 
   -- what the tight vectors decide
-  decided : (tight : Record) → IsTightRow network standing grid tight → Continues network grid standing row next
-      → Continues network grid standing (numbered tight)
+  decided : (tight : Record) → IsTightRow project standing grid tight → Continues project grid standing row next
+      → Continues project grid standing (numbered tight)
       (record next {
-        levels = levels_next network grid standing (numbered tight) row.length;
+        levels = levels_next project grid standing (numbered tight) row.length;
         volumes =
-            volumes_next network grid standing (numbered tight) row.length;
+            volumes_next project grid standing (numbered tight) row.length;
       })
-  decided tight is c = tight_continues network sound standing grid row next kept tidy valid (numbered tight)
+  decided tight is c = tight_continues project sound standing grid row next kept tidy valid (numbered tight)
       (as-tightened tight is) c
 
-  nested-with : (tight : Record) → IsTightRow network standing grid tight → AreNested network standing grid row tight
+  nested-with : (tight : Record) → IsTightRow project standing grid tight → AreNested project standing grid row tight
   nested-with tight is =
-      let n = tight-nested network sound standing grid row next kept tidy valid (numbered tight) (as-tightened tight is)
+      let n = tight-nested project sound standing grid row next kept tidy valid (numbered tight) (as-tightened tight is)
       in
       record {
         is_grid = n.is_grid;
@@ -117,152 +117,152 @@ module _ (network : Project) (sound : Sound network) (standing : Standing) (grid
       }
 
   -- the tight vectors leave the links as the record does
-  leaves : (tight : Record) → IsTightRow network standing grid tight → Continues network grid standing row next
-      → LeavesLinks network grid standing tight row.length next.commanded
+  leaves : (tight : Record) → IsTightRow project standing grid tight → Continues project grid standing row next
+      → LeavesLinks project grid standing tight row.length next.commanded
   leaves tight is c =
-      let e = earliest_is network grid standing tight sound.times.hydraulic in
-      leaves_so network sound standing grid row tight (nested-with tight is)
+      let e = earliest_is project grid standing tight sound.times.hydraulic in
+      leaves_so project sound standing grid row tight (nested-with tight is)
       row.length e.0 next.commanded e.1 c.leaves_links
 
   not-open-by-rule : (tight : Record) (seconds : ℕ) (links : List LinkState) (open_rule : OpenRule)
-      → LeavesLinks network grid standing tight seconds links
-      → EndsBy network grid standing tight (RuleIsOpen open_rule) → ⊥
-  not-open-by-rule tight seconds _ open_rule (left_by_rules e) is = let same = one_end network grid standing tight
+      → LeavesLinks project grid standing tight seconds links
+      → EndsBy project grid standing tight (RuleIsOpen open_rule) → ⊥
+  not-open-by-rule tight seconds _ open_rule (left_by_rules e) is = let same = one_end project grid standing tight
       (ByRules seconds) (RuleIsOpen open_rule) e is in absurd (cc)
-  not-open-by-rule tight seconds _ open_rule (left_by_clock e) is = let same = one_end network grid standing tight
+  not-open-by-rule tight seconds _ open_rule (left_by_clock e) is = let same = one_end project grid standing tight
       (WithoutRules seconds) (RuleIsOpen open_rule) e is in absurd (cc)
 
   not-open-by-event : (tight : Record) (seconds m n : ℕ) (links : List LinkState)
-      → LeavesLinks network grid standing tight seconds links → EndsBy network grid standing tight (EventIsOpen m n) → ⊥
-  not-open-by-event tight seconds m n _ (left_by_rules e) is = let same = one_end network grid standing tight
+      → LeavesLinks project grid standing tight seconds links → EndsBy project grid standing tight (EventIsOpen m n) → ⊥
+  not-open-by-event tight seconds m n _ (left_by_rules e) is = let same = one_end project grid standing tight
       (ByRules seconds) (EventIsOpen m n) e is in absurd (cc)
-  not-open-by-event tight seconds m n _ (left_by_clock e) is = let same = one_end network grid standing tight
+  not-open-by-event tight seconds m n _ (left_by_clock e) is = let same = one_end project grid standing tight
       (WithoutRules seconds) (EventIsOpen m n) e is in absurd (cc)
 
   data EndsAfter (tight : Record) (seconds : ℕ) : Type 0 where
-    ruled : EndsBy network grid standing tight (ByRules seconds) → EndsAfter tight seconds
-    clocked : EndsBy network grid standing tight (WithoutRules seconds) → EndsAfter tight seconds
+    ruled : EndsBy project grid standing tight (ByRules seconds) → EndsAfter tight seconds
+    clocked : EndsBy project grid standing tight (WithoutRules seconds) → EndsAfter tight seconds
 
   after : (tight : Record) (seconds : ℕ) (links : List LinkState)
-      → LeavesLinks network grid standing tight seconds links → EndsAfter tight seconds
+      → LeavesLinks project grid standing tight seconds links → EndsAfter tight seconds
   after tight seconds _ (left_by_rules e) = ruled e
   after tight seconds _ (left_by_clock e) = clocked e
 
   same-seconds : (tight : Record) (m n : ℕ) → EndsAfter tight m → EndsAfter tight n → m ≡ n
-  same-seconds tight m n (ruled e) (ruled f) = let same = one_end network grid standing tight (ByRules m)
+  same-seconds tight m n (ruled e) (ruled f) = let same = one_end project grid standing tight (ByRules m)
       (ByRules n) e f in cc
   same-seconds tight m n (ruled e) (clocked f) =
-      absurd (let same = one_end network grid standing tight (ByRules m) (WithoutRules n) e f in cc)
+      absurd (let same = one_end project grid standing tight (ByRules m) (WithoutRules n) e f in cc)
   same-seconds tight m n (clocked e) (ruled f) =
-      absurd (let same = one_end network grid standing tight (WithoutRules m) (ByRules n) e f in cc)
-  same-seconds tight m n (clocked e) (clocked f) = let same = one_end network grid standing tight (WithoutRules m)
+      absurd (let same = one_end project grid standing tight (WithoutRules m) (ByRules n) e f in cc)
+  same-seconds tight m n (clocked e) (clocked f) = let same = one_end project grid standing tight (WithoutRules m)
       (WithoutRules n) e f in cc
 
   -- the levels at which a matter is left open are those at which the tight vectors decide all
   record AllDecided (levels : List Interval) : Type 0 where
-    states : AreStates network levels next.tanks
-    controls : ControlsAreDecided network levels
+    states : AreStates project levels next.tanks
+    controls : ControlsAreDecided project levels
 
-  all-decided : (levels : List Interval) → EndsAtLevels network standing levels
-      → Continues network grid standing row next → AllDecided levels
+  all-decided : (levels : List Interval) → EndsAtLevels project standing levels
+      → Continues project grid standing row next → AllDecided levels
   all-decided levels at c =
       let tight = tight-here at.grid at.row at.tight in
-      let ends = subst (λ g. LeavesLinks network g standing at.row at.seconds at.links)
+      let ends = subst (λ g. LeavesLinks project g standing at.row at.seconds at.links)
       (same-grid at.grid at.tight.is_grid) at.ends in
-      let own : levels ≡ levels_next network grid standing at.row at.seconds =
-      at.levels_are ∙ ap (λ g. levels_next network g standing at.row at.seconds)
+      let own : levels ≡ levels_next project grid standing at.row at.seconds =
+      at.levels_are ∙ ap (λ g. levels_next project g standing at.row at.seconds)
       (same-grid at.grid at.tight.is_grid) in
       let d = decided at.row tight c in
       let same = same-seconds at.row at.seconds row.length (after at.row at.seconds at.links ends)
       (after at.row row.length next.commanded (leaves at.row tight c)) in
-      let e : levels ≡ levels_next network grid standing at.row row.length =
-      own ∙ ap (levels_next network grid standing at.row) same in
+      let e : levels ≡ levels_next project grid standing at.row row.length =
+      own ∙ ap (levels_next project grid standing at.row) same in
       record {
-        states = subst (λ ls. AreStates network ls next.tanks) (sym e) d.tanks;
-        controls = subst (ControlsAreDecided network) (sym e) d.controls;
+        states = subst (λ ls. AreStates project ls next.tanks) (sym e) d.tanks;
+        controls = subst (ControlsAreDecided project) (sym e) d.controls;
       }
 
-  ends-too : (levels : List Interval) → EndsAtLevels network standing levels → standing.time ≢ network.times.duration
+  ends-too : (levels : List Interval) → EndsAtLevels project standing levels → standing.time ≢ project.times.duration
   ends-too levels at = by-case at.seconds at.links at.ends
     where
-      by-case : (seconds : ℕ) (links : List LinkState) → LeavesLinks network at.grid standing at.row seconds links
-          → standing.time ≢ network.times.duration
+      by-case : (seconds : ℕ) (links : List LinkState) → LeavesLinks project at.grid standing at.row seconds links
+          → standing.time ≢ project.times.duration
       by-case seconds _ (left_by_rules (decided_by_rules first known)) = first.not_last
       by-case seconds _ (left_by_clock (decided_by_clock none latest)) = none.not_last
 
   -- no matter is open
-  no-tank : (tank : ℕ) (level : Interval) → LeavesTankOpen network standing tank level
-      → Continues network grid standing row next → ⊥
+  no-tank : (tank : ℕ) (level : Interval) → LeavesTankOpen project standing tank level
+      → Continues project grid standing row next → ⊥
   no-tank tank level is c =
       let all = all-decided is.levels is.at_levels c in
-      let p = position-Some (λ is_open. is_open) (open_states network is.levels) tank false is.first in
-      let closed = none-open network is.levels next.tanks all.states tank p.0 in
-      absurd (let t : slice_index_or (open_states network is.levels) tank false ≡ true = p.1 in cc)
+      let p = position-Some (λ is_open. is_open) (open_states project is.levels) tank false is.first in
+      let closed = none-open project is.levels next.tanks all.states tank p.0 in
+      absurd (let t : slice_index_or (open_states project is.levels) tank false ≡ true = p.1 in cc)
 
   contains-at : (controls : List Control) (number : ℕ) (control : Control) → slice_get controls number ≡ Some control
       → (k : ℕ) × (k < length controls) × (slice_index_or controls k control ≡ control)
   contains-at controls number control at =
       (number, slice_get_within controls number control at, get_or_from_slice_get controls number control control at)
 
-  no-control : (number : ℕ) (level : Interval) → LeavesControlOpen network standing number level
-      → Continues network grid standing row next → ⊥
+  no-control : (number : ℕ) (level : Interval) → LeavesControlOpen project standing number level
+      → Continues project grid standing row next → ⊥
   no-control number level is c =
       let all = all-decided is.levels is.at_levels c in
-      let p = position-Some (is_open_control is.levels) network.controls.list number is.control is.first in
+      let p = position-Some (is_open_control is.levels) project.controls.list number is.control is.first in
       let own : is_open_control is.levels is.control ≡ true =
       ap (is_open_control is.levels)
-      (sym (get_or_from_slice_get network.controls.list number is.control is.control is.is_control)) ∙ p.1 in
+      (sym (get_or_from_slice_get project.controls.list number is.control is.control is.is_control)) ∙ p.1 in
       let is_unsure : is_unknown (control_truth (slice_index_or is.levels is.tank nowhere) is.above is.ticks) ≡ true =
       rw is.is_level at own in
       let known = all.controls is.control is.tank is.above is.ticks
-      (contains-at network.controls.list number is.control is.is_control) is.is_level in
+      (contains-at project.controls.list number is.control is.is_control) is.is_level in
       absurd (cc)
 
   -- ---- the causes
 
-  not-last-by : (b : Grid) (tight : Record) (e : End) → EndsBy network b standing tight e
-      → standing.time ≢ network.times.duration
+  not-last-by : (b : Grid) (tight : Record) (e : End) → EndsBy project b standing tight e
+      → standing.time ≢ project.times.duration
   not-last-by b tight _ (decided_by_rules first known) = first.not_last
   not-last-by b tight _ (rule_is_open first is) = first.not_last
   not-last-by b tight _ (decided_by_clock none latest) = none.not_last
   not-last-by b tight _ (event_is_open none latest differ) = none.not_last
 
   -- a cause by a matter, where the record leads on
-  by-lead : {X : Type 0} → (standing.time ≢ network.times.duration) → LeadsOn network grid standing row next
-      → (Continues network grid standing row next → X → ⊥) → X → ⊥
+  by-lead : {X : Type 0} → (standing.time ≢ project.times.duration) → LeadsOn project grid standing row next
+      → (Continues project grid standing row next → X → ⊥) → X → ⊥
   by-lead other (continues c) f x = f c x
   by-lead other (finishes d) f x = other d.is_last
 
-  no-demand : (j : ℕ) (demand : ℤ) → IsFirstDemand network standing.time j demand → ⊥
+  no-demand : (j : ℕ) (demand : ℤ) → IsFirstDemand project standing.time j demand → ⊥
   no-demand j demand is =
-      let inside = slice_get_within network.junctions.list j is.junction is.is_junction in
-      let within : unsigned_abs (demand_of network standing.time is.junction) ≤ demand_limit =
-      subst (λ (x : Junction). unsigned_abs (demand_of network standing.time x) ≤ demand_limit)
-      (get_or_from_slice_get network.junctions.list j is.junction is.junction is.is_junction)
+      let inside = slice_get_within project.junctions.list j is.junction is.is_junction in
+      let within : unsigned_abs (demand_of project standing.time is.junction) ≤ demand_limit =
+      subst (λ (x : Junction). unsigned_abs (demand_of project standing.time x) ≤ demand_limit)
+      (get_or_from_slice_get project.junctions.list j is.junction is.junction is.is_junction)
       (valid.demands j is.junction inside) in
-      let over : demand_limit < unsigned_abs (demand_of network standing.time is.junction) =
+      let over : demand_limit < unsigned_abs (demand_of project standing.time is.junction) =
       subst (λ d. demand_limit < unsigned_abs d) is.is_demand is.out_of_range in
       omega (arith, within, over)
 
-  no-vector : (problem : Problem) (side : Side) → HasNoCertificate network standing problem side → ⊥
+  no-vector : (problem : Problem) (side : Side) → HasNoCertificate project standing problem side → ⊥
   no-vector problem side is =
       is.none (vector_of row problem side)
       (subst (λ g. IsCertificate g problem side (vector_of row problem side)) (sym (same-grid is.grid is.is_grid))
       (valid.certificates.each problem side is.is_problem))
 
-  rule-open : (open_rule : OpenRule) → LeavesRuleOpen network standing open_rule → ⊥
+  rule-open : (open_rule : OpenRule) → LeavesRuleOpen project standing open_rule → ⊥
   rule-open open_rule is = by-lead (not-last-by is.grid is.row (RuleIsOpen open_rule) is.is_open) valid.leads_on
       (λ c s. not-open-by-rule s.row row.length next.commanded open_rule
       (leaves s.row (tight-here s.grid s.row s.tight) c)
-      (subst (λ g. EndsBy network g standing s.row (RuleIsOpen open_rule)) (same-grid s.grid s.tight.is_grid)
+      (subst (λ g. EndsBy project g standing s.row (RuleIsOpen open_rule)) (same-grid s.grid s.tight.is_grid)
       s.is_open)) is
 
-  event-open : (m n : ℕ) → LeavesEventOpen network standing m n → ⊥
+  event-open : (m n : ℕ) → LeavesEventOpen project standing m n → ⊥
   event-open m n is = by-lead (not-last-by is.grid is.row (EventIsOpen m n) is.is_open) valid.leads_on
       (λ c s. not-open-by-event s.row row.length m n next.commanded (leaves s.row (tight-here s.grid s.row s.tight) c)
-      (subst (λ g. EndsBy network g standing s.row (EventIsOpen m n)) (same-grid s.grid s.tight.is_grid) s.is_open)) is
+      (subst (λ g. EndsBy project g standing s.row (EventIsOpen m n)) (same-grid s.grid s.tight.is_grid) s.is_open)) is
 
-  pub no_stop : (rounds : ℕ) (cause : StopCause) → IsReason cause → Stops network standing rounds cause → ⊥
+  pub no_stop : (rounds : ℕ) (cause : StopCause) → IsReason cause → Stops project standing rounds cause → ⊥
   no_stop rounds (DemandOutOfRange period j demand) reason stops = no-demand j demand stops.holds
   no_stop rounds (NoCertificate period problem side j) reason stops = no-vector problem side stops.holds.1
   no_stop rounds (RoundsSpent period problem side spent) reason stops = reason

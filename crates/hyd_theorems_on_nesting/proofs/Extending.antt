@@ -14,15 +14,15 @@ use Rattle.hyd_theorems_on_nesting.proofs.Reporting.{report_is}
 use Rattle.hyd_theorems_on_nesting.proofs.GoingOn.{goes_on}
 
 -- what a standing of a run keeps
-record Keeps (network : Project) (standing : Standing) : Type 0 where
-  kept : IsKept network standing
-  tidy : IsTidy network standing
+record Keeps (project : Project) (standing : Standing) : Type 0 where
+  kept : IsKept project standing
+  tidy : IsTidy project standing
 
-module _ (network : Project) (sound : Sound network) where
+module _ (project : Project) (sound : Sound project) where
   -- the period at the end of the run leaves what it found
-  finished-keeps : (standing next : Standing) (found : Found) → Keeps network standing
-      → Finishes network standing found.row next → Keeps network next
-  finished-keeps standing next found keeps f = subst (Keeps network) (sym f.next_is) (record {
+  finished-keeps : (standing next : Standing) (found : Found) → Keeps project standing
+      → Finishes project standing found.row next → Keeps project next
+  finished-keeps standing next found keeps f = subst (Keeps project) (sym f.next_is) (record {
     kept = record { controls = keeps.kept.controls; levels = keeps.kept.levels; states = keeps.kept.states };
     tidy = record {
       levels_each = keeps.tidy.levels_each;
@@ -33,35 +33,35 @@ module _ (network : Project) (sound : Sound network) where
     };
   })
 
-  next-keeps : (found : Found) → IsFound network found → Keeps network found.standing → Keeps network found.next
+  next-keeps : (found : Found) → IsFound project found → Keeps project found.standing → Keeps project found.next
   next-keeps found is keeps = by-leading is.valid.leads_on
     where
-      by-leading : LeadsOn network found.grid found.standing found.row found.next → Keeps network found.next
+      by-leading : LeadsOn project found.grid found.standing found.row found.next → Keeps project found.next
       by-leading (continues c) = record {
-        kept = kept_next network sound found.grid found.standing found.row found.next keeps.kept c;
-        tidy = tidy_next network sound found.standing found.grid found.row found.next keeps.kept keeps.tidy is.valid c;
+        kept = kept_next project sound found.grid found.standing found.row found.next keeps.kept c;
+        tidy = tidy_next project sound found.standing found.grid found.row found.next keeps.kept keeps.tidy is.valid c;
       }
       by-leading (finishes f) = finished-keeps found.standing found.next found keeps f
 
-  along : (standing : Standing) (founds : List Found) (last : Standing) → IsRunFrom network standing founds last
-      → Keeps network standing → Keeps network last
+  along : (standing : Standing) (founds : List Found) (last : Standing) → IsRunFrom project standing founds last
+      → Keeps project standing → Keeps project last
   along _ _ last none keeps = keeps
   along _ _ last (more {found = found} {rest = rest} is go) keeps =
       along found.next rest last go (next-keeps found is keeps)
 
-  run-keeps : (founds : List Found) (last : Standing) → IsRun network founds last → Keeps network last
-  run-keeps founds last run = along (initial_standing network) founds last run
-      (record { kept = kept_at_start network sound; tidy = tidy_at_start network sound })
+  run-keeps : (founds : List Found) (last : Standing) → IsRun project founds last → Keeps project last
+  run-keeps founds last run = along (initial_standing project) founds last run
+      (record { kept = kept_at_start project sound; tidy = tidy_at_start project sound })
 
-  pub run_keeps : (founds : List Found) (last : Standing) → IsRun network founds last
-      → IsKept network last × IsTidy network last
+  pub run_keeps : (founds : List Found) (last : Standing) → IsRun project founds last
+      → IsKept project last × IsTidy project last
   run_keeps founds last run = let k = run-keeps founds last run in (k.kept, k.tidy)
 
   -- one more period, with its report
-  longer : (founds : List Found) (last : Standing) → IsRun network founds last → Keeps network last
-      → LeadsSomewhere network last → IsLonger network founds
+  longer : (founds : List Found) (last : Standing) → IsRun project founds last → Keeps project last
+      → LeadsSomewhere project last → IsLonger project founds
   longer founds last run keeps leads =
-      let report = report_is network sound leads.grid last leads.row keeps.kept keeps.tidy leads.valid.is_grid
+      let report = report_is project sound leads.grid last leads.row keeps.kept keeps.tidy leads.valid.is_grid
       leads.next leads.valid.leads_on in
       let found : Found = record {
         standing = last;
@@ -73,16 +73,16 @@ module _ (network : Project) (sound : Sound network) where
       } in
       record {
         found = found;
-        is_run = run_more network founds last found run refl
+        is_run = run_more project founds last found run refl
             (record { valid = leads.valid; report = report.1 });
       }
 
-  pub run_goes_on : (founds : List Found) (last : Standing) → IsRun network founds last → last.finished ≡ false
+  pub run_goes_on : (founds : List Found) (last : Standing) → IsRun project founds last → last.finished ≡ false
       → (rounds : ℕ)
-      → IsLonger network founds ⊎ IsStopped network last rounds
+      → IsLonger project founds ⊎ IsStopped project last rounds
   run_goes_on founds last run unfinished rounds =
       let keeps = run-keeps founds last run in
-      elim (goes_on network sound last keeps.kept unfinished rounds) [
+      elim (goes_on project sound last keeps.kept unfinished rounds) [
         | inl leads ↦ inl (longer founds last run keeps leads)
         | inr stopped ↦ inr stopped
       ]

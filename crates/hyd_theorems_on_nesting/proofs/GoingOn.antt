@@ -34,6 +34,7 @@ use Rattle.hyd_spec_reports.specs.declared.StopCause.TheVariants.{EventOpen, Tan
 use Rattle.hyd_spec_reports.specs.Stops.{EarlierHaveCertificates, beginning, IsTightRow, open_states, is_open_control}
 use Rattle.hyd_spec_reports.specs.Stops.{Stops}
 use Rattle.hyd_theorems_on_definitions.specs.TermsOfTheorems.{IsSteady}
+use Rattle.hyd_lemmas.proofs.Trials.{nat-lt-no}
 use Rattle.hyd_theorems_on_definitions.proofs.Comparison.{place_long}
 use Rattle.hyd_theorems_on_definitions.proofs.OneLength.{ends_again}
 use Rattle.hyd_theorems_on_definitions.proofs.OneStanding.{there}
@@ -94,24 +95,21 @@ states-of f from (tank ∷ tanks) closed =
 lt-yes : (a b : ℕ) → nat_lt a b ≡ true → a < b
 lt-yes a b e = grind arith
 
-lt-no : (a b : ℕ) → nat_lt a b ≡ false → b ≤ a
-lt-no a b e = grind arith
-
-module _ (network : Project) (sound : Sound network) (standing : Standing) (kept : IsKept network standing)
+module _ (project : Project) (sound : Sound project) (standing : Standing) (kept : IsKept project standing)
     (unfinished : standing.finished ≡ false) (rounds : ℕ) where
   abbrev Onward : Type 0
-  Onward = LeadsSomewhere network standing ⊎ IsStopped network standing rounds
+  Onward = LeadsSomewhere project standing ⊎ IsStopped project standing rounds
 
-  stop : (cause : StopCause) → IsReason cause → Stops network standing rounds cause → Onward
+  stop : (cause : StopCause) → IsReason cause → Stops project standing rounds cause → Onward
   stop cause reason stops = inr (record { cause = cause; reason = reason; stops = stops })
 
   -- ---- demands
 
   abbrev demand-beyond : Junction → Bool
-  demand-beyond junction = nat_lt demand_limit (unsigned_abs (demand_of network standing.time junction))
+  demand-beyond junction = nat_lt demand_limit (unsigned_abs (demand_of project standing.time junction))
 
-  out-of-range : IsFound Junction demand-beyond network.junctions.list → Onward
-  out-of-range found = stop (DemandOutOfRange standing.number found.place (demand_of network standing.time found.item))
+  out-of-range : IsFound Junction demand-beyond project.junctions.list → Onward
+  out-of-range found = stop (DemandOutOfRange standing.number found.place (demand_of project standing.time found.item))
       tt (record {
         period_is = refl;
         holds = record {
@@ -119,20 +117,20 @@ module _ (network : Project) (sound : Sound network) (standing : Standing) (kept
           is_junction = found.is_item;
           is_demand = refl;
           out_of_range = lt-yes demand_limit _ found.passes;
-          first = λ k before lt at. lt-no demand_limit _ (found.before k before lt at);
+          first = λ k before lt at. nat-lt-no demand_limit _ (found.before k before lt at);
         };
       })
 
-  in-range : HasNone Junction demand-beyond network.junctions.list → DemandsAreInRange network standing.time
-  in-range none = All-from_recursion _ network.junctions.list
-      (all_contained Junction (λ junction. unsigned_abs (demand_of network standing.time junction) ≤ demand_limit)
-      network.junctions.list
-      (λ junction c. lt-no demand_limit _ (none.fails junction c)))
+  in-range : HasNone Junction demand-beyond project.junctions.list → DemandsAreInRange project standing.time
+  in-range none = All-from_recursion _ project.junctions.list
+      (all_contained Junction (λ junction. unsigned_abs (demand_of project standing.time junction) ≤ demand_limit)
+      project.junctions.list
+      (λ junction c. nat-lt-no demand_limit _ (none.fails junction c)))
 
-  module _ (range : DemandsAreInRange network standing.time) (grid : Grid)
-      (is_grid : IsGridAt network standing grid) where
+  module _ (range : DemandsAreInRange project standing.time) (grid : Grid)
+      (is_grid : IsGridAt project standing grid) where
     steady : IsSteady grid
-    steady = steady_at network sound standing grid kept is_grid
+    steady = steady_at project sound standing grid kept is_grid
 
     -- ---- vectors
 
@@ -147,23 +145,23 @@ module _ (network : Project) (sound : Sound network) (standing : Standing) (kept
         (start-end None grid problem side)
 
     -- where there is no junction the empty vector is a certificate
-    some-junction : (problem : Problem) (side : Side) → HasNoVector problem side → 0 < junction_count network
-    some-junction problem side none = elim (cases_lt 0 (junction_count network)) [
+    some-junction : (problem : Problem) (side : Side) → HasNoVector problem side → 0 < junction_count project
+    some-junction problem side none = elim (cases_lt 0 (junction_count project)) [
       | inl some ↦ some
       | inr nowhere-there ↦ absurd (none [] (record {
-        one_each = (let e = place_long (IsJunctionOf network standing.time) network.junctions.list grid.junctions
+        one_each = (let e = place_long (IsJunctionOf project standing.time) project.junctions.list grid.junctions
             is_grid.junctions in omega (arith, e, nowhere-there));
         in_box = λ k d lt. absurd (omega (arith, lt));
         passes = λ i junction at.
             let inside = slice_get_within grid.junctions i junction at in
-            let e = place_long (IsJunctionOf network standing.time) network.junctions.list grid.junctions
+            let e = place_long (IsJunctionOf project standing.time) project.junctions.list grid.junctions
             is_grid.junctions in
             absurd (omega (arith, inside, e, nowhere-there));
       }))
     ]
 
-    no-vector : (problem : Problem) (side : Side) → IsProblem network problem
-        → EarlierHaveCertificates network grid problem side → HasNoVector problem side → Onward
+    no-vector : (problem : Problem) (side : Side) → IsProblem project problem
+        → EarlierHaveCertificates project grid problem side → HasNoVector problem side → Onward
     no-vector problem side is earlier none = stop (NoCertificate standing.number problem side 0) tt (record {
       period_is = refl;
       holds = (
@@ -183,9 +181,9 @@ module _ (network : Project) (sound : Sound network) (standing : Standing) (kept
       lower : Tight problem Lower
 
     -- both sides of a problem that all before it have
-    module _ (problem : Problem) (is : IsProblem network problem)
-        (earlier : EarlierHaveCertificates network grid problem Upper)
-        (then : Tight problem Upper → EarlierHaveCertificates network grid problem Lower) where
+    module _ (problem : Problem) (is : IsProblem project problem)
+        (earlier : EarlierHaveCertificates project grid problem Upper)
+        (then : Tight problem Upper → EarlierHaveCertificates project grid problem Lower) where
       both-or-stop : BothTight problem ⊎ Onward
       both-or-stop = elim (tight-or-not problem Upper) [
         | inr none ↦ inr (no-vector problem Upper is earlier none)
@@ -198,7 +196,7 @@ module _ (network : Project) (sound : Sound network) (standing : Standing) (kept
     main-or-stop : BothTight Main ⊎ Onward
     main-or-stop = both-or-stop Main tt (λ p s of before. absurd (omega (arith, before))) before-lower
       where
-        before-lower : Tight Main Upper → EarlierHaveCertificates network grid Main Lower
+        before-lower : Tight Main Upper → EarlierHaveCertificates project grid Main Lower
         before-lower upper Main Upper of before = from-tight Main Upper upper
         before-lower upper Main Lower of before = absurd (omega (arith, before))
         before-lower upper (Pinned k) Upper of before = absurd (omega (arith, before))
@@ -209,7 +207,7 @@ module _ (network : Project) (sound : Sound network) (standing : Standing) (kept
       PinnedTight n = (k : ℕ) → k < n → BothTight (Pinned k)
 
       -- the tanks below n, and what comes before tank n
-      before-upper : (n : ℕ) → PinnedTight n → EarlierHaveCertificates network grid (Pinned n) Upper
+      before-upper : (n : ℕ) → PinnedTight n → EarlierHaveCertificates project grid (Pinned n) Upper
       before-upper n tight Main Upper of before = from-tight Main Upper main.upper
       before-upper n tight Main Lower of before = from-tight Main Lower main.lower
       before-upper n tight (Pinned k) Upper of before =
@@ -218,7 +216,7 @@ module _ (network : Project) (sound : Sound network) (standing : Standing) (kept
           from-tight (Pinned k) Lower (tight k (omega (arith, before))).lower
 
       before-lower : (n : ℕ) → PinnedTight n → Tight (Pinned n) Upper
-          → EarlierHaveCertificates network grid (Pinned n) Lower
+          → EarlierHaveCertificates project grid (Pinned n) Lower
       before-lower n tight upper Main Upper of before = from-tight Main Upper main.upper
       before-lower n tight upper Main Lower of before = from-tight Main Lower main.lower
       before-lower n tight upper (Pinned k) Upper of before = elim (cases_lt k n) [
@@ -229,7 +227,7 @@ module _ (network : Project) (sound : Sound network) (standing : Standing) (kept
       before-lower n tight upper (Pinned k) Lower of before =
           from-tight (Pinned k) Lower (tight k (omega (arith, before))).lower
 
-      pinned-or-stop : (n : ℕ) → n ≤ tank_count network → PinnedTight n ⊎ Onward
+      pinned-or-stop : (n : ℕ) → n ≤ tank_count project → PinnedTight n ⊎ Onward
       pinned-or-stop zero le = inl (λ k lt. absurd (omega (arith, lt)))
       pinned-or-stop (suc n) le = elim (pinned-or-stop n (omega (arith, le))) [
         | inr onward ↦ inr onward
@@ -251,9 +249,9 @@ module _ (network : Project) (sound : Sound network) (standing : Standing) (kept
         upper : IsTight grid (Pinned k) Upper vectors.upper
         lower : IsTight grid (Pinned k) Lower vectors.lower
 
-      module _ (pinned : PinnedTight (tank_count network)) where
-        built : IsBuilt AreTight 0 (tank_count network)
-        built = build AreTight 0 (tank_count network) (λ j lt.
+      module _ (pinned : PinnedTight (tank_count project)) where
+        built : IsBuilt AreTight 0 (tank_count project)
+        built = build AreTight 0 (tank_count project) (λ j lt.
             let both = pinned j lt in (
               record { upper = both.upper.0; lower = both.lower.0 },
               let n : j ≡ 0 + j = omega arith in
@@ -271,7 +269,7 @@ module _ (network : Project) (sound : Sound network) (standing : Standing) (kept
           pinned = built.list;
         }
 
-        each-tight : (seconds : ℕ) (problem : Problem) (side : Side) → IsProblem network problem
+        each-tight : (seconds : ℕ) (problem : Problem) (side : Side) → IsProblem project problem
             → IsTight grid problem side (vector_of (tight-row seconds) problem side)
         each-tight seconds Main Upper is = main.upper.1
         each-tight seconds Main Lower is = main.lower.1
@@ -280,7 +278,7 @@ module _ (network : Project) (sound : Sound network) (standing : Standing) (kept
         each-tight seconds (Pinned k) Lower is = let n : 0 + k ≡ k = omega arith in
             (subst (λ m. AreTight m (slice_index_or built.list k no_vectors)) n (built.each k is)).lower
 
-        is-tight-row : (seconds : ℕ) → IsTightRow network standing grid (tight-row seconds)
+        is-tight-row : (seconds : ℕ) → IsTightRow project standing grid (tight-row seconds)
         is-tight-row seconds = record {
           in_range = range;
           is_grid = is_grid;
@@ -289,14 +287,14 @@ module _ (network : Project) (sound : Sound network) (standing : Standing) (kept
               each-tight seconds;
         }
 
-        certified : (seconds : ℕ) → AreCertificates network grid (tight-row seconds)
+        certified : (seconds : ℕ) → AreCertificates project grid (tight-row seconds)
         certified seconds = record {
           pinned_each = built.one_each;
           each =
               λ problem side is. (each-tight seconds problem side is).is_certificate;
         }
 
-        leads : (seconds : ℕ) (next : Standing) → LeadsOn network grid standing (tight-row seconds) next → Onward
+        leads : (seconds : ℕ) (next : Standing) → LeadsOn project grid standing (tight-row seconds) next → Onward
         leads seconds next leads_on = inl (record {
           grid = grid;
           row = tight-row seconds;
@@ -314,32 +312,32 @@ module _ (network : Project) (sound : Sound network) (standing : Standing) (kept
 
         -- ---- the end of the run
 
-        at-last : standing.time ≡ network.times.duration → Onward
+        at-last : standing.time ≡ project.times.duration → Onward
         at-last is = leads 0 (record standing { number = suc standing.number; finished = true })
             (finishes (record { is_last = is; no_length = refl; next_is = refl }))
 
         -- ---- the end of the period
 
         module _ (seconds : ℕ) (links : List LinkState)
-            (leaves : LeavesLinks network grid standing (tight-row seconds) seconds links)
-            (not_last : standing.time ≢ network.times.duration) where
+            (leaves : LeavesLinks project grid standing (tight-row seconds) seconds links)
+            (not_last : standing.time ≢ project.times.duration) where
           abbrev levels : List Interval
-          levels = levels_next network grid standing (tight-row seconds) seconds
+          levels = levels_next project grid standing (tight-row seconds) seconds
 
-          levels-long : length levels ≡ tank_count network
+          levels-long : length levels ≡ tank_count project
           levels-long =
               long-numbered Tank Interval
-              (λ k tank. (stocks_next network grid standing (tight-row seconds) seconds k tank).level)
-              0 network.tanks.list
+              (λ k tank. (stocks_next project grid standing (tight-row seconds) seconds k tank).level)
+              0 project.tanks.list
 
           abbrev Opens : ℕ → Tank → Bool
           Opens k tank = is_none (state_of tank (slice_index_or levels k nowhere))
 
-          open-tank : IsFound Bool (λ is_open. is_open) (open_states network levels) → Onward
+          open-tank : IsFound Bool (λ is_open. is_open) (open_states project levels) → Onward
           open-tank found =
-              let inside = slice_get_within (open_states network levels) found.place found.item found.is_item in
-              let long : length (open_states network levels) ≡ tank_count network =
-              long-numbered Tank Bool Opens 0 network.tanks.list in
+              let inside = slice_get_within (open_states project levels) found.place found.item found.is_item in
+              let long : length (open_states project levels) ≡ tank_count project =
+              long-numbered Tank Bool Opens 0 project.tanks.list in
               let level = there Interval levels found.place (let l = levels-long in omega (arith, inside, long, l)) in
               stop (TankOpen standing.number found.place level.item.lo level.item.hi) tt (record {
                 period_is = refl;
@@ -366,17 +364,17 @@ module _ (network : Project) (sound : Sound network) (standing : Standing) (kept
           level-control control e (AtTime t) is = absurd (let h : false ≡ true = rw is at e in cc)
           level-control control e (AtClock t) is = absurd (let h : false ≡ true = rw is at e in cc)
 
-          open-control : HasNone Bool (λ is_open. is_open) (open_states network levels)
-              → IsFound Control (is_open_control levels) network.controls.list → Onward
+          open-control : HasNone Bool (λ is_open. is_open) (open_states project levels)
+              → IsFound Control (is_open_control levels) project.controls.list → Onward
           open-control none found =
               let (tank, above, ticks, is) = level-control found.item found.passes found.item.when refl in
               let number = found.place in
-              let inside = slice_get_within network.controls.list number found.item found.is_item in
-              let command : IsControl network found.item =
-              subst (IsControl network)
-              (get_or_from_slice_get network.controls.list number found.item found.item found.is_item)
+              let inside = slice_get_within project.controls.list number found.item found.is_item in
+              let command : IsControl project found.item =
+              subst (IsControl project)
+              (get_or_from_slice_get project.controls.list number found.item found.item found.is_item)
               (sound.controls number found.item inside) in
-              let moment : IsMoment network (AtLevel tank above ticks) = subst (IsMoment network) is command.moment in
+              let moment : IsMoment project (AtLevel tank above ticks) = subst (IsMoment project) is command.moment in
               let within = moment.0 in
               let level = there Interval levels tank (let l = levels-long in omega (arith, within, l)) in
               stop (ControlOpen standing.number number level.item.lo level.item.hi) tt (record {
@@ -405,20 +403,20 @@ module _ (network : Project) (sound : Sound network) (standing : Standing) (kept
                 };
               })
 
-          controls-decided : HasNone Control (is_open_control levels) network.controls.list
-              → ControlsAreDecided network levels
+          controls-decided : HasNone Control (is_open_control levels) project.controls.list
+              → ControlsAreDecided project levels
           controls-decided none control tank above ticks contained is =
               let closed = none.fails control contained in
               let same : is_unknown (control_truth (slice_index_or levels tank nowhere) above ticks) ≡ false =
               rw is at closed in same
 
-          go-on : (states : List TankState) → AreStates network levels states → ControlsAreDecided network levels
+          go-on : (states : List TankState) → AreStates project levels states → ControlsAreDecided project levels
               → Onward
           go-on states are decided = leads seconds (record {
             number = suc standing.number;
             time = standing.time + seconds;
             levels = levels;
-            volumes = volumes_next network grid standing (tight-row seconds) seconds;
+            volumes = volumes_next project grid standing (tight-row seconds) seconds;
             tanks = states;
             commanded = links;
             finished = false;
@@ -435,26 +433,26 @@ module _ (network : Project) (sound : Sound network) (standing : Standing) (kept
           }))
 
           matters : Onward
-          matters = elim (find_or_none Bool (λ is_open. is_open) (open_states network levels)) [
+          matters = elim (find_or_none Bool (λ is_open. is_open) (open_states project levels)) [
             | inl found ↦ open-tank found
-            | inr none ↦ elim (find_or_none Control (is_open_control levels) network.controls.list) [
+            | inr none ↦ elim (find_or_none Control (is_open_control levels) project.controls.list) [
               | inl found ↦ open-control none found
               | inr closed ↦
                   let states = states-of (λ k tank. state_of tank (slice_index_or levels k nowhere))
-                  0 network.tanks.list none.fails in
+                  0 project.tanks.list none.fails in
                   go-on states.0 states.1 (controls-decided closed)
             ]
           ]
 
-        by-end : (e : End) → EndsBy network grid standing (tight-row 0) e → standing.time ≢ network.times.duration
+        by-end : (e : End) → EndsBy project grid standing (tight-row 0) e → standing.time ≢ project.times.duration
             → Onward
         by-end (ByRules seconds) ends other =
-            matters seconds (acted network (map is_yes (rule_truths network grid standing (tight-row seconds) seconds))
-            (links_at network standing))
-            (by_rules (ends_again network grid standing (tight-row 0) seconds (ByRules seconds) ends)) other
+            matters seconds (acted project (map is_yes (rule_truths project grid standing (tight-row seconds) seconds))
+            (links_at project standing))
+            (by_rules (ends_again project grid standing (tight-row 0) seconds (ByRules seconds) ends)) other
         by-end (WithoutRules seconds) ends other =
-            matters seconds (links_at network standing)
-            (by_clock (ends_again network grid standing (tight-row 0) seconds (WithoutRules seconds) ends)) other
+            matters seconds (links_at project standing)
+            (by_clock (ends_again project grid standing (tight-row 0) seconds (WithoutRules seconds) ends)) other
         by-end (RuleIsOpen o) ends other = stop (RuleOpen standing.number o.rule o.clause o.lo o.hi) tt (record {
           period_is = refl;
           holds = record { grid = grid; row = tight-row 0; tight = is-tight-row 0; is_open = ends };
@@ -465,14 +463,14 @@ module _ (network : Project) (sound : Sound network) (standing : Standing) (kept
         })
 
         tight-leads : Onward
-        tight-leads = elim (cases_eq standing.time network.times.duration) [
+        tight-leads = elim (cases_eq standing.time project.times.duration) [
           | inl last ↦ at-last last
-          | inr other ↦ let e = some_end network grid standing (tight-row 0) sound.times.hydraulic other in
+          | inr other ↦ let e = some_end project grid standing (tight-row 0) sound.times.hydraulic other in
               by-end e.0 e.1 other
         ]
 
       tanks-lead : Onward
-      tanks-lead = elim (pinned-or-stop (tank_count network) (omega arith)) [
+      tanks-lead = elim (pinned-or-stop (tank_count project) (omega arith)) [
         | inr onward ↦ onward
         | inl pinned ↦ tight-leads pinned
       ]
@@ -484,11 +482,11 @@ module _ (network : Project) (sound : Sound network) (standing : Standing) (kept
     ]
 
   -- a valid record leads on, or a stop holds
-  pub goes_on : LeadsSomewhere network standing ⊎ IsStopped network standing rounds
-  goes_on = elim (find_or_none Junction demand-beyond network.junctions.list) [
+  pub goes_on : LeadsSomewhere project standing ⊎ IsStopped project standing rounds
+  goes_on = elim (find_or_none Junction demand-beyond project.junctions.list) [
     | inl found ↦ out-of-range found
     | inr none ↦
         let range = in-range none in
-        let grid = grid_is network sound standing range in
+        let grid = grid_is project sound standing range in
         grid-leads range grid.0 grid.1
   ]

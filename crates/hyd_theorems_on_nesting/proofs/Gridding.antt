@@ -15,12 +15,11 @@ use Rattle.hyd_spec.specs.DemandsReservoirHeadsAndCurves.{is_us, demand_of, rese
 use Rattle.hyd_spec.specs.DemandsReservoirHeadsAndCurves.{required_pressure}
 use Rattle.hyd_spec_certificates.specs.EnclosingFunctions.{DemandLaw, Fixed, Driven}
 use Rattle.hyd_spec_certificates.specs.PeriodNetwork.{Grid, GridJunction, IsJunctionOf, IsDemandLaw, IsDriven}
-use Rattle.hyd_spec_certificates.specs.PeriodNetwork.{grid_links}
-use Rattle.hyd_spec_certificates.specs.PeriodNetwork.{tank_intervals}
+use Rattle.hyd_spec_certificates.specs.PeriodNetwork.{grid_links, tank_intervals}
 use Rattle.hyd_spec_certificates.specs.RecordAndStanding.{Standing}
 use Rattle.hyd_spec_certificates.specs.Decided.{links_at}
 use Rattle.hyd_spec_certificates.specs.Valid.{IsGridAt, DemandsAreInRange, demand_limit}
-use Rattle.hyd_theorems_on_definitions.proofs.Outflows.{le-no}
+use Rattle.hyd_lemmas.proofs.Trials.{le-no}
 
 up-is : (z : ℤ) → pos 0 ≤ℤ z → pos (up z) ≡ z
 up-is (pos n) above = refl
@@ -30,57 +29,57 @@ in-limit : (z : ℤ) → unsigned_abs z ≤ demand_limit → z ≤ℤ pos (10 ^ 
 in-limit (pos n) le = omega (arith, ints, le)
 in-limit (negsuc n) le = omega (arith, ints)
 
-module _ (network : Project) (sound : Sound network) where
+module _ (project : Project) (sound : Sound project) where
   -- the required pressure is in range
   pressure-most : (us : Bool) (z : ℤ) → pos 0 ≤ℤ z → pressure_numerator us z ≤ℤ pos (10 ^ 17 * pressure_denominator us)
       → AtMost (pressure_fraction us (up z)) (whole (10 ^ 17))
   pressure-most true z above most = let e = up-is z above in record { crossed = omega (arith, ints, e, most) }
   pressure-most false z above most = let e = up-is z above in record { crossed = omega (arith, ints, e, most) }
 
-  law-of : (demand : ℤ) → unsigned_abs demand ≤ demand_limit → (law : DemandLaw) × IsDemandLaw network demand law
-  law-of demand within = by-case (int_le demand (pos 0)) network.options.pda refl refl
+  law-of : (demand : ℤ) → unsigned_abs demand ≤ demand_limit → (law : DemandLaw) × IsDemandLaw project demand law
+  law-of demand within = by-case (int_le demand (pos 0)) project.options.pda refl refl
     where
-      reach : int_le demand (pos 0) ≡ false → network.options.pda ≡ true
-          → IsInReach demand network.options.p0 network.options.pf (is_us network)
+      reach : int_le demand (pos 0) ≡ false → project.options.pda ≡ true
+          → IsInReach demand project.options.p0 project.options.pf (is_us project)
       reach e driven = record {
         some = (let l = le-no demand (pos 0) e in omega (arith, ints, l));
         not_negative = sound.quantities.options.minimum.not_negative;
         apart = sound.quantities.options.apart driven;
-        at_most = pressure-most (is_us network) network.options.pf.nano sound.quantities.options.required.not_negative
+        at_most = pressure-most (is_us project) project.options.pf.nano sound.quantities.options.required.not_negative
             sound.quantities.options.required.at_most;
       }
 
-      by-case : (a b : Bool) → int_le demand (pos 0) ≡ a → network.options.pda ≡ b
-          → (law : DemandLaw) × MatchBool (if a then false else b) (IsDriven network demand law) (law ≡ Fixed demand)
+      by-case : (a b : Bool) → int_le demand (pos 0) ≡ a → project.options.pda ≡ b
+          → (law : DemandLaw) × MatchBool (if a then false else b) (IsDriven project demand law) (law ≡ Fixed demand)
       by-case true b e f = (Fixed demand, refl)
       by-case false false e f = (Fixed demand, refl)
       by-case false true e f =
-          let c = pressure_capacity_of demand network.options.p0 network.options.pf (is_us network)
+          let c = pressure_capacity_of demand project.options.p0 project.options.pf (is_us project)
           (in-limit demand within) (reach e f) in (
-            Driven demand c.capacity (minimum_pressure network) (required_pressure network),
+            Driven demand c.capacity (minimum_pressure project) (required_pressure project),
             record { capacity = c.capacity; origin = c.origin; made = c.made; is_law = refl },
           )
 
   junctions-of : (time : ℕ) (js : List Junction)
-      → AllByRecursion (λ (j : Junction). unsigned_abs (demand_of network time j) ≤ demand_limit) js
-      → (here : List GridJunction) × AllZip (IsJunctionOf network time) js here
+      → AllByRecursion (λ (j : Junction). unsigned_abs (demand_of project time j) ≤ demand_limit) js
+      → (here : List GridJunction) × AllZip (IsJunctionOf project time) js here
   junctions-of time [] all = ([], tt)
   junctions-of time (j ∷ js) all =
-      let law = law-of (demand_of network time j) all.0 in
+      let law = law-of (demand_of project time j) all.0 in
       let rest = junctions-of time js all.1 in (
         record { elevation = j.elevation; demand = law.0; emitter = j.emitter } ∷ rest.0,
         (record { elevation = refl; demand = law.1; emitter = refl }, rest.1),
       )
 
-  pub grid_is : (standing : Standing) → DemandsAreInRange network standing.time
-      → (grid : Grid) × IsGridAt network standing grid
+  pub grid_is : (standing : Standing) → DemandsAreInRange project standing.time
+      → (grid : Grid) × IsGridAt project standing grid
   grid_is standing range =
-      let junctions = junctions-of standing.time network.junctions.list (recursion_from_All _ _ range) in (
+      let junctions = junctions-of standing.time project.junctions.list (recursion_from_All _ _ range) in (
         record {
           junctions = junctions.0;
-          reservoirs = map (reservoir_head network standing.time) network.reservoirs.list;
-          tanks = tank_intervals network.tanks.list standing.levels;
-          links = grid_links network standing.tanks network.links.list (links_at network standing);
+          reservoirs = map (reservoir_head project standing.time) project.reservoirs.list;
+          tanks = tank_intervals project.tanks.list standing.levels;
+          links = grid_links project standing.tanks project.links.list (links_at project standing);
         },
         record { junctions = junctions.1; reservoirs = refl; tank_heads = refl; links_are = refl },
       )

@@ -25,10 +25,10 @@ use Rattle.hyd_spec_certificates.specs.Valid.{IsGridAt, IsValid, Continues, cont
 use Rattle.hyd_spec_certificates.specs.Valid.{by_rules as left_by_rules, by_clock as left_by_clock, AreStates}
 use Rattle.hyd_spec_certificates.specs.Valid.{ControlsAreDecided, stocks_next, levels_next, volumes_next}
 use Rattle.hyd_theorems_on_definitions.specs.TermsOfTheorems.{IsInside, IsSoundDemand, IsSteady}
+use Rattle.hyd_lemmas.proofs.Trials.{le-no}
 use Rattle.hyd_theorems_on_definitions.proofs.Grids.{IsSoundGrid-made}
 use Rattle.hyd_theorems_on_definitions.proofs.Levelling.{state_nests}
 use Rattle.hyd_theorems_on_definitions.proofs.Deciding.{control_tells}
-use Rattle.hyd_theorems_on_definitions.proofs.Outflows.{le-no}
 use Rattle.hyd_theorems_on_definitions.proofs.Vessels.{vessels}
 use Rattle.hyd_theorems_on_histories.specs.Agreement.{IsKept}
 use Rattle.hyd_theorems_on_histories.proofs.Places.{numbered_from_start}
@@ -41,35 +41,35 @@ use Rattle.hyd_theorems_on_nesting.proofs.Refining.{known-same, leaves_so}
 
 -- ---- demands
 
-demand-sound : (network : Project) (demand : ℤ) (law : DemandLaw) → IsDemandLaw network demand law → IsSoundDemand law
-demand-sound network demand law is = by-case (int_le demand (pos 0)) network.options.pda refl is
+demand-sound : (project : Project) (demand : ℤ) (law : DemandLaw) → IsDemandLaw project demand law → IsSoundDemand law
+demand-sound project demand law is = by-case (int_le demand (pos 0)) project.options.pda refl is
   where
     some-den : (us : Bool) (nano : _) → 0 < (pressure_value us nano).den
     some-den true nano = omega arith
     some-den false nano = omega arith
 
     by-case : (a b : Bool) → int_le demand (pos 0) ≡ a
-        → MatchBool (if a then false else b) (IsDriven network demand law) (law ≡ Fixed demand) → IsSoundDemand law
+        → MatchBool (if a then false else b) (IsDriven project demand law) (law ≡ Fixed demand) → IsSoundDemand law
     by-case true b e fixed = subst IsSoundDemand (sym fixed) tt
     by-case false true e driven =
         subst IsSoundDemand (sym driven.is_law) (
           (let l = le-no demand (pos 0) e in
               omega (arith, ints, l)),
           (
-            some-den (is_us network) network.options.p0,
+            some-den (is_us project) project.options.p0,
             some-den
-                (is_us network) network.options.pf,
+                (is_us project) project.options.pf,
           ),
         )
     by-case false false e fixed = subst IsSoundDemand (sym fixed) tt
 
-demands-sound : (network : Project) (time : ℕ) (xs : List Junction) (ys : List GridJunction)
-    → AllZip (IsJunctionOf network time) xs ys → AllByRecursion (λ (j : GridJunction). IsSoundDemand j.demand) ys
-demands-sound network time [] [] all = tt
-demands-sound network time [] (y ∷ ys) all = absurd all
-demands-sound network time (x ∷ xs) [] all = absurd all
-demands-sound network time (x ∷ xs) (y ∷ ys) all =
-    (demand-sound network (demand_of network time x) y.demand all.0.demand, demands-sound network time xs ys all.1)
+demands-sound : (project : Project) (time : ℕ) (xs : List Junction) (ys : List GridJunction)
+    → AllZip (IsJunctionOf project time) xs ys → AllByRecursion (λ (j : GridJunction). IsSoundDemand j.demand) ys
+demands-sound project time [] [] all = tt
+demands-sound project time [] (y ∷ ys) all = absurd all
+demands-sound project time (x ∷ xs) [] all = absurd all
+demands-sound project time (x ∷ xs) (y ∷ ys) all =
+    (demand-sound project (demand_of project time x) y.demand all.0.demand, demands-sound project time xs ys all.1)
 
 -- ---- lists
 
@@ -117,41 +117,41 @@ decided-long f from (tank ∷ tanks) (s ∷ states) e =
     let others : map_from f (suc from) tanks ≡ map {B = Option TankState} Some states = cc in
     let r = decided-long f (suc from) tanks states others in omega (arith, r)
 
-module _ (network : Project) (sound : Sound network) where
+module _ (project : Project) (sound : Sound project) where
   -- the grid of a standing of a run has sound laws
-  pub steady_at : (standing : Standing) (grid : Grid) → IsKept network standing → IsGridAt network standing grid
+  pub steady_at : (standing : Standing) (grid : Grid) → IsKept project standing → IsGridAt project standing grid
       → IsSteady grid
   steady_at standing grid kept is = record {
-    sound = IsSoundGrid-made network standing.time standing.levels standing.tanks (links_at network standing) grid is
+    sound = IsSoundGrid-made project standing.time standing.levels standing.tanks (links_at project standing) grid is
         (record {
           emitters = sound.made.emitters;
           kinds = sound.made.links;
           sizes = sound.quantities.links;
-          states = made-states network network.links.list (links_at network standing)
-              (started_own network sound standing.time (acts_on standing.levels) standing.commanded kept.states);
+          states = made-states project project.links.list (links_at project standing)
+              (started_own project sound standing.time (acts_on standing.levels) standing.commanded kept.states);
         });
-    demands = demands-sound network standing.time network.junctions.list grid.junctions is.junctions;
+    demands = demands-sound project standing.time project.junctions.list grid.junctions is.junctions;
   }
 
   -- ---- what every standing keeps
 
-  pub tidy_at_start : IsTidy network (initial_standing network)
+  pub tidy_at_start : IsTidy project (initial_standing project)
   tidy_at_start = record {
-    levels_each = long-mapped Tank Interval (λ tank. exactly tank.initial) network.tanks.list;
-    volumes_each = long-mapped Tank Interval (λ tank. exactly (kept_volume (walls_of network tank) tank.initial))
-        network.tanks.list;
-    tanks_each = long-mapped Tank TankState (λ tank. tank_state 1 tank tank.initial) network.tanks.list;
+    levels_each = long-mapped Tank Interval (λ tank. exactly tank.initial) project.tanks.list;
+    volumes_each = long-mapped Tank Interval (λ tank. exactly (kept_volume (walls_of project tank) tank.initial))
+        project.tanks.list;
+    tanks_each = long-mapped Tank TankState (λ tank. tank_state 1 tank tank.initial) project.tanks.list;
     ordered = λ k. record {
-      level = exact-ordered (λ tank. tank.initial) network.tanks.list k;
-      volume = exact-ordered (λ tank. kept_volume (walls_of network tank) tank.initial) network.tanks.list k;
+      level = exact-ordered (λ tank. tank.initial) project.tanks.list k;
+      volume = exact-ordered (λ tank. kept_volume (walls_of project tank) tank.initial) project.tanks.list k;
     };
     in_time = omega arith;
   }
 
-  module _ (standing : Standing) (grid : Grid) (row next : _) (kept : IsKept network standing)
-      (tidy : IsTidy network standing) (valid : IsValid network standing grid row next) where
+  module _ (standing : Standing) (grid : Grid) (row next : _) (kept : IsKept project standing)
+      (tidy : IsTidy project standing) (valid : IsValid project standing grid row next) where
     -- the record inside itself
-    self-nested : AreNested network standing grid row row
+    self-nested : AreNested project standing grid row row
     self-nested = record {
       is_grid = valid.is_grid;
       steady = steady_at standing grid kept valid.is_grid;
@@ -164,40 +164,40 @@ module _ (network : Project) (sound : Sound network) where
         lower =
             λ problem is i junction at. omega (arith, ints);
       };
-      vessels = vessels network sound;
+      vessels = vessels project sound;
     }
 
-    ends-in-time : (cap : ℕ) → IsClockLength network standing.time cap → (seconds : ℕ) (links : List LinkState)
-        → LeavesLinks network grid standing row seconds links → seconds ≤ cap
+    ends-in-time : (cap : ℕ) → IsClockLength project standing.time cap → (seconds : ℕ) (links : List LinkState)
+        → LeavesLinks project grid standing row seconds links → seconds ≤ cap
     ends-in-time cap clock seconds _ (left_by_rules (decided_by_rules first known)) = let a =
         first.is_earliest.least cap (inl clock) in let b = first.in_time in omega (arith, a, b)
     ends-in-time cap clock seconds _ (left_by_clock (decided_by_clock none latest)) =
         none.is_earliest.least cap (inl clock)
 
-    pub tidy_next : Continues network grid standing row next → IsTidy network next
+    pub tidy_next : Continues project grid standing row next → IsTidy project next
     tidy_next c = record {
       levels_each = ap length c.levels ∙ long-numbered Tank Interval
-          (λ k tank. (stocks_next network grid standing row row.length k tank).level) 0 network.tanks.list;
+          (λ k tank. (stocks_next project grid standing row row.length k tank).level) 0 project.tanks.list;
       volumes_each = ap length c.volumes ∙ long-numbered Tank Interval
-          (λ k tank. (stocks_next network grid standing row row.length k tank).volume) 0 network.tanks.list;
+          (λ k tank. (stocks_next project grid standing row row.length k tank).volume) 0 project.tanks.list;
       tanks_each = decided-long (λ k tank. state_of tank (slice_index_or next.levels k nowhere))
-          0 network.tanks.list next.tanks c.tanks;
+          0 project.tanks.list next.tanks c.tanks;
       ordered = λ k. record {
         level = subst (λ ls. IsOrdered (slice_index_or ls k nowhere)) (sym c.levels)
-            (numbered-ordered (λ n tank. (stocks_next network grid standing row row.length n tank).level)
-            network.tanks.list k
-            (λ tank at. (stocks_there network sound standing grid row row self-nested row.length k tank at).level));
+            (numbered-ordered (λ n tank. (stocks_next project grid standing row row.length n tank).level)
+            project.tanks.list k
+            (λ tank at. (stocks_there project sound standing grid row row self-nested row.length k tank at).level));
         volume = subst (λ vs. IsOrdered (slice_index_or vs k nowhere)) (sym c.volumes)
-            (numbered-ordered (λ n tank. (stocks_next network grid standing row row.length n tank).volume)
-            network.tanks.list k
+            (numbered-ordered (λ n tank. (stocks_next project grid standing row row.length n tank).volume)
+            project.tanks.list k
             (λ tank at.
-            (stocks_there network sound standing grid row row self-nested row.length k tank at).volume));
+            (stocks_there project sound standing grid row row self-nested row.length k tank at).volume));
       };
       in_time =
-          let found = clock_length_is network standing.time sound.times.hydraulic in
-          let before : standing.time < network.times.duration =
-          strict standing.time network.times.duration tidy.in_time c.not_last in
-          let a = found.1.least network.times.duration (duration before refl) in
+          let found = clock_length_is project standing.time sound.times.hydraulic in
+          let before : standing.time < project.times.duration =
+          strict standing.time project.times.duration tidy.in_time c.not_last in
+          let a = found.1.least project.times.duration (duration before refl) in
           let b = ends-in-time found.0 found.1 row.length next.commanded c.leaves_links in
           let t = c.time in omega (arith, a, b, t);
     }
@@ -210,8 +210,8 @@ module _ (network : Project) (sound : Sound network) where
 
     -- ---- tight vectors
 
-    module _ (tight : Record) (tightened : IsTightened network grid row tight) where
-      pub tight-nested : AreNested network standing grid row tight
+    module _ (tight : Record) (tightened : IsTightened project grid row tight) where
+      pub tight-nested : AreNested project standing grid row tight
       tight-nested = record {
         is_grid = valid.is_grid;
         steady = steady_at standing grid kept valid.is_grid;
@@ -229,23 +229,23 @@ module _ (network : Project) (sound : Sound network) where
           lower = λ problem is. (tightened.each problem Lower is).nearest (vector_of row problem Lower)
               (valid.certificates.each problem Lower is);
         };
-        vessels = vessels network sound;
+        vessels = vessels project sound;
       }
 
       abbrev next-level : Record → ℕ → Tank → Interval
-      next-level r k tank = (stocks_next network grid standing r row.length k tank).level
+      next-level r k tank = (stocks_next project grid standing r row.length k tank).level
 
-      level-within : (k : ℕ) (tank : Tank) → slice_get network.tanks.list k ≡ Some tank
+      level-within : (k : ℕ) (tank : Tank) → slice_get project.tanks.list k ≡ Some tank
           → IsInside (next-level tight k tank) (next-level row k tank)
       level-within k tank at =
-          (stocks_within network sound standing grid row tight tight-nested row.length k tank at).level
+          (stocks_within project sound standing grid row tight tight-nested row.length k tank at).level
 
-      level-there : (k : ℕ) (tank : Tank) → slice_get network.tanks.list k ≡ Some tank
+      level-there : (k : ℕ) (tank : Tank) → slice_get project.tanks.list k ≡ Some tank
           → IsOrdered (next-level tight k tank)
       level-there k tank at =
-          (stocks_there network sound standing grid row tight tight-nested row.length k tank at).level
+          (stocks_there project sound standing grid row tight tight-nested row.length k tank at).level
 
-      control-known : (k : ℕ) (tank : Tank) (above : Bool) (ticks : ℤ) → slice_get network.tanks.list k ≡ Some tank
+      control-known : (k : ℕ) (tank : Tank) (above : Bool) (ticks : ℤ) → slice_get project.tanks.list k ≡ Some tank
           → is_unknown (control_truth (next-level row k tank) above ticks) ≡ false
           → is_unknown (control_truth (next-level tight k tank) above ticks) ≡ false
       control-known k tank above ticks at known =
@@ -263,11 +263,11 @@ module _ (network : Project) (sound : Sound network) where
 
       -- ---- over all tanks
 
-      at-next : (r : Record) (k : ℕ) (tank : Tank) → slice_get network.tanks.list k ≡ Some tank
-          → slice_index_or (levels_next network grid standing r row.length) k nowhere ≡ next-level r k tank
+      at-next : (r : Record) (k : ℕ) (tank : Tank) → slice_get project.tanks.list k ≡ Some tank
+          → slice_index_or (levels_next project grid standing r row.length) k nowhere ≡ next-level r k tank
       at-next r k tank at =
-          numbered_from_start Tank Interval (λ n t. (stocks_next network grid standing r row.length n t).level)
-          network.tanks.list k tank nowhere at
+          numbered_from_start Tank Interval (λ n t. (stocks_next project grid standing r row.length n t).level)
+          project.tanks.list k tank nowhere at
 
       states-same : (f g : ℕ → Tank → Option TankState) (from : ℕ) (tanks : List Tank) (states : List TankState)
           → ((k : ℕ) (tank : Tank) (s : TankState) → slice_get tanks k ≡ Some tank → f (from + k) tank ≡ Some s
@@ -285,39 +285,39 @@ module _ (network : Project) (sound : Sound network) where
           omega arith in subst (λ p. f p t ≡ Some u → g p t ≡ Some u) m (each (suc k) t u at)) others in
           λ i. here i ∷ rest i
 
-      pub next_states : (states : List TankState) → AreStates network (levels_next network grid standing row row.length)
-          states → AreStates network (levels_next network grid standing tight row.length) states
+      pub next_states : (states : List TankState) → AreStates project (levels_next project grid standing row row.length)
+          states → AreStates project (levels_next project grid standing tight row.length) states
       next_states states =
           states-same
-          (λ k tank. state_of tank (slice_index_or (levels_next network grid standing row row.length) k nowhere))
-          (λ k tank. state_of tank (slice_index_or (levels_next network grid standing tight row.length) k nowhere))
-          0 network.tanks.list states
+          (λ k tank. state_of tank (slice_index_or (levels_next project grid standing row row.length) k nowhere))
+          (λ k tank. state_of tank (slice_index_or (levels_next project grid standing tight row.length) k nowhere))
+          0 project.tanks.list states
           (λ k tank s at. let n : k ≡ 0 + k = omega arith in
-          subst (λ m. state_of tank (slice_index_or (levels_next network grid standing row row.length) m nowhere)
-          ≡ Some s → state_of tank (slice_index_or (levels_next network grid standing tight row.length) m nowhere)
+          subst (λ m. state_of tank (slice_index_or (levels_next project grid standing row row.length) m nowhere)
+          ≡ Some s → state_of tank (slice_index_or (levels_next project grid standing tight row.length) m nowhere)
           ≡ Some s) n
           (λ e. ap (state_of tank) (at-next tight k tank at)
           ∙ state_nests tank (next-level tight k tank) (next-level row k tank) s (level-there k tank at)
           (level-within k tank at) (ap (state_of tank) (sym (at-next row k tank at)) ∙ e)))
 
-      pub next_controls : ControlsAreDecided network (levels_next network grid standing row row.length)
-          → ControlsAreDecided network (levels_next network grid standing tight row.length)
-      next_controls decided each k above ticks contained is = by-place (slice_get network.tanks.list k) refl
+      pub next_controls : ControlsAreDecided project (levels_next project grid standing row row.length)
+          → ControlsAreDecided project (levels_next project grid standing tight row.length)
+      next_controls decided each k above ticks contained is = by-place (slice_get project.tanks.list k) refl
         where
           known : is_unknown
-              (control_truth (slice_index_or (levels_next network grid standing row row.length) k nowhere) above ticks)
+              (control_truth (slice_index_or (levels_next project grid standing row row.length) k nowhere) above ticks)
               ≡ false
           known = decided each k above ticks contained is
 
-          by-place : (o : Option Tank) → slice_get network.tanks.list k ≡ o
+          by-place : (o : Option Tank) → slice_get project.tanks.list k ≡ o
               → is_unknown
-              (control_truth (slice_index_or (levels_next network grid standing tight row.length) k nowhere)
+              (control_truth (slice_index_or (levels_next project grid standing tight row.length) k nowhere)
               above ticks) ≡ false
           by-place None at =
-              let a = past (λ n t. (stocks_next network grid standing row row.length n t).level)
-              0 network.tanks.list k at in
-              let b = past (λ n t. (stocks_next network grid standing tight row.length n t).level)
-              0 network.tanks.list k at in
+              let a = past (λ n t. (stocks_next project grid standing row row.length n t).level)
+              0 project.tanks.list k at in
+              let b = past (λ n t. (stocks_next project grid standing tight row.length n t).level)
+              0 project.tanks.list k at in
               ap (λ x. is_unknown (control_truth x above ticks)) (b ∙ sym a) ∙ known
           by-place (Some tank) at =
               ap (λ x. is_unknown (control_truth x above ticks)) (at-next tight k tank at)
@@ -327,31 +327,31 @@ module _ (network : Project) (sound : Sound network) where
       -- the standing that the tight record leads on to: its stocks lie inside the other's
       abbrev tight-next : Standing
       tight-next = record next {
-        levels = levels_next network grid standing tight tight.length;
-        volumes = volumes_next network grid standing tight tight.length;
+        levels = levels_next project grid standing tight tight.length;
+        volumes = volumes_next project grid standing tight tight.length;
       }
 
-      pub tight_continues : Continues network grid standing row next → Continues network grid standing tight tight-next
+      pub tight_continues : Continues project grid standing row next → Continues project grid standing tight tight-next
       tight_continues c =
-          let found = earliest_is network grid standing tight sound.times.hydraulic in
+          let found = earliest_is project grid standing tight sound.times.hydraulic in
           let same = tightened.length_is in
           record {
             not_last = c.not_last;
-            leaves_links = subst (λ n. LeavesLinks network grid standing tight n next.commanded) (sym same)
-                (leaves_so network sound standing grid row tight tight-nested row.length found.0 next.commanded found.1
+            leaves_links = subst (λ n. LeavesLinks project grid standing tight n next.commanded) (sym same)
+                (leaves_so project sound standing grid row tight tight-nested row.length found.0 next.commanded found.1
                 c.leaves_links);
             levels = refl;
             volumes = refl;
-            tanks = subst (λ n. AreStates network (levels_next network grid standing tight n) next.tanks) (sym same)
-                (next_states next.tanks (subst (λ ls. AreStates network ls next.tanks) c.levels c.tanks));
-            controls = subst (λ n. ControlsAreDecided network (levels_next network grid standing tight n)) (sym same)
-                (next_controls (subst (ControlsAreDecided network) c.levels c.controls));
+            tanks = subst (λ n. AreStates project (levels_next project grid standing tight n) next.tanks) (sym same)
+                (next_states next.tanks (subst (λ ls. AreStates project ls next.tanks) c.levels c.tanks));
+            controls = subst (λ n. ControlsAreDecided project (levels_next project grid standing tight n)) (sym same)
+                (next_controls (subst (ControlsAreDecided project) c.levels c.controls));
             number = c.number;
             time = let t = c.time in omega (arith, t, same);
             unfinished = c.unfinished;
           }
 
-      pub tight_is_valid : Continues network grid standing row next → IsValid network standing grid tight tight-next
+      pub tight_is_valid : Continues project grid standing row next → IsValid project standing grid tight tight-next
       tight_is_valid c = record {
         unfinished = valid.unfinished;
         number = tightened.number ∙ valid.number;

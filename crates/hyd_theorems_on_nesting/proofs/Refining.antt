@@ -1,6 +1,6 @@
 -- What an outer record decides an inner one decides in the same way.
 use Rattle.std.proofs.Common.{◌≡◌, ◌≢◌, ℕ, zero, suc, ◌+◌, ◌*◌, ◌≤◌, ℤ, pos, negsuc, neg_ℤ, ◌≤ℤ◌, refl, sym, ap, subst}
-use Rattle.std.proofs.Common.{◌∙◌, arith, Bool, true, false, ◌||◌, List, [], ◌∷◌, map, ◌⊎◌, inl, inr}
+use Rattle.std.proofs.Common.{◌∙◌, arith, Bool, true, false, List, [], ◌∷◌, map, ◌⊎◌, inl, inr}
 use Rattle.std.specs.Prelude.{Some, slice_get, slice_index_or, unsigned_abs, int_le, if◌then◌else◌, ⊤}
 use Rattle.std.specs.List.{AllByRecursion, list_any}
 use Rattle.std.proofs.lemmas.Int.{ints}
@@ -15,8 +15,7 @@ use Rattle.hyd_spec.specs.Tank.{walls_of}
 use Rattle.hyd_spec.specs.Rules.{groups_of, rule_changes, acted}
 use Rattle.hyd_spec_certificates.specs.Stocks.{carried_levels}
 use Rattle.hyd_spec_certificates.specs.ThreeValuedLogic.{Verdict, Yes, No, Unknown, at_both_ends, is_yes, is_unknown}
-use Rattle.hyd_spec_certificates.specs.ThreeValuedLogic.{either}
-use Rattle.hyd_spec_certificates.specs.ThreeValuedLogic.{both, some_holds, all_hold}
+use Rattle.hyd_spec_certificates.specs.ThreeValuedLogic.{either, both, some_holds, all_hold}
 use Rattle.hyd_spec_certificates.specs.PeriodNetwork.{Grid, GridLink}
 use Rattle.hyd_spec_certificates.specs.FlowIntervals.{flow_box}
 use Rattle.hyd_spec_certificates.specs.RecordAndStanding.{Record, Standing}
@@ -29,9 +28,9 @@ use Rattle.hyd_spec_certificates.specs.Decided.{by_clock as decided_by_clock}
 use Rattle.hyd_spec_certificates.specs.Valid.{LeavesLinks, by_rules as left_by_rules, by_clock as left_by_clock}
 use Rattle.hyd_spec_certificates.specs.Valid.{stocks_next}
 use Rattle.hyd_theorems_on_definitions.specs.TermsOfTheorems.{LiesIn, IsInside, AreInside, HasStock, Tells}
+use Rattle.hyd_num.proofs.Integers.{one_times}
 use Rattle.hyd_lemmas.proofs.Integers.{max_is}
-use Rattle.hyd_theorems_on_definitions.proofs.Outflows.{le-no}
-use Rattle.hyd_theorems_on_definitions.proofs.Leading.{one_times}
+use Rattle.hyd_lemmas.proofs.Trials.{or-false, le-no}
 use Rattle.hyd_theorems_on_definitions.proofs.Levelling.{carried_inside, carried_ordered, next_inside, next_has}
 use Rattle.hyd_theorems_on_definitions.proofs.Deciding.{may_nests, must_nests, must_may}
 use Rattle.hyd_theorems_on_histories.specs.Agreement.{IsValueBetween, AreBetween}
@@ -196,10 +195,6 @@ known-same Yes u e r = sym r
 known-same No u e r = sym r
 known-same Unknown u e r = absurd (cc)
 
-or-false : (a b : Bool) → (a || b) ≡ false → (a ≡ false) × (b ≡ false)
-or-false true b e = absurd (cc)
-or-false false b e = (refl, e)
-
 all-known-same : (f g : Rule → Verdict) (rules : List Rule) → AllByRecursion (λ (r : Rule). Refines (f r) (g r)) rules
     → list_any is_unknown (map f rules) ≡ false → map f rules ≡ map g rules
 all-known-same f g [] all e = refl
@@ -214,8 +209,8 @@ all-rules : (P Q : Rule → Type 0) (rules : List Rule) → ((r : Rule) → P r 
 all-rules P Q [] f all = tt
 all-rules P Q (r ∷ rules) f all = (f r all.0, all-rules P Q rules f all.1)
 
-module _ (network : Project) (sound : Sound network) (standing : Standing) (grid : Grid) (outer inner : Record)
-    (nested : AreNested network standing grid outer inner) where
+module _ (project : Project) (sound : Sound project) (standing : Standing) (grid : Grid) (outer inner : Record)
+    (nested : AreNested project standing grid outer inner) where
   abbrev out-flow : GridLink → Interval
   out-flow link = flow_box link (heads_below grid outer) (heads_above grid outer)
 
@@ -223,12 +218,12 @@ module _ (network : Project) (sound : Sound network) (standing : Standing) (grid
   in-flow link = flow_box link (heads_below grid inner) (heads_above grid inner)
 
   abbrev out-level : ℕ → ℕ → Tank → Interval
-  out-level seconds k tank = carried_levels (walls_of network tank) tank (stocks_of_tank standing k)
-      (inflow_of_tank network grid outer k) seconds
+  out-level seconds k tank = carried_levels (walls_of project tank) tank (stocks_of_tank standing k)
+      (inflow_of_tank project grid outer k) seconds
 
   abbrev in-level : ℕ → ℕ → Tank → Interval
-  in-level seconds k tank = carried_levels (walls_of network tank) tank (stocks_of_tank standing k)
-      (inflow_of_tank network grid inner k) seconds
+  in-level seconds k tank = carried_levels (walls_of project tank) tank (stocks_of_tank standing k)
+      (inflow_of_tank project grid inner k) seconds
 
   same-stocks : (k : ℕ) → AreInside (stocks_of_tank standing k) (stocks_of_tank standing k)
   same-stocks k = record {
@@ -236,46 +231,46 @@ module _ (network : Project) (sound : Sound network) (standing : Standing) (grid
     volume = record { low = omega (arith, ints); high = omega (arith, ints) };
   }
 
-  carried-within : (seconds k : ℕ) (tank : Tank) → slice_get network.tanks.list k ≡ Some tank
+  carried-within : (seconds k : ℕ) (tank : Tank) → slice_get project.tanks.list k ≡ Some tank
       → IsInside (in-level seconds k tank) (out-level seconds k tank)
   carried-within seconds k tank at =
-      carried_inside (walls_of network tank) tank (nested.vessels k tank at) (stocks_of_tank standing k)
-      (stocks_of_tank standing k) (inflow_of_tank network grid inner k) (inflow_of_tank network grid outer k)
+      carried_inside (walls_of project tank) tank (nested.vessels k tank at) (stocks_of_tank standing k)
+      (stocks_of_tank standing k) (inflow_of_tank project grid inner k) (inflow_of_tank project grid outer k)
       seconds
-      (same-stocks k) (inflow_inside network standing grid outer inner nested k tank at)
+      (same-stocks k) (inflow_inside project standing grid outer inner nested k tank at)
 
-  carried-there : (seconds k : ℕ) (tank : Tank) → slice_get network.tanks.list k ≡ Some tank
+  carried-there : (seconds k : ℕ) (tank : Tank) → slice_get project.tanks.list k ≡ Some tank
       → IsOrdered (in-level seconds k tank)
   carried-there seconds k tank at =
-      carried_ordered (walls_of network tank) tank (nested.vessels k tank at) (stocks_of_tank standing k)
-      (inflow_of_tank network grid inner k) seconds
-      (nested.ordered k) (inflow_ordered network standing grid outer inner nested k tank at)
+      carried_ordered (walls_of project tank) tank (nested.vessels k tank at) (stocks_of_tank standing k)
+      (inflow_of_tank project grid inner k) seconds
+      (nested.ordered k) (inflow_ordered project standing grid outer inner nested k tank at)
 
   -- the next stocks of the inner record lie inside those of the outer one, and are there
-  pub stocks_within : (seconds k : ℕ) (tank : Tank) → slice_get network.tanks.list k ≡ Some tank
-      → AreInside (stocks_next network grid standing inner seconds k tank)
-      (stocks_next network grid standing outer seconds k tank)
+  pub stocks_within : (seconds k : ℕ) (tank : Tank) → slice_get project.tanks.list k ≡ Some tank
+      → AreInside (stocks_next project grid standing inner seconds k tank)
+      (stocks_next project grid standing outer seconds k tank)
   stocks_within seconds k tank at =
-      next_inside (walls_of network tank) tank (stocks_of_tank standing k) (stocks_of_tank standing k)
-      (inflow_of_tank network grid inner k) (inflow_of_tank network grid outer k) seconds
-      (nested.vessels k tank at) (same-stocks k) (inflow_inside network standing grid outer inner nested k tank at)
+      next_inside (walls_of project tank) tank (stocks_of_tank standing k) (stocks_of_tank standing k)
+      (inflow_of_tank project grid inner k) (inflow_of_tank project grid outer k) seconds
+      (nested.vessels k tank at) (same-stocks k) (inflow_inside project standing grid outer inner nested k tank at)
 
-  pub stocks_there : (seconds k : ℕ) (tank : Tank) → slice_get network.tanks.list k ≡ Some tank
-      → HasStock (stocks_next network grid standing inner seconds k tank)
+  pub stocks_there : (seconds k : ℕ) (tank : Tank) → slice_get project.tanks.list k ≡ Some tank
+      → HasStock (stocks_next project grid standing inner seconds k tank)
   stocks_there seconds k tank at =
-      next_has (walls_of network tank) tank (stocks_of_tank standing k) (inflow_of_tank network grid inner k) seconds
+      next_has (walls_of project tank) tank (stocks_of_tank standing k) (inflow_of_tank project grid inner k) seconds
       (nested.vessels k tank at)
-      (nested.ordered k) (inflow_ordered network standing grid outer inner nested k tank at)
+      (nested.ordered k) (inflow_ordered project standing grid outer inner nested k tank at)
 
   -- ---- readings
 
-  lower-reading : (seconds : ℕ) → AreBetween network 1 (readings_below network grid standing outer seconds)
-      (readings_below network grid standing inner seconds) (readings_above network grid standing outer seconds)
+  lower-reading : (seconds : ℕ) → AreBetween project 1 (readings_below project grid standing outer seconds)
+      (readings_below project grid standing inner seconds) (readings_above project grid standing outer seconds)
   lower-reading seconds = record {
-    heads = λ m before. lies-one (record { lo = _; hi = _ }) _ (below_within network standing grid outer inner nested m)
-        (let a = inner_ordered network standing grid outer inner nested m in
-        let b = above_within network standing grid outer inner nested m in omega (arith, ints, a, b));
-    levels = mapped-levels (out-level seconds) (in-level seconds) (λ x. x.lo) 0 network.tanks.list
+    heads = λ m before. lies-one (record { lo = _; hi = _ }) _ (below_within project standing grid outer inner nested m)
+        (let a = inner_ordered project standing grid outer inner nested m in
+        let b = above_within project standing grid outer inner nested m in omega (arith, ints, a, b));
+    levels = mapped-levels (out-level seconds) (in-level seconds) (λ x. x.lo) 0 project.tanks.list
         (λ k tank at. let n : k ≡ 0 + k = omega arith in
         subst (λ p. LiesIn 1 (out-level seconds p tank) (in-level seconds p tank).lo) n
         (widened-lies (in-level seconds k tank) (out-level seconds k tank) (in-level seconds k tank).lo
@@ -284,24 +279,24 @@ module _ (network : Project) (sound : Sound network) (standing : Standing) (grid
         (carried-there seconds k tank at))));
     flows_below = λ l. (mapped-magnitudes out-flow in-flow least_magnitude grid.links
         (λ m link at. magnitudes (out-flow link) (in-flow link) (least_magnitude (in-flow link))
-        (flow_inside network standing grid outer inner nested m link at)
-        (least-point (in-flow link) (flow_ordered network standing grid outer inner nested m link at))) l).0;
+        (flow_inside project standing grid outer inner nested m link at)
+        (least-point (in-flow link) (flow_ordered project standing grid outer inner nested m link at))) l).0;
     flows_above = λ l. (mapped-magnitudes out-flow in-flow least_magnitude grid.links
         (λ m link at. magnitudes (out-flow link) (in-flow link) (least_magnitude (in-flow link))
-        (flow_inside network standing grid outer inner nested m link at)
-        (least-point (in-flow link) (flow_ordered network standing grid outer inner nested m link at))) l).1;
+        (flow_inside project standing grid outer inner nested m link at)
+        (least-point (in-flow link) (flow_ordered project standing grid outer inner nested m link at))) l).1;
     links_below = refl;
     links_above = refl;
   }
 
-  upper-reading : (seconds : ℕ) → AreBetween network 1 (readings_below network grid standing outer seconds)
-      (readings_above network grid standing inner seconds) (readings_above network grid standing outer seconds)
+  upper-reading : (seconds : ℕ) → AreBetween project 1 (readings_below project grid standing outer seconds)
+      (readings_above project grid standing inner seconds) (readings_above project grid standing outer seconds)
   upper-reading seconds = record {
     heads = λ m before. lies-one (record { lo = _; hi = _ }) _
-        (let a = inner_ordered network standing grid outer inner nested m in
-        let b = below_within network standing grid outer inner nested m in omega (arith, ints, a, b))
-        (above_within network standing grid outer inner nested m);
-    levels = mapped-levels (out-level seconds) (in-level seconds) (λ x. x.hi) 0 network.tanks.list
+        (let a = inner_ordered project standing grid outer inner nested m in
+        let b = below_within project standing grid outer inner nested m in omega (arith, ints, a, b))
+        (above_within project standing grid outer inner nested m);
+    levels = mapped-levels (out-level seconds) (in-level seconds) (λ x. x.hi) 0 project.tanks.list
         (λ k tank at. let n : k ≡ 0 + k = omega arith in
         subst (λ p. LiesIn 1 (out-level seconds p tank) (in-level seconds p tank).hi) n
         (widened-lies (in-level seconds k tank) (out-level seconds k tank) (in-level seconds k tank).hi
@@ -310,12 +305,12 @@ module _ (network : Project) (sound : Sound network) (standing : Standing) (grid
         (omega (arith, ints)))));
     flows_below = λ l. (mapped-magnitudes out-flow in-flow greatest_magnitude grid.links
         (λ m link at. magnitudes (out-flow link) (in-flow link) (greatest_magnitude (in-flow link))
-        (flow_inside network standing grid outer inner nested m link at)
-        (greatest-point (in-flow link) (flow_ordered network standing grid outer inner nested m link at))) l).0;
+        (flow_inside project standing grid outer inner nested m link at)
+        (greatest-point (in-flow link) (flow_ordered project standing grid outer inner nested m link at))) l).0;
     flows_above = λ l. (mapped-magnitudes out-flow in-flow greatest_magnitude grid.links
         (λ m link at. magnitudes (out-flow link) (in-flow link) (greatest_magnitude (in-flow link))
-        (flow_inside network standing grid outer inner nested m link at)
-        (greatest-point (in-flow link) (flow_ordered network standing grid outer inner nested m link at))) l).1;
+        (flow_inside project standing grid outer inner nested m link at)
+        (greatest-point (in-flow link) (flow_ordered project standing grid outer inner nested m link at))) l).1;
     links_below = refl;
     links_above = refl;
   }
@@ -323,114 +318,114 @@ module _ (network : Project) (sound : Sound network) (standing : Standing) (grid
   -- ---- rules
 
   clause-refines : (seconds : ℕ) (clause : Clause) → Compares clause.what clause.relation
-      → Refines (clause_truth network grid standing outer seconds clause)
-      (clause_truth network grid standing inner seconds clause)
+      → Refines (clause_truth project grid standing outer seconds clause)
+      (clause_truth project grid standing inner seconds clause)
   clause-refines seconds clause way =
-      ends-refine (clause_truth network grid standing outer seconds clause) _ _
-      (clause_tells network 1 (standing.time + seconds) _ _ _ clause (omega arith) way (lower-reading seconds))
-      (clause_tells network 1 (standing.time + seconds) _ _ _ clause (omega arith) way (upper-reading seconds))
+      ends-refine (clause_truth project grid standing outer seconds clause) _ _
+      (clause_tells project 1 (standing.time + seconds) _ _ _ clause (omega arith) way (lower-reading seconds))
+      (clause_tells project 1 (standing.time + seconds) _ _ _ clause (omega arith) way (upper-reading seconds))
 
-  truths-same : (seconds : ℕ) → list_any is_unknown (rule_truths network grid standing outer seconds) ≡ false
-      → rule_truths network grid standing outer seconds ≡ rule_truths network grid standing inner seconds
-  truths-same seconds = all-known-same (rule_truth network grid standing outer seconds)
-      (rule_truth network grid standing inner seconds) network.rules.list
-      (all-rules (IsRule network) (λ r. Refines (rule_truth network grid standing outer seconds r)
-      (rule_truth network grid standing inner seconds r)) network.rules.list
-      (λ rule is. groups-refine (clause_truth network grid standing outer seconds)
-      (clause_truth network grid standing inner seconds) (groups_of rule)
-      (in-groups (λ clause. Refines (clause_truth network grid standing outer seconds clause)
-      (clause_truth network grid standing inner seconds clause)) rule
-      (each_of RuleClause (λ row. Refines (clause_truth network grid standing outer seconds row.clause)
-      (clause_truth network grid standing inner seconds row.clause)) rule.clauses.list
+  truths-same : (seconds : ℕ) → list_any is_unknown (rule_truths project grid standing outer seconds) ≡ false
+      → rule_truths project grid standing outer seconds ≡ rule_truths project grid standing inner seconds
+  truths-same seconds = all-known-same (rule_truth project grid standing outer seconds)
+      (rule_truth project grid standing inner seconds) project.rules.list
+      (all-rules (IsRule project) (λ r. Refines (rule_truth project grid standing outer seconds r)
+      (rule_truth project grid standing inner seconds r)) project.rules.list
+      (λ rule is. groups-refine (clause_truth project grid standing outer seconds)
+      (clause_truth project grid standing inner seconds) (groups_of rule)
+      (in-groups (λ clause. Refines (clause_truth project grid standing outer seconds clause)
+      (clause_truth project grid standing inner seconds clause)) rule
+      (each_of RuleClause (λ row. Refines (clause_truth project grid standing outer seconds row.clause)
+      (clause_truth project grid standing inner seconds row.clause)) rule.clauses.list
       (λ k d le. clause-refines seconds (slice_index_or rule.clauses.list k d).clause (is.clauses k d le).relation))))
-      (each_of Rule (IsRule network) network.rules.list sound.rules))
+      (each_of Rule (IsRule project) project.rules.list sound.rules))
 
-  changes-same : (seconds : ℕ) → list_any is_unknown (rule_truths network grid standing outer seconds) ≡ false
-      → decided_changes network grid standing outer seconds ≡ decided_changes network grid standing inner seconds
-  changes-same seconds known = ap (λ ts. rule_changes network (map is_yes ts) (links_at network standing))
+  changes-same : (seconds : ℕ) → list_any is_unknown (rule_truths project grid standing outer seconds) ≡ false
+      → decided_changes project grid standing outer seconds ≡ decided_changes project grid standing inner seconds
+  changes-same seconds known = ap (λ ts. rule_changes project (map is_yes ts) (links_at project standing))
       (truths-same seconds known)
 
-  matters-out : (seconds : ℕ) → RulesMatter network grid standing inner seconds
-      → RulesMatter network grid standing outer seconds
+  matters-out : (seconds : ℕ) → RulesMatter project grid standing inner seconds
+      → RulesMatter project grid standing outer seconds
   matters-out seconds matters = record {
     tried = matters.tried;
-    matters = elim (cases_Bool (list_any is_unknown (rule_truths network grid standing outer seconds))) [
+    matters = elim (cases_Bool (list_any is_unknown (rule_truths project grid standing outer seconds))) [
       | inl unknown ↦ inl unknown
       | inr known ↦ inr (λ none. changed known matters.matters (sym (changes-same seconds known) ∙ none))
     ];
   }
     where
-      changed : list_any is_unknown (rule_truths network grid standing outer seconds) ≡ false
-          → (list_any is_unknown (rule_truths network grid standing inner seconds) ≡ true) ⊎
-          (decided_changes network grid standing inner seconds ≢ [])
-          → decided_changes network grid standing inner seconds ≡ [] → ⊥
+      changed : list_any is_unknown (rule_truths project grid standing outer seconds) ≡ false
+          → (list_any is_unknown (rule_truths project grid standing inner seconds) ≡ true) ⊎
+          (decided_changes project grid standing inner seconds ≢ [])
+          → decided_changes project grid standing inner seconds ≡ [] → ⊥
       changed known (inl unknown) none = let e = ap (list_any is_unknown) (truths-same seconds known) in absurd (cc)
       changed known (inr other) none = other none
 
-  matters-in : (seconds : ℕ) → list_any is_unknown (rule_truths network grid standing outer seconds) ≡ false
-      → RulesMatter network grid standing outer seconds → RulesMatter network grid standing inner seconds
+  matters-in : (seconds : ℕ) → list_any is_unknown (rule_truths project grid standing outer seconds) ≡ false
+      → RulesMatter project grid standing outer seconds → RulesMatter project grid standing inner seconds
   matters-in seconds known matters = record {
     tried = matters.tried;
     matters =
         inr (λ none. changed matters.matters (changes-same seconds known ∙ none));
   }
     where
-      changed : (list_any is_unknown (rule_truths network grid standing outer seconds) ≡ true) ⊎
-          (decided_changes network grid standing outer seconds ≢ [])
-          → decided_changes network grid standing outer seconds ≡ [] → ⊥
+      changed : (list_any is_unknown (rule_truths project grid standing outer seconds) ≡ true) ⊎
+          (decided_changes project grid standing outer seconds ≢ [])
+          → decided_changes project grid standing outer seconds ≡ [] → ⊥
       changed (inl unknown) none = absurd (cc)
       changed (inr other) none = other none
 
   -- ---- events
 
-  may-out : (seconds : ℕ) → SomeMayReach network grid standing inner seconds
-      → SomeMayReach network grid standing outer seconds
+  may-out : (seconds : ℕ) → SomeMayReach project grid standing inner seconds
+      → SomeMayReach project grid standing outer seconds
   may-out seconds r = record {
     watch = r.watch;
     is_watched = r.is_watched;
     tank = r.tank;
     is_tank = r.is_tank;
-    reached = may_nests (walls_of network r.tank) r.tank (stocks_of_tank standing r.watch.tank)
-        (stocks_of_tank standing r.watch.tank) (inflow_of_tank network grid inner r.watch.tank)
-        (inflow_of_tank network grid outer r.watch.tank) r.watch.target r.watch.rising seconds
+    reached = may_nests (walls_of project r.tank) r.tank (stocks_of_tank standing r.watch.tank)
+        (stocks_of_tank standing r.watch.tank) (inflow_of_tank project grid inner r.watch.tank)
+        (inflow_of_tank project grid outer r.watch.tank) r.watch.target r.watch.rising seconds
         (nested.vessels r.watch.tank r.tank r.is_tank) (same-stocks r.watch.tank)
-        (inflow_inside network standing grid outer inner nested r.watch.tank r.tank r.is_tank) r.reached;
+        (inflow_inside project standing grid outer inner nested r.watch.tank r.tank r.is_tank) r.reached;
   }
 
-  must-in : (seconds : ℕ) → SomeMustReach network grid standing outer seconds
-      → SomeMustReach network grid standing inner seconds
+  must-in : (seconds : ℕ) → SomeMustReach project grid standing outer seconds
+      → SomeMustReach project grid standing inner seconds
   must-in seconds r = record {
     watch = r.watch;
     is_watched = r.is_watched;
     tank = r.tank;
     is_tank = r.is_tank;
-    reached = must_nests (walls_of network r.tank) r.tank (stocks_of_tank standing r.watch.tank)
-        (stocks_of_tank standing r.watch.tank) (inflow_of_tank network grid inner r.watch.tank)
-        (inflow_of_tank network grid outer r.watch.tank) r.watch.target r.watch.rising seconds
+    reached = must_nests (walls_of project r.tank) r.tank (stocks_of_tank standing r.watch.tank)
+        (stocks_of_tank standing r.watch.tank) (inflow_of_tank project grid inner r.watch.tank)
+        (inflow_of_tank project grid outer r.watch.tank) r.watch.target r.watch.rising seconds
         (nested.vessels r.watch.tank r.tank r.is_tank) (same-stocks r.watch.tank)
-        (inflow_inside network standing grid outer inner nested r.watch.tank r.tank r.is_tank) r.reached;
+        (inflow_inside project standing grid outer inner nested r.watch.tank r.tank r.is_tank) r.reached;
   }
 
-  must-may : (seconds : ℕ) → SomeMustReach network grid standing inner seconds
-      → SomeMayReach network grid standing inner seconds
+  must-may : (seconds : ℕ) → SomeMustReach project grid standing inner seconds
+      → SomeMayReach project grid standing inner seconds
   must-may seconds r = record {
     watch = r.watch;
     is_watched = r.is_watched;
     tank = r.tank;
     is_tank = r.is_tank;
-    reached = must_may (walls_of network r.tank) r.tank (stocks_of_tank standing r.watch.tank)
-        (inflow_of_tank network grid inner r.watch.tank) r.watch.target r.watch.rising seconds
+    reached = must_may (walls_of project r.tank) r.tank (stocks_of_tank standing r.watch.tank)
+        (inflow_of_tank project grid inner r.watch.tank) r.watch.target r.watch.rising seconds
         (nested.vessels r.watch.tank r.tank r.is_tank) (nested.ordered r.watch.tank)
-        (inflow_ordered network standing grid outer inner nested r.watch.tank r.tank r.is_tank) r.reached;
+        (inflow_ordered project standing grid outer inner nested r.watch.tank r.tank r.is_tank) r.reached;
   }
 
   -- ---- the end
 
   abbrev MayEndBy : Record → ℕ → Type 0
-  MayEndBy row s = IsClockLength network standing.time s ⊎ ((1 ≤ s) × SomeMayReach network grid standing row s)
+  MayEndBy row s = IsClockLength project standing.time s ⊎ ((1 ≤ s) × SomeMayReach project grid standing row s)
 
   abbrev MustEndBy : Record → ℕ → Type 0
-  MustEndBy row s = IsClockLength network standing.time s ⊎ ((1 ≤ s) × SomeMustReach network grid standing row s)
+  MustEndBy row s = IsClockLength project standing.time s ⊎ ((1 ≤ s) × SomeMustReach project grid standing row s)
 
   end-out : (s : ℕ) → MayEndBy inner s → MayEndBy outer s
   end-out s (inl clock) = inl clock
@@ -444,8 +439,8 @@ module _ (network : Project) (sound : Sound network) (standing : Standing) (grid
   end-may s (inl clock) = inl clock
   end-may s (inr r) = inr (r.0, must-may s r.1)
 
-  pub clock_ends_so : (s : ℕ) → EndsBy network grid standing outer (WithoutRules s)
-      → EndsBy network grid standing inner (WithoutRules s)
+  pub clock_ends_so : (s : ℕ) → EndsBy project grid standing outer (WithoutRules s)
+      → EndsBy project grid standing inner (WithoutRules s)
   clock_ends_so s (decided_by_clock none latest) = decided_by_clock
       (record {
         not_last = none.not_last;
@@ -460,8 +455,8 @@ module _ (network : Project) (sound : Sound network) (standing : Standing) (grid
         least = λ k ends. none.is_earliest.least k (end-out k (end-may k ends));
       })
 
-  pub rules_end_so : (s earliest : ℕ) → IsEarliestEnd network grid standing inner earliest
-      → EndsBy network grid standing outer (ByRules s) → EndsBy network grid standing inner (ByRules s)
+  pub rules_end_so : (s earliest : ℕ) → IsEarliestEnd project grid standing inner earliest
+      → EndsBy project grid standing outer (ByRules s) → EndsBy project grid standing inner (ByRules s)
   rules_end_so s earliest is (decided_by_rules first known) = decided_by_rules
       (record {
         not_last = first.not_last;
@@ -476,10 +471,10 @@ module _ (network : Project) (sound : Sound network) (standing : Standing) (grid
       })
       (ap (list_any is_unknown) (sym (truths-same s known)) ∙ known)
 
-  pub leaves_so : (s earliest : ℕ) (links : List LinkState) → IsEarliestEnd network grid standing inner earliest
-      → LeavesLinks network grid standing outer s links → LeavesLinks network grid standing inner s links
+  pub leaves_so : (s earliest : ℕ) (links : List LinkState) → IsEarliestEnd project grid standing inner earliest
+      → LeavesLinks project grid standing outer s links → LeavesLinks project grid standing inner s links
   leaves_so s earliest _ is (left_by_rules (decided_by_rules first known)) =
-      subst (λ ts. LeavesLinks network grid standing inner s
-      (acted network (map is_yes ts) (links_at network standing))) (sym (truths-same s known))
+      subst (λ ts. LeavesLinks project grid standing inner s
+      (acted project (map is_yes ts) (links_at project standing))) (sym (truths-same s known))
       (left_by_rules (rules_end_so s earliest is (decided_by_rules first known)))
   leaves_so s earliest _ is (left_by_clock ends) = left_by_clock (clock_ends_so s ends)

@@ -8,8 +8,6 @@ use Rattle.std.proofs.lemmas.Int.{ints}
 use Rattle.std.proofs.lemmas.Option.{slice_get_within}
 use Rattle.hyd_num.specs.Rational.{Rational}
 use Rattle.hyd_num.specs.PrintedDecimals.{head_quantity, pressure_quantity, flow_quantity}
-use Rattle.hyd_num.specs.declared.flow_units.FlowUnit.{FlowUnit}
-use Rattle.hyd_num.specs.declared.flow_units.FlowUnit.TheVariants.{Cfs, Gpm, Mgd, Imgd, Afd, Lps, Lpm, Mld, Cmh, Cmd}
 use Rattle.hyd_num.proofs.Floors.{floor_is, ceiling_is}
 use Rattle.hyd_net.specs.Sound.{Sound}
 use Rattle.hyd_spec.specs.ProgramTypes.{Project, Tank, Link, LinkState}
@@ -30,32 +28,13 @@ use Rattle.hyd_spec_reports.specs.ReportLine.{ReportLine}
 use Rattle.hyd_spec_reports.specs.Report.{Prints, is_report_time, LineEach, IsJunctionLine, IsReservoirLine, IsTankLine}
 use Rattle.hyd_spec_reports.specs.Report.{IsLinkLine, AreStateLines, events_of, EndBrings, at_end, by_rules, by_clock}
 use Rattle.hyd_spec_reports.specs.Report.{IsReport}
+use Rattle.hyd_lemmas.proofs.Quantities.{flow_above, head_above, pressure_above}
 use Rattle.hyd_theorems_on_definitions.proofs.OneStanding.{there}
 use Rattle.hyd_theorems_on_histories.specs.Agreement.{IsOwnState, IsKept}
 use Rattle.hyd_theorems_on_histories.proofs.Commanding.{started_own}
 use Rattle.hyd_theorems_on_nesting.specs.Nesting.{IsTidy}
 
 -- ---- printed intervals
-
-head-parts : (us : Bool) (t : ℤ) → 0 < (head_quantity us t).den
-head-parts true t = omega arith
-head-parts false t = omega arith
-
-pressure-parts : (us : Bool) (t : ℤ) → 0 < (pressure_quantity us t).den
-pressure-parts true t = omega arith
-pressure-parts false t = omega arith
-
-flow-parts : (unit : FlowUnit) (t : ℤ) → 0 < (flow_quantity unit t).den
-flow-parts Cfs t = omega arith
-flow-parts Gpm t = omega arith
-flow-parts Mgd t = omega arith
-flow-parts Imgd t = omega arith
-flow-parts Afd t = omega arith
-flow-parts Lps t = omega arith
-flow-parts Lpm t = omega arith
-flow-parts Mld t = omega arith
-flow-parts Cmh t = omega arith
-flow-parts Cmd t = omega arith
 
 prints : (quantity : ℤ → Rational) → ((t : ℤ) → 0 < (quantity t).den) → (ticks : Interval)
     → (ends : Interval) × Prints quantity ticks ends
@@ -100,29 +79,29 @@ mapped-there X Y f (z ∷ xs) zero x at = ap (λ (y : X). Some (f y)) (let e : z
 mapped-there X Y f (z ∷ xs) (suc k) x at = mapped-there X Y f xs k x at
 
 -- a link of the network has its place in the grid
-place-there : (network : Project) (tanks : List TankState) (links : List Link) (states : List LinkState) (l : ℕ)
-    (link : Link) → AllZip (IsOwnState network) links states
-    → slice_get links l ≡ Some link → (place : GridLink) × (slice_get (grid_links network tanks links states) l
+place-there : (project : Project) (tanks : List TankState) (links : List Link) (states : List LinkState) (l : ℕ)
+    (link : Link) → AllZip (IsOwnState project) links states
+    → slice_get links l ≡ Some link → (place : GridLink) × (slice_get (grid_links project tanks links states) l
     ≡ Some place)
-place-there network tanks [] states l link all at = absurd (cc)
-place-there network tanks (x ∷ links) [] l link all at = absurd all
-place-there network tanks (x ∷ links) (s ∷ states) zero link all at = (_, refl)
-place-there network tanks (x ∷ links) (s ∷ states) (suc l) link all at =
-    place-there network tanks links states l link all.1 at
+place-there project tanks [] states l link all at = absurd (cc)
+place-there project tanks (x ∷ links) [] l link all at = absurd all
+place-there project tanks (x ∷ links) (s ∷ states) zero link all at = (_, refl)
+place-there project tanks (x ∷ links) (s ∷ states) (suc l) link all at =
+    place-there project tanks links states l link all.1 at
 
-module _ (network : Project) (sound : Sound network) (grid : Grid) (standing : Standing) (row : Record)
-    (kept : IsKept network standing) (tidy : IsTidy network standing)
-    (is_grid : IsGridAt network standing grid) where
+module _ (project : Project) (sound : Sound project) (grid : Grid) (standing : Standing) (row : Record)
+    (kept : IsKept project standing) (tidy : IsTidy project standing)
+    (is_grid : IsGridAt project standing grid) where
   abbrev us : Bool
-  us = is_us network
+  us = is_us project
 
-  junction-line : (j : ℕ) (junction : GridJunction) → (l : ReportLine) × IsJunctionLine network grid row j junction l
+  junction-line : (j : ℕ) (junction : GridJunction) → (l : ReportLine) × IsJunctionLine project grid row j junction l
   junction-line j junction =
       let heads : Interval = record { lo = head_at row.main.lower j; hi = head_at row.main.upper j } in
-      let head = prints (head_quantity us) (head-parts us) heads in
-      let pressure = prints (pressure_quantity us) (pressure-parts us)
+      let head = prints (head_quantity us) (head_above us) heads in
+      let pressure = prints (pressure_quantity us) (pressure_above us)
       (record { lo = heads.lo -ℤ junction.elevation; hi = heads.hi -ℤ junction.elevation }) in
-      let outflow = prints (flow_quantity network.options.unit) (flow-parts network.options.unit)
+      let outflow = prints (flow_quantity project.options.unit) (flow_above project.options.unit)
       (out_box junction heads.lo heads.hi) in (
         _,
         record {
@@ -138,21 +117,21 @@ module _ (network : Project) (sound : Sound network) (grid : Grid) (standing : S
         },
       )
 
-  reservoir-line : (r : ℕ) (height : ℤ) → (l : ReportLine) × IsReservoirLine network r height l
+  reservoir-line : (r : ℕ) (height : ℤ) → (l : ReportLine) × IsReservoirLine project r height l
   reservoir-line r height =
-      let head = prints (head_quantity us) (head-parts us) (exactly height) in
+      let head = prints (head_quantity us) (head_above us) (exactly height) in
       (_, record { head = head.0; is_line = refl; head_is = head.1 })
 
-  tank-line : (k : ℕ) (tank : Tank) → slice_get network.tanks.list k ≡ Some tank
-      → (l : ReportLine) × IsTankLine network grid standing row k tank l
+  tank-line : (k : ℕ) (tank : Tank) → slice_get project.tanks.list k ≡ Some tank
+      → (l : ReportLine) × IsTankLine project grid standing row k tank l
   tank-line k tank at =
       let each = tidy.tanks_each in
-      let inside = slice_get_within network.tanks.list k tank at in
+      let inside = slice_get_within project.tanks.list k tank at in
       let state = there TankState standing.tanks k (omega (arith, each, inside)) in
-      let head = prints (head_quantity us) (head-parts us) (shifted tank.bottom (level_of_tank standing k)) in
-      let level = prints (head_quantity us) (head-parts us) (level_of_tank standing k) in
-      let inflow = prints (flow_quantity network.options.unit) (flow-parts network.options.unit)
-      (inflow_of_tank network grid row k) in (
+      let head = prints (head_quantity us) (head_above us) (shifted tank.bottom (level_of_tank standing k)) in
+      let level = prints (head_quantity us) (head_above us) (level_of_tank standing k) in
+      let inflow = prints (flow_quantity project.options.unit) (flow_above project.options.unit)
+      (inflow_of_tank project grid row k) in (
         _,
         record {
           head = head.0;
@@ -167,14 +146,14 @@ module _ (network : Project) (sound : Sound network) (grid : Grid) (standing : S
         },
       )
 
-  link-line : (l : ℕ) (link : Link) → slice_get network.links.list l ≡ Some link
-      → (each : ReportLine) × IsLinkLine network grid standing row l link each
+  link-line : (l : ℕ) (link : Link) → slice_get project.links.list l ≡ Some link
+      → (each : ReportLine) × IsLinkLine project grid standing row l link each
   link-line l link at =
-      let own = started_own network sound standing.time (acts_on standing.levels) standing.commanded kept.states in
-      let found = place-there network standing.tanks network.links.list (links_at network standing) l link own at in
+      let own = started_own project sound standing.time (acts_on standing.levels) standing.commanded kept.states in
+      let found = place-there project standing.tanks project.links.list (links_at project standing) l link own at in
       let place_is : slice_get grid.links l ≡ Some found.0 = ap (λ ls. slice_get ls l) is_grid.links_are ∙ found.1 in
       let box = flow_box found.0 (heads_below grid row) (heads_above grid row) in
-      let flow = prints (flow_quantity network.options.unit) (flow-parts network.options.unit) box in (
+      let flow = prints (flow_quantity project.options.unit) (flow_above project.options.unit) box in (
         _,
         record {
           place = found.0;
@@ -188,13 +167,13 @@ module _ (network : Project) (sound : Sound network) (grid : Grid) (standing : S
         },
       )
 
-  state-lines : (lines : List ReportLine) × AreStateLines network grid standing row lines
+  state-lines : (lines : List ReportLine) × AreStateLines project grid standing row lines
   state-lines =
-      let junctions = every GridJunction (IsJunctionLine network grid row) grid.junctions
+      let junctions = every GridJunction (IsJunctionLine project grid row) grid.junctions
       (λ j junction at. junction-line j junction) in
-      let reservoirs = every ℤ (IsReservoirLine network) grid.reservoirs (λ r height at. reservoir-line r height) in
-      let tanks = every Tank (IsTankLine network grid standing row) network.tanks.list tank-line in
-      let links = every Link (IsLinkLine network grid standing row) network.links.list link-line in (
+      let reservoirs = every ℤ (IsReservoirLine project) grid.reservoirs (λ r height at. reservoir-line r height) in
+      let tanks = every Tank (IsTankLine project grid standing row) project.tanks.list tank-line in
+      let links = every Link (IsLinkLine project grid standing row) project.links.list link-line in (
         _,
         record {
           junctions = junctions.0;
@@ -209,7 +188,7 @@ module _ (network : Project) (sound : Sound network) (grid : Grid) (standing : S
         },
       )
 
-  state-if : (b : Bool) → (lines : List ReportLine) × MatchBool b (AreStateLines network grid standing row lines)
+  state-if : (b : Bool) → (lines : List ReportLine) × MatchBool b (AreStateLines project grid standing row lines)
       (lines ≡ [])
   state-if true = state-lines
   state-if false = ([], refl)
@@ -219,31 +198,31 @@ module _ (network : Project) (sound : Sound network) (grid : Grid) (standing : S
   record Brings : Type 0 where
     events : List Event
     changes : List Change
-    brings : EndBrings network grid standing row events changes
+    brings : EndBrings project grid standing row events changes
 
-  by-leaving : (links : List LinkState) → LeavesLinks network grid standing row row.length links → Brings
+  by-leaving : (links : List LinkState) → LeavesLinks project grid standing row row.length links → Brings
   by-leaving _ (left_by_rules e) =
       record {
-        events = events_of network grid standing row;
+        events = events_of project grid standing row;
         changes =
-            decided_changes network grid standing row row.length;
+            decided_changes project grid standing row row.length;
         brings = by_rules e;
       }
   by-leaving _ (left_by_clock e) = record {
-    events = events_of network grid standing row;
+    events = events_of project grid standing row;
     changes = [];
     brings =
         by_clock e;
   }
 
-  brings-some : (next : Standing) → LeadsOn network grid standing row next → Brings
+  brings-some : (next : Standing) → LeadsOn project grid standing row next → Brings
   brings-some next (continues c) = by-leaving next.commanded c.leaves_links
   brings-some next (finishes f) = record { events = []; changes = []; brings = at_end f.is_last }
 
-  pub report_is : (next : Standing) → LeadsOn network grid standing row next
-      → (lines : List ReportLine) × IsReport network grid standing row lines
+  pub report_is : (next : Standing) → LeadsOn project grid standing row next
+      → (lines : List ReportLine) × IsReport project grid standing row lines
   report_is next leads =
-      let state = state-if (is_report_time network standing.time) in
+      let state = state-if (is_report_time project standing.time) in
       let ends = brings-some next leads in (
         _,
         record {

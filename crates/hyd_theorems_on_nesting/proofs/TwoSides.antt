@@ -8,10 +8,9 @@ use Rattle.hyd_spec_certificates.specs.EnclosingFunctions.{low, high}
 use Rattle.hyd_spec_certificates.specs.PeriodNetwork.{Grid, all_heads, fixed_heads}
 use Rattle.hyd_spec_certificates.specs.Certificate.{IsCertificate}
 use Rattle.hyd_theorems_on_definitions.specs.TermsOfTheorems.{IsSteady}
+use Rattle.hyd_num.proofs.Integers.{one_times}
 use Rattle.hyd_theorems_on_definitions.proofs.NetRising.{low-rises, high-rises, IsTop, net-rises, net-ordered}
-use Rattle.hyd_theorems_on_definitions.proofs.NetRising.{outflow-rises}
-use Rattle.hyd_theorems_on_definitions.proofs.NetRising.{demand-at, item-at}
-use Rattle.hyd_theorems_on_definitions.proofs.Leading.{one_times}
+use Rattle.hyd_theorems_on_definitions.proofs.NetRising.{outflow-rises, demand-at, item-at}
 use Rattle.hyd_theorems_on_definitions.proofs.Nodes.{excess, excess_after, head_front, IsGreatestBelow, greatest_below}
 
 -- ---- the comparison

@@ -46,33 +46,33 @@ next-multiple n r some =
     let e : n + (r - n % r) ≡ ((n / r) + 1) * r = omega (arith, a, b) in
     ap (λ (m : ℕ). m % r) e ∙ mul-mod_left ((n / r) + 1) r
 
-module _ (network : Project) (grid : Grid) (standing : Standing) (row : Record) where
-  pub walk_on : (current : ℕ) → (standing.time + current) % network.times.rule ≡ 0
-      → (RulesMatter network grid standing row current → ⊥) → IsWalked network grid standing row current
-      → IsWalked network grid standing row (current + network.times.rule)
+module _ (project : Project) (grid : Grid) (standing : Standing) (row : Record) where
+  pub walk_on : (current : ℕ) → (standing.time + current) % project.times.rule ≡ 0
+      → (RulesMatter project grid standing row current → ⊥) → IsWalked project grid standing row current
+      → IsWalked project grid standing row (current + project.times.rule)
   walk_on current tried idle walked = record {
     none_before = λ k matters.
         let l = walked.none_before k matters in
         elim (cases_lt current k) [
           | inl less ↦ let a = a_step_later (standing.time + current) (standing.time + k)
-              network.times.rule tried matters.tried.is_multiple (omega (arith, less)) in omega (arith, a)
+              project.times.rule tried matters.tried.is_multiple (omega (arith, less)) in omega (arith, a)
           | inr more ↦ let e : k ≡ current = omega (arith, l, more) in
-              absurd (idle (subst (RulesMatter network grid standing row) e matters))
+              absurd (idle (subst (RulesMatter project grid standing row) e matters))
         ];
   }
 
   -- the first multiple of the rule step after the start
-  first-multiple : 1 ≤ network.times.rule → (standing.time + (network.times.rule - standing.time % network.times.rule))
-      % network.times.rule ≡ 0
-  first-multiple some = next-multiple standing.time network.times.rule some
+  first-multiple : 1 ≤ project.times.rule → (standing.time + (project.times.rule - standing.time % project.times.rule))
+      % project.times.rule ≡ 0
+  first-multiple some = next-multiple standing.time project.times.rule some
 
-  pub walk_begins : 1 ≤ network.times.rule
-      → IsWalked network grid standing row (network.times.rule - standing.time % network.times.rule)
+  pub walk_begins : 1 ≤ project.times.rule
+      → IsWalked project grid standing row (project.times.rule - standing.time % project.times.rule)
   walk_begins some = record {
-    none_before = λ k matters. first_after standing.time network.times.rule some (first-multiple some)
+    none_before = λ k matters. first_after standing.time project.times.rule some (first-multiple some)
         k matters.tried.later matters.tried.is_multiple;
   }
 
-  pub found : (current : ℕ) → RulesMatter network grid standing row current → IsWalked network grid standing row current
-      → IsLeast (RulesMatter network grid standing row) current
+  pub found : (current : ℕ) → RulesMatter project grid standing row current → IsWalked project grid standing row current
+      → IsLeast (RulesMatter project grid standing row) current
   found current matters walked = record { holds = matters; least = λ k other. walked.none_before k other }

@@ -15,8 +15,8 @@ use Rattle.hyd_spec_certificates.specs.FirstSeconds.{IsFirstSecond}
 use Rattle.hyd_theorems_on_nesting.specs.Nesting.{ReachTest, watch_passes, IsFirstAmong}
 use Rattle.hyd_theorems_on_histories.proofs.Watching.{contains-here, contains-later, contains-cons, contains-none}
 
-module _ (test : ReachTest) (network : Project) (grid : Grid) (standing : Standing) (row : Record) (cap : ℕ) where
-  pub none_watched : IsFirstAmong test network grid standing row cap [] cap
+module _ (test : ReachTest) (project : Project) (grid : Grid) (standing : Standing) (row : Record) (cap : ℕ) where
+  pub none_watched : IsFirstAmong test project grid standing row cap [] cap
   none_watched = record {
     within = omega arith;
     reached = inl refl;
@@ -25,36 +25,36 @@ module _ (test : ReachTest) (network : Project) (grid : Grid) (standing : Standi
   }
 
   -- the first second of one watched level is that of its tank
-  pub one_watched : (w : Watch) (tank : Tank) (second : ℕ) → slice_get network.tanks.list w.tank ≡ Some tank
-      → IsFirstSecond (test (walls_of network tank) tank (stocks_of_tank standing w.tank)
-      (inflow_of_tank network grid row w.tank) w.target w.rising) cap second
-      → IsFirstSecond (watch_passes test network grid standing row w) cap second
+  pub one_watched : (w : Watch) (tank : Tank) (second : ℕ) → slice_get project.tanks.list w.tank ≡ Some tank
+      → IsFirstSecond (test (walls_of project tank) tank (stocks_of_tank standing w.tank)
+      (inflow_of_tank project grid row w.tank) w.target w.rising) cap second
+      → IsFirstSecond (watch_passes test project grid standing row w) cap second
   one_watched w tank second at first = record { holds = there first.holds; least = λ k h. first.least k (here k h) }
     where
-      same : (s : ℕ) → watch_passes test network grid standing row w s ≡ test (walls_of network tank) tank
-          (stocks_of_tank standing w.tank) (inflow_of_tank network grid row w.tank) w.target w.rising s
+      same : (s : ℕ) → watch_passes test project grid standing row w s ≡ test (walls_of project tank) tank
+          (stocks_of_tank standing w.tank) (inflow_of_tank project grid row w.tank) w.target w.rising s
       same s =
-          ap (λ o. option_map_or (λ (t : Tank). test (walls_of network t) t (stocks_of_tank standing w.tank)
-          (inflow_of_tank network grid row w.tank) w.target w.rising s) o false) at
+          ap (λ o. option_map_or (λ (t : Tank). test (walls_of project t) t (stocks_of_tank standing w.tank)
+          (inflow_of_tank project grid row w.tank) w.target w.rising s) o false) at
 
       there : ((second ≡ cap) ⊎
-          ((1 ≤ second) × IsTrue (test (walls_of network tank) tank (stocks_of_tank standing w.tank)
-          (inflow_of_tank network grid row w.tank) w.target w.rising second)))
-          → (second ≡ cap) ⊎ ((1 ≤ second) × IsTrue (watch_passes test network grid standing row w second))
+          ((1 ≤ second) × IsTrue (test (walls_of project tank) tank (stocks_of_tank standing w.tank)
+          (inflow_of_tank project grid row w.tank) w.target w.rising second)))
+          → (second ≡ cap) ⊎ ((1 ≤ second) × IsTrue (watch_passes test project grid standing row w second))
       there (inl is) = inl is
       there (inr r) = inr (r.0, same second ∙ r.1)
 
-      here : (k : ℕ) → ((k ≡ cap) ⊎ ((1 ≤ k) × IsTrue (watch_passes test network grid standing row w k)))
-          → (k ≡ cap) ⊎ ((1 ≤ k) × IsTrue (test (walls_of network tank) tank (stocks_of_tank standing w.tank)
-          (inflow_of_tank network grid row w.tank) w.target w.rising k))
+      here : (k : ℕ) → ((k ≡ cap) ⊎ ((1 ≤ k) × IsTrue (watch_passes test project grid standing row w k)))
+          → (k ≡ cap) ⊎ ((1 ≤ k) × IsTrue (test (walls_of project tank) tank (stocks_of_tank standing w.tank)
+          (inflow_of_tank project grid row w.tank) w.target w.rising k))
       here k (inl is) = inl is
       here k (inr r) = inr (r.0, sym (same k) ∙ r.1)
 
   -- one more watched level
   pub one_more : (w : Watch) (watched : List Watch) (e f : ℕ)
-      → IsFirstSecond (watch_passes test network grid standing row w) cap f
-      → IsFirstAmong test network grid standing row cap watched e
-      → IsFirstAmong test network grid standing row cap (w ∷ watched) (min f e)
+      → IsFirstSecond (watch_passes test project grid standing row w) cap f
+      → IsFirstAmong test project grid standing row cap watched e
+      → IsFirstAmong test project grid standing row cap (w ∷ watched) (min f e)
   one_more w watched e f first among = record {
     within = let a = among.within in omega (arith, a);
     reached = elim (cases_lt f e) [
@@ -62,46 +62,46 @@ module _ (test : ReachTest) (network : Project) (grid : Grid) (standing : Standi
           subst
           (λ s. (s ≡ cap) ⊎
           ((1 ≤ s)
-          × ((v : Watch) × (Contains (w ∷ watched) v × IsTrue (watch_passes test network grid standing row v s)))))
+          × ((v : Watch) × (Contains (w ∷ watched) v × IsTrue (watch_passes test project grid standing row v s)))))
           same (own first.holds)
       | inr more ↦ let same : e ≡ min f e = omega (arith, more) in
           subst
           (λ s. (s ≡ cap) ⊎
           ((1 ≤ s)
-          × ((v : Watch) × (Contains (w ∷ watched) v × IsTrue (watch_passes test network grid standing row v s)))))
+          × ((v : Watch) × (Contains (w ∷ watched) v × IsTrue (watch_passes test project grid standing row v s)))))
           same (other among.reached)
     ];
     none_before = λ v c s some passes. elim (contains-cons Watch v w watched c) [
       | inl is ↦ let l =
           first.least s (inr (
             some,
-            subst (λ u. IsTrue (watch_passes test network grid standing row u s))
+            subst (λ u. IsTrue (watch_passes test project grid standing row u s))
                 (sym is) passes,
           )) in omega (arith, l)
       | inr later ↦ let l = among.none_before v later s some passes in omega (arith, l)
     ];
   }
     where
-      own : ((f ≡ cap) ⊎ ((1 ≤ f) × IsTrue (watch_passes test network grid standing row w f)))
+      own : ((f ≡ cap) ⊎ ((1 ≤ f) × IsTrue (watch_passes test project grid standing row w f)))
           → (f ≡ cap) ⊎
           ((1 ≤ f)
-          × ((v : Watch) × (Contains (w ∷ watched) v × IsTrue (watch_passes test network grid standing row v f))))
+          × ((v : Watch) × (Contains (w ∷ watched) v × IsTrue (watch_passes test project grid standing row v f))))
       own (inl is) = inl is
       own (inr r) = inr (r.0, (w, (contains-here Watch w watched, r.1)))
 
       other : ((e ≡ cap) ⊎
-          ((1 ≤ e) × ((v : Watch) × (Contains watched v × IsTrue (watch_passes test network grid standing row v e)))))
+          ((1 ≤ e) × ((v : Watch) × (Contains watched v × IsTrue (watch_passes test project grid standing row v e)))))
           → (e ≡ cap) ⊎
           ((1 ≤ e)
-          × ((v : Watch) × (Contains (w ∷ watched) v × IsTrue (watch_passes test network grid standing row v e))))
+          × ((v : Watch) × (Contains (w ∷ watched) v × IsTrue (watch_passes test project grid standing row v e))))
       other (inl is) = inl is
       other (inr r) = inr (r.0, (r.1.0, (contains-later Watch r.1.0 w watched r.1.1.0, r.1.1.1)))
 
-  some-reaches : (w : Watch) (s : ℕ) → Contains (watches network standing) w → (o : Option Tank)
-      → slice_get network.tanks.list w.tank ≡ o
-      → option_map_or (λ (tank : Tank). test (walls_of network tank) tank (stocks_of_tank standing w.tank)
-      (inflow_of_tank network grid row w.tank) w.target w.rising s) o false ≡ true
-      → SomeReaches test network grid standing row s
+  some-reaches : (w : Watch) (s : ℕ) → Contains (watches project standing) w → (o : Option Tank)
+      → slice_get project.tanks.list w.tank ≡ o
+      → option_map_or (λ (tank : Tank). test (walls_of project tank) tank (stocks_of_tank standing w.tank)
+      (inflow_of_tank project grid row w.tank) w.target w.rising s) o false ≡ true
+      → SomeReaches test project grid standing row s
   some-reaches w s contained None at e = absurd (cc)
   some-reaches w s contained (Some tank) at e = record {
     watch = w;
@@ -112,27 +112,27 @@ module _ (test : ReachTest) (network : Project) (grid : Grid) (standing : Standi
     reached = e;
   }
 
-  reaches-some : (s : ℕ) (r : SomeReaches test network grid standing row s)
-      → IsTrue (watch_passes test network grid standing row r.watch s)
+  reaches-some : (s : ℕ) (r : SomeReaches test project grid standing row s)
+      → IsTrue (watch_passes test project grid standing row r.watch s)
   reaches-some s r =
-      ap (λ o. option_map_or (λ (tank : Tank). test (walls_of network tank) tank (stocks_of_tank standing r.watch.tank)
-      (inflow_of_tank network grid row r.watch.tank) r.watch.target r.watch.rising s) o false) r.is_tank ∙ r.reached
+      ap (λ o. option_map_or (λ (tank : Tank). test (walls_of project tank) tank (stocks_of_tank standing r.watch.tank)
+      (inflow_of_tank project grid row r.watch.tank) r.watch.target r.watch.rising s) o false) r.is_tank ∙ r.reached
 
-  pub end_is : IsClockLength network standing.time cap → (e : ℕ)
-      → IsFirstAmong test network grid standing row cap (watches network standing) e
-      → IsLeast (λ s. IsClockLength network standing.time s ⊎ ((1 ≤ s) × SomeReaches test network grid standing row s))
+  pub end_is : IsClockLength project standing.time cap → (e : ℕ)
+      → IsFirstAmong test project grid standing row cap (watches project standing) e
+      → IsLeast (λ s. IsClockLength project standing.time s ⊎ ((1 ≤ s) × SomeReaches test project grid standing row s))
       e
   end_is clock e among = record { holds = holds among.reached; least = least }
     where
       holds : ((e ≡ cap) ⊎
-          ((1 ≤ e) × ((v : Watch) × (Contains (watches network standing) v × IsTrue
-          (watch_passes test network grid standing row v e)))))
-          → IsClockLength network standing.time e ⊎ ((1 ≤ e) × SomeReaches test network grid standing row e)
-      holds (inl is) = inl (subst (IsClockLength network standing.time) (sym is) clock)
-      holds (inr r) = inr (r.0, some-reaches r.1.0 e r.1.1.0 (slice_get network.tanks.list r.1.0.tank) refl r.1.1.1)
+          ((1 ≤ e) × ((v : Watch) × (Contains (watches project standing) v × IsTrue
+          (watch_passes test project grid standing row v e)))))
+          → IsClockLength project standing.time e ⊎ ((1 ≤ e) × SomeReaches test project grid standing row e)
+      holds (inl is) = inl (subst (IsClockLength project standing.time) (sym is) clock)
+      holds (inr r) = inr (r.0, some-reaches r.1.0 e r.1.1.0 (slice_get project.tanks.list r.1.0.tank) refl r.1.1.1)
 
       least : (k : ℕ)
-          → (IsClockLength network standing.time k ⊎ ((1 ≤ k) × SomeReaches test network grid standing row k)) → e ≤ k
+          → (IsClockLength project standing.time k ⊎ ((1 ≤ k) × SomeReaches test project grid standing row k)) → e ≤ k
       least k (inl other) = let a = clock.least (standing.time + k) other.holds in
           let b = other.least (standing.time + cap) clock.holds in let w = among.within in omega (arith, a, b, w)
       least k (inr r) = among.none_before r.1.watch r.1.is_watched k r.0 (reaches-some k r.1)

@@ -51,60 +51,60 @@ pub fn sides()
 /// The flow boxes, the inflow boxes and the next stocks of an inner record lie inside those of the outer one, and
 /// each has a number.
 pub fn boxes()
-    ensures flows { (network : Project) (standing : Standing) (grid : Grid) (outer inner : Record)
-        → AreNested network standing grid outer inner → (l : ℕ) (link : GridLink) → slice_get grid.links l ≡ Some link
+    ensures flows { (project : Project) (standing : Standing) (grid : Grid) (outer inner : Record)
+        → AreNested project standing grid outer inner → (l : ℕ) (link : GridLink) → slice_get grid.links l ≡ Some link
         → IsInside (flow_box link (heads_below grid inner) (heads_above grid inner))
         (flow_box link (heads_below grid outer) (heads_above grid outer))
         × IsOrdered (flow_box link (heads_below grid inner) (heads_above grid inner)) }
-    ensures inflows { (network : Project) (standing : Standing) (grid : Grid) (outer inner : Record)
-        → AreNested network standing grid outer inner → (k : ℕ) (tank : Tank)
-        → slice_get network.tanks.list k ≡ Some tank
-        → IsInside (inflow_of_tank network grid inner k) (inflow_of_tank network grid outer k)
-        × IsOrdered (inflow_of_tank network grid inner k) }
-    ensures stocks { (network : Project) → Sound network → (standing : Standing) (grid : Grid) (outer inner : Record)
-        → AreNested network standing grid outer inner → (seconds k : ℕ) (tank : Tank)
-        → slice_get network.tanks.list k ≡ Some tank
-        → AreInside (stocks_next network grid standing inner seconds k tank)
-        (stocks_next network grid standing outer seconds k tank)
-        × HasStock (stocks_next network grid standing inner seconds k tank) }
+    ensures inflows { (project : Project) (standing : Standing) (grid : Grid) (outer inner : Record)
+        → AreNested project standing grid outer inner → (k : ℕ) (tank : Tank)
+        → slice_get project.tanks.list k ≡ Some tank
+        → IsInside (inflow_of_tank project grid inner k) (inflow_of_tank project grid outer k)
+        × IsOrdered (inflow_of_tank project grid inner k) }
+    ensures stocks { (project : Project) → Sound project → (standing : Standing) (grid : Grid) (outer inner : Record)
+        → AreNested project standing grid outer inner → (seconds k : ℕ) (tank : Tank)
+        → slice_get project.tanks.list k ≡ Some tank
+        → AreInside (stocks_next project grid standing inner seconds k tank)
+        (stocks_next project grid standing outer seconds k tank)
+        × HasStock (stocks_next project grid standing inner seconds k tank) }
 {}
 
 /// An inner record leaves the links after the same seconds and commanded in the same way as the outer one, where that
 /// one decides it.
 pub fn decisions()
-    ensures { (network : Project) → Sound network → (standing : Standing) (grid : Grid) (outer inner : Record)
-        → AreNested network standing grid outer inner → (seconds : ℕ) (links : List LinkState)
-        → LeavesLinks network grid standing outer seconds links
-        → LeavesLinks network grid standing inner seconds links }
+    ensures { (project : Project) → Sound project → (standing : Standing) (grid : Grid) (outer inner : Record)
+        → AreNested project standing grid outer inner → (seconds : ℕ) (links : List LinkState)
+        → LeavesLinks project grid standing outer seconds links
+        → LeavesLinks project grid standing inner seconds links }
 {}
 
 /// The first standing of a run is tidy, and where a valid record leads on from a tidy one, so is the next.
 pub fn tidied()
-    ensures start { (network : Project) → Sound network → IsTidy network (initial_standing network) }
-    ensures next { (network : Project) → Sound network → (standing : Standing) (grid : Grid) (row : Record)
+    ensures start { (project : Project) → Sound project → IsTidy project (initial_standing project) }
+    ensures next { (project : Project) → Sound project → (standing : Standing) (grid : Grid) (row : Record)
         (next : Standing)
-        → IsKept network standing → IsTidy network standing → IsValid network standing grid row next
-        → Continues network grid standing row next → IsTidy network next }
+        → IsKept project standing → IsTidy project standing → IsValid project standing grid row next
+        → Continues project grid standing row next → IsTidy project next }
 {}
 
 /// Where a valid record leads on, the same record with tight vectors is valid and leads on to the same standing but
 /// for its stocks, which lie inside.
 pub fn tightened()
-    ensures { (network : Project) → Sound network → (standing : Standing) (grid : Grid) (row : Record) (next : Standing)
-        → IsKept network standing → IsTidy network standing → IsValid network standing grid row next
-        → (tight : Record) → IsTightened network grid row tight → Continues network grid standing row next
-        → IsValid network standing grid tight (record next {
-          levels = levels_next network grid standing tight tight.length;
+    ensures { (project : Project) → Sound project → (standing : Standing) (grid : Grid) (row : Record) (next : Standing)
+        → IsKept project standing → IsTidy project standing → IsValid project standing grid row next
+        → (tight : Record) → IsTightened project grid row tight → Continues project grid standing row next
+        → IsValid project standing grid tight (record next {
+          levels = levels_next project grid standing tight tight.length;
           volumes =
-              volumes_next network grid standing tight tight.length;
+              volumes_next project grid standing tight tight.length;
         }) }
 {}
 
 /// At a standing with a valid record no cause of a stop holds but spent rounds.
 pub fn stops()
-    ensures { (network : Project) → Sound network → (standing : Standing) (grid : Grid) (row : Record) (next : Standing)
-        → IsKept network standing → IsTidy network standing → IsValid network standing grid row next
-        → (rounds : ℕ) (cause : StopCause) → IsReason cause → Stops network standing rounds cause → ⊥ }
+    ensures { (project : Project) → Sound project → (standing : Standing) (grid : Grid) (row : Record) (next : Standing)
+        → IsKept project standing → IsTidy project standing → IsValid project standing grid row next
+        → (rounds : ℕ) (cause : StopCause) → IsReason cause → Stops project standing rounds cause → ⊥ }
 {}
 
 // ---- ends, second by second
@@ -112,86 +112,86 @@ pub fn stops()
 /// The first seconds of single watched levels make the earliest and the latest end: of no watched level the first
 /// second is the clock's, of one more the lesser of two.
 pub fn firsts()
-    ensures none { (test : ReachTest) (network : Project) (grid : Grid) (standing : Standing) (row : Record) (cap : ℕ)
-        → IsFirstAmong test network grid standing row cap [] cap }
-    ensures one { (test : ReachTest) (network : Project) (grid : Grid) (standing : Standing) (row : Record) (cap : ℕ)
+    ensures none { (test : ReachTest) (project : Project) (grid : Grid) (standing : Standing) (row : Record) (cap : ℕ)
+        → IsFirstAmong test project grid standing row cap [] cap }
+    ensures one { (test : ReachTest) (project : Project) (grid : Grid) (standing : Standing) (row : Record) (cap : ℕ)
         (watch : Watch)
-        (tank : Tank) (second : ℕ) → slice_get network.tanks.list watch.tank ≡ Some tank
-        → IsFirstSecond (test (walls_of network tank) tank (stocks_of_tank standing watch.tank)
-        (inflow_of_tank network grid row watch.tank) watch.target watch.rising) cap second
-        → IsFirstSecond (watch_passes test network grid standing row watch) cap second }
-    ensures more { (test : ReachTest) (network : Project) (grid : Grid) (standing : Standing) (row : Record) (cap : ℕ)
+        (tank : Tank) (second : ℕ) → slice_get project.tanks.list watch.tank ≡ Some tank
+        → IsFirstSecond (test (walls_of project tank) tank (stocks_of_tank standing watch.tank)
+        (inflow_of_tank project grid row watch.tank) watch.target watch.rising) cap second
+        → IsFirstSecond (watch_passes test project grid standing row watch) cap second }
+    ensures more { (test : ReachTest) (project : Project) (grid : Grid) (standing : Standing) (row : Record) (cap : ℕ)
         (watch : Watch)
-        (watched : List Watch) (e f : ℕ) → IsFirstSecond (watch_passes test network grid standing row watch) cap f
-        → IsFirstAmong test network grid standing row cap watched e
-        → IsFirstAmong test network grid standing row cap (watch ∷ watched) (min f e) }
-    ensures earliest { (network : Project) (grid : Grid) (standing : Standing) (row : Record) (cap : ℕ)
-        → IsClockLength network standing.time cap → (e : ℕ)
-        → IsFirstAmong may_reach network grid standing row cap (watches network standing) e
-        → IsEarliestEnd network grid standing row e }
-    ensures latest { (network : Project) (grid : Grid) (standing : Standing) (row : Record) (cap : ℕ)
-        → IsClockLength network standing.time cap → (e : ℕ)
-        → IsFirstAmong must_reach network grid standing row cap (watches network standing) e
-        → IsLatestEnd network grid standing row e }
+        (watched : List Watch) (e f : ℕ) → IsFirstSecond (watch_passes test project grid standing row watch) cap f
+        → IsFirstAmong test project grid standing row cap watched e
+        → IsFirstAmong test project grid standing row cap (watch ∷ watched) (min f e) }
+    ensures earliest { (project : Project) (grid : Grid) (standing : Standing) (row : Record) (cap : ℕ)
+        → IsClockLength project standing.time cap → (e : ℕ)
+        → IsFirstAmong may_reach project grid standing row cap (watches project standing) e
+        → IsEarliestEnd project grid standing row e }
+    ensures latest { (project : Project) (grid : Grid) (standing : Standing) (row : Record) (cap : ℕ)
+        → IsClockLength project standing.time cap → (e : ℕ)
+        → IsFirstAmong must_reach project grid standing row cap (watches project standing) e
+        → IsLatestEnd project grid standing row e }
 {}
 
 /// From one multiple of the rule step to the next, from the first after the start on: rules matter first where they
 /// matter and mattered at no multiple before.
 pub fn multiples()
-    ensures start { (network : Project) (grid : Grid) (standing : Standing) (row : Record) → 1 ≤ network.times.rule
-        → IsWalked network grid standing row (network.times.rule - standing.time % network.times.rule) }
-    ensures on { (network : Project) (grid : Grid) (standing : Standing) (row : Record) (current : ℕ)
-        → (standing.time + current) % network.times.rule ≡ 0 → (RulesMatter network grid standing row current → ⊥)
-        → IsWalked network grid standing row current
-        → IsWalked network grid standing row (current + network.times.rule) }
-    ensures found { (network : Project) (grid : Grid) (standing : Standing) (row : Record) (current : ℕ)
-        → RulesMatter network grid standing row current → IsWalked network grid standing row current
-        → IsLeast (RulesMatter network grid standing row) current }
+    ensures start { (project : Project) (grid : Grid) (standing : Standing) (row : Record) → 1 ≤ project.times.rule
+        → IsWalked project grid standing row (project.times.rule - standing.time % project.times.rule) }
+    ensures on { (project : Project) (grid : Grid) (standing : Standing) (row : Record) (current : ℕ)
+        → (standing.time + current) % project.times.rule ≡ 0 → (RulesMatter project grid standing row current → ⊥)
+        → IsWalked project grid standing row current
+        → IsWalked project grid standing row (current + project.times.rule) }
+    ensures found { (project : Project) (grid : Grid) (standing : Standing) (row : Record) (current : ℕ)
+        → RulesMatter project grid standing row current → IsWalked project grid standing row current
+        → IsLeast (RulesMatter project grid standing row) current }
 {}
 
 // ---- nothing is missing
 
 /// A standing at which the demands are in range has a grid.
 pub fn grids()
-    ensures { (network : Project) → Sound network → (standing : Standing) → DemandsAreInRange network standing.time
-        → (grid : Grid) × IsGridAt network standing grid }
+    ensures { (project : Project) → Sound project → (standing : Standing) → DemandsAreInRange project standing.time
+        → (grid : Grid) × IsGridAt project standing grid }
 {}
 
 /// Under each record a period that doesn't begin at the end of the run ends in some way: the clock allows it a
 /// length, it has an earliest and a latest end, and it is decided or open.
 pub fn ends()
-    ensures lengths { (network : Project) → Sound network → (time : ℕ) → (cap : ℕ) × IsClockLength network time cap }
-    ensures earliest { (network : Project) → Sound network → (grid : Grid) (standing : Standing) (row : Record)
-        → (e : ℕ) × IsEarliestEnd network grid standing row e }
-    ensures latest { (network : Project) → Sound network → (grid : Grid) (standing : Standing) (row : Record)
-        → (e : ℕ) × IsLatestEnd network grid standing row e }
-    ensures some { (network : Project) → Sound network → (grid : Grid) (standing : Standing) (row : Record)
-        → standing.time ≢ network.times.duration → (e : End) × EndsBy network grid standing row e }
+    ensures lengths { (project : Project) → Sound project → (time : ℕ) → (cap : ℕ) × IsClockLength project time cap }
+    ensures earliest { (project : Project) → Sound project → (grid : Grid) (standing : Standing) (row : Record)
+        → (e : ℕ) × IsEarliestEnd project grid standing row e }
+    ensures latest { (project : Project) → Sound project → (grid : Grid) (standing : Standing) (row : Record)
+        → (e : ℕ) × IsLatestEnd project grid standing row e }
+    ensures some { (project : Project) → Sound project → (grid : Grid) (standing : Standing) (row : Record)
+        → standing.time ≢ project.times.duration → (e : End) × EndsBy project grid standing row e }
 {}
 
 /// Each record that leads on has a report.
 pub fn reports()
-    ensures { (network : Project) → Sound network → (grid : Grid) (standing : Standing) (row : Record) (next : Standing)
-        → IsKept network standing → IsTidy network standing → IsGridAt network standing grid
-        → LeadsOn network grid standing row next
-        → (lines : List ReportLine) × IsReport network grid standing row lines }
+    ensures { (project : Project) → Sound project → (grid : Grid) (standing : Standing) (row : Record) (next : Standing)
+        → IsKept project standing → IsTidy project standing → IsGridAt project standing grid
+        → LeadsOn project grid standing row next
+        → (lines : List ReportLine) × IsReport project grid standing row lines }
 {}
 
 /// At each unfinished standing of a run a valid record leads on, or a cause of a stop holds, whatever the number of
 /// rounds.
 pub fn onward()
-    ensures { (network : Project) → Sound network → (standing : Standing) → IsKept network standing
+    ensures { (project : Project) → Sound project → (standing : Standing) → IsKept project standing
         → standing.finished ≡ false
-        → (rounds : ℕ) → LeadsSomewhere network standing ⊎ IsStopped network standing rounds }
+        → (rounds : ℕ) → LeadsSomewhere project standing ⊎ IsStopped project standing rounds }
 {}
 
 /// Every standing that a run leaves keeps what standings keep. A run that isn't finished goes on by one more period,
 /// or a cause of a stop holds at the standing that it leaves, whatever the number of rounds.
 pub fn runs()
-    ensures keep { (network : Project) → Sound network → (founds : List Found) (last : Standing)
-        → IsRun network founds last
-        → IsKept network last × IsTidy network last }
-    ensures go_on { (network : Project) → Sound network → (founds : List Found) (last : Standing)
-        → IsRun network founds last
-        → last.finished ≡ false → (rounds : ℕ) → IsLonger network founds ⊎ IsStopped network last rounds }
+    ensures keep { (project : Project) → Sound project → (founds : List Found) (last : Standing)
+        → IsRun project founds last
+        → IsKept project last × IsTidy project last }
+    ensures go_on { (project : Project) → Sound project → (founds : List Found) (last : Standing)
+        → IsRun project founds last
+        → last.finished ≡ false → (rounds : ℕ) → IsLonger project founds ⊎ IsStopped project last rounds }
 {}

@@ -19,6 +19,7 @@ use Rattle.hyd_spec_certificates.specs.Certificate.{IsCandidateHolding, IsRaised
 use Rattle.hyd_theorems_on_definitions.specs.TermsOfTheorems.{IsSteady}
 use Rattle.hyd_spec_certificates.specs.SearchSteps.{LiesBeyond, IsStart}
 use Rattle.hyd_theorems_on_definitions.specs.Sides.{along}
+use Rattle.hyd_lemmas.proofs.Integers.{same-or-not}
 use Rattle.hyd_theorems_on_raises.proofs.Leading.{beyond-is, is-beyond, suits-nearer}
 use Rattle.hyd_theorems_on_raises.proofs.Searching.{first-below, each-or-lacks}
 
@@ -81,10 +82,6 @@ box-or-not x = by_lt_z x (neg_ℤ (pos box_limit)) (λ lt. inr (λ is. absurd
     (λ ge. by_lt_z (pos box_limit) x (λ lt. inr (λ is. absurd
     (let a = is.below_ceiling in omega (arith, ints, lt, a))))
     (λ le. inl (record { above_floor = ge; below_ceiling = le })))
-
-same-or-not : (x y : ℤ) → (x ≡ y) ⊎ (x ≡ y → ⊥)
-same-or-not x y = by_lt_z x y (λ lt. inr (λ e. absurd (omega (arith, ints, lt, e))))
-    (λ ge. by_lt_z y x (λ lt. inr (λ e. absurd (omega (arith, ints, lt, e)))) (λ le. inl (omega (arith, ints, ge, le))))
 
 -- ---- one head put in
 

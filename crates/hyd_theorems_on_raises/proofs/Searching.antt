@@ -4,7 +4,7 @@ use Rattle.std.specs.Prelude.{Some, slice_get}
 use Rattle.std.proofs.lemmas.Bool.{cases_eq}
 use Rattle.hyd_spec.specs.Lists.{Each}
 use Rattle.hyd_spec.specs.Assignment.{head_at}
-use Rattle.hyd_theorems_on_definitions.proofs.NetRising.{same_item}
+use Rattle.hyd_lemmas.proofs.ListsAndOptions.{same_item}
 
 pub record IsFirst (P : ℕ → Type 0) (k : ℕ) : Type 0 where
   pub holds : P k

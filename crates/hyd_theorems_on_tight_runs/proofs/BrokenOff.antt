@@ -21,45 +21,45 @@ front_on front rest middle end e k = (
   sym (append_assoc front rest k.0) ∙ (ap (λ t. t ++ k.0) e ∙ k.1),
 )
 
-module _ (network : Project) (sound : Sound network) (text report written printed : List ℕ)
-    (b : FinishesTight network text report) (k : BreaksOffTight network written printed) where
-  tight_run : IsTightRun network k.breaks_off.founds k.breaks_off.left
+module _ (project : Project) (sound : Sound project) (text report written printed : List ℕ)
+    (b : FinishesTight project text report) (k : BreaksOffTight project written printed) where
+  tight_run : IsTightRun project k.breaks_off.founds k.breaks_off.left
   tight_run = record {
     is_run = k.breaks_off.is_run;
-    tight = all_tight network k.sharpness k.asked k.breaks_off.founds k.breaks_off.sharp;
+    tight = all_tight project k.sharpness k.asked k.breaks_off.founds k.breaks_off.sharp;
   }
 
   -- both texts, as far as the run went
   record BothFronts (last : Option Outcome) : Type 0 where
-    certificate : IsFrontOf (certificate_so_far network k.breaks_off.founds last) text
-    report_too : IsFrontOf (report_so_far network k.breaks_off.left k.breaks_off.founds last) report
+    certificate : IsFrontOf (certificate_so_far project k.breaks_off.founds last) text
+    report_too : IsFrontOf (report_so_far project k.breaks_off.left k.breaks_off.founds last) report
 
   if_finished : k.breaks_off.left.finished ≡ true → BothFronts (Some Finished)
   if_finished finished =
-      let same = whole network k.breaks_off.founds b.writes.founds k.breaks_off.left b.writes.left
+      let same = whole project k.breaks_off.founds b.writes.founds k.breaks_off.left b.writes.left
       k.breaks_off.is_run b.writes.is_run finished
-      (begins network text report b k.breaks_off.founds k.breaks_off.left tight_run) in
+      (begins project text report b k.breaks_off.founds k.breaks_off.left tight_run) in
       record {
         certificate = (
           [],
-          append-nil _ ∙ (ap (λ (fs : List Found). whole_certificate network fs) same
+          append-nil _ ∙ (ap (λ (fs : List Found). whole_certificate project fs) same
               ∙ sym b.writes.certificate.is_text),
         );
         report_too = (
           [],
-          append-nil _ ∙ (ap (λ (fs : List Found). whole_report network fs) same ∙ sym b.writes.report),
+          append-nil _ ∙ (ap (λ (fs : List Found). whole_report project fs) same ∙ sym b.writes.report),
         );
       }
 
-  by_last : (last : Option Outcome) → MatchOption last ⊤ (EndsSo network k.breaks_off.left k.rounds)
+  by_last : (last : Option Outcome) → MatchOption last ⊤ (EndsSo project k.breaks_off.left k.rounds)
       → ((cause : StopCause) → last ≡ Some (Stopped cause) → IsReason cause) → BothFronts last
   by_last None ends unspent = record {
-    certificate = certificate_begins network text report b k.breaks_off.founds k.breaks_off.left tight_run;
-    report_too = report_begins network text report b k.breaks_off.founds k.breaks_off.left tight_run;
+    certificate = certificate_begins project text report b k.breaks_off.founds k.breaks_off.left tight_run;
+    report_too = report_begins project text report b k.breaks_off.founds k.breaks_off.left tight_run;
   }
   by_last (Some Finished) ends unspent = if_finished ends
   by_last (Some (Stopped cause)) ends unspent =
-      absurd (never_stops network text report b k.breaks_off.founds k.breaks_off.left tight_run sound ends.0 k.rounds
+      absurd (never_stops project text report b k.breaks_off.founds k.breaks_off.left tight_run sound ends.0 k.rounds
       cause (unspent cause refl) ends.1)
 
   both : BothFronts k.breaks_off.last

@@ -25,43 +25,43 @@ records_front a b k = (rows_of k.0, sym (records_append a k.0) ∙ ap (λ (fs : 
 
 -- ---- runs
 
-module _ (network : Project) where
+module _ (project : Project) where
   -- the first period of a run by itself, and the rest
   first_alone : (start : Standing) (found : Found) (rest : List Found) (last : Standing)
-      → IsRunFrom network start (found ∷ rest) last → IsRunFrom network start (found ∷ []) found.next
+      → IsRunFrom project start (found ∷ rest) last → IsRunFrom project start (found ∷ []) found.next
   first_alone _ found rest last (more is on) = more is none
 
   rest_of : (start : Standing) (found : Found) (rest : List Found) (last : Standing)
-      → IsRunFrom network start (found ∷ rest) last → IsRunFrom network found.next rest last
+      → IsRunFrom project start (found ∷ rest) last → IsRunFrom project found.next rest last
   rest_of _ found rest last (more is on) = on
 
   valid_first : (start : Standing) (found : Found) (rest : List Found) (last : Standing)
-      → IsRunFrom network start (found ∷ rest) last → IsValid network start found.grid found.row found.next
+      → IsRunFrom project start (found ∷ rest) last → IsValid project start found.grid found.row found.next
   valid_first _ found rest last (more is on) = is.valid
 
   -- a run of no periods ends where it begins
-  stays : (start : Standing) (founds : List Found) (last : Standing) → IsRunFrom network start founds last
+  stays : (start : Standing) (founds : List Found) (last : Standing) → IsRunFrom project start founds last
       → founds ≡ [] → start ≡ last
   stays _ _ last none e = refl
   stays _ _ last (more is on) e = absurd (cc)
 
   same_first : (start : Standing) (a b : Found) (xs ys : List Found) (last other : Standing)
-      → IsRunFrom network start (a ∷ xs) last → IsRunFrom network start (b ∷ ys) other → IsTightThroughout network a
-      → IsTightThroughout network b → a ≡ b
+      → IsRunFrom project start (a ∷ xs) last → IsRunFrom project start (b ∷ ys) other → IsTightThroughout project a
+      → IsTightThroughout project b → a ≡ b
   same_first start a b xs ys last other x y tight too =
       let alone : (a ∷ []) ≡ (b ∷ []) =
-      one_run network start (a ∷ []) (b ∷ []) a.next b.next (first_alone start a xs last x)
+      one_run project start (a ∷ []) (b ∷ []) a.next b.next (first_alone start a xs last x)
       (first_alone start b ys other y) (tight, tt) (too, tt) refl in
       cc
 
-  fronts_from : (start : Standing) (a b : List Found) (last other : Standing) → IsRunFrom network start a last
-      → IsRunFrom network start b other → AllByRecursion (IsTightThroughout network) a
-      → AllByRecursion (IsTightThroughout network) b → IsFrontOf a b ⊎ IsFrontOf b a
+  fronts_from : (start : Standing) (a b : List Found) (last other : Standing) → IsRunFrom project start a last
+      → IsRunFrom project start b other → AllByRecursion (IsTightThroughout project) a
+      → AllByRecursion (IsTightThroughout project) b → IsFrontOf a b ⊎ IsFrontOf b a
   fronts_from start [] b last other x y tight too = inl (b, refl)
   fronts_from start (f ∷ a) [] last other x y tight too = inr (f ∷ a, refl)
   fronts_from start (f ∷ a) (g ∷ b) last other x y tight too =
       let same = same_first start f g a b last other x y tight.0 too.0 in
-      let on = subst (λ (s : Standing). IsRunFrom network s b other) (ap (λ (h : Found). h.next) (sym same))
+      let on = subst (λ (s : Standing). IsRunFrom project s b other) (ap (λ (h : Found). h.next) (sym same))
       (rest_of start g b other y) in
       behind same (fronts_from f.next a b last other (rest_of start f a last x) on tight.1 too.1)
     where
@@ -69,12 +69,12 @@ module _ (network : Project) where
       behind same (inl k) = inl (front_more f g a b same k)
       behind same (inr k) = inr (front_more g f b a (sym same) k)
 
-  pub fronts : (a b : List Found) (last other : Standing) → IsTightRun network a last → IsTightRun network b other
+  pub fronts : (a b : List Found) (last other : Standing) → IsTightRun project a last → IsTightRun project b other
       → IsFrontOf a b ⊎ IsFrontOf b a
-  fronts a b last other x y = fronts_from (initial_standing network) a b last other x.is_run y.is_run x.tight y.tight
+  fronts a b last other x y = fronts_from (initial_standing project) a b last other x.is_run y.is_run x.tight y.tight
 
-  pub record_fronts : (a b : List Found) (last other : Standing) → IsTightRun network a last
-      → IsTightRun network b other → IsFrontOf (rows_of a) (rows_of b) ⊎ IsFrontOf (rows_of b) (rows_of a)
+  pub record_fronts : (a b : List Found) (last other : Standing) → IsTightRun project a last
+      → IsTightRun project b other → IsFrontOf (rows_of a) (rows_of b) ⊎ IsFrontOf (rows_of b) (rows_of a)
   record_fronts a b last other x y = of (fronts a b last other x y)
     where
       of : IsFrontOf a b ⊎ IsFrontOf b a → IsFrontOf (rows_of a) (rows_of b) ⊎ IsFrontOf (rows_of b) (rows_of a)
@@ -85,29 +85,29 @@ module _ (network : Project) where
 
   -- where a run goes on behind another one, its next record is valid at the standing that the other leaves
   next_from : (start : Standing) (a : List Found) (found : Found) (rest : List Found) (last other : Standing)
-      → IsRunFrom network start a last → IsRunFrom network start (a ++ (found ∷ rest)) other
-      → IsValid network last found.grid found.row found.next
+      → IsRunFrom project start a last → IsRunFrom project start (a ++ (found ∷ rest)) other
+      → IsValid project last found.grid found.row found.next
   next_from start [] found rest last other x y =
-      subst (λ (s : Standing). IsValid network s found.grid found.row found.next) (stays start [] last x refl)
+      subst (λ (s : Standing). IsValid project s found.grid found.row found.next) (stays start [] last x refl)
       (valid_first start found rest other y)
   next_from start (f ∷ a) found rest last other x y =
       next_from f.next a found rest last other (rest_of start f a last x)
       (rest_of start f (a ++ (found ∷ rest)) other y)
 
   pub next_valid : (a b : List Found) (found : Found) (rest : List Found) (last other : Standing)
-      → IsRun network a last → IsRun network b other → a ++ (found ∷ rest) ≡ b
-      → IsValid network last found.grid found.row found.next
+      → IsRun project a last → IsRun project b other → a ++ (found ∷ rest) ≡ b
+      → IsValid project last found.grid found.row found.next
   next_valid a b found rest last other x y e =
-      next_from (initial_standing network) a found rest last other x
-      (subst (λ (fs : List Found). IsRun network fs other) (sym e) y)
+      next_from (initial_standing project) a found rest last other x
+      (subst (λ (fs : List Found). IsRun project fs other) (sym e) y)
 
   -- a finished run is the whole of each tight run that begins with it
-  pub whole : (a b : List Found) (last other : Standing) → IsRun network a last → IsRun network b other
+  pub whole : (a b : List Found) (last other : Standing) → IsRun project a last → IsRun project b other
       → last.finished ≡ true → IsFrontOf a b → a ≡ b
   whole a b last other x y finished ([], e) = sym (append-nil a) ∙ e
   whole a b last other x y finished (found ∷ rest, e) =
       absurd (true≢false (sym finished ∙ (next_valid a b found rest last other x y e).unfinished))
 
-  pub one_standing : (a b : List Found) (last other : Standing) → IsRun network a last → IsRun network b other → a ≡ b
+  pub one_standing : (a b : List Found) (last other : Standing) → IsRun project a last → IsRun project b other → a ≡ b
       → last ≡ other
-  one_standing a b last other x y same = one_left network (initial_standing network) a b last other x y same
+  one_standing a b last other x y same = one_left project (initial_standing project) a b last other x y same

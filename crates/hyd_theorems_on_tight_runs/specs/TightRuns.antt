@@ -16,22 +16,22 @@ abbrev pub IsFrontOf : {X : Type 0} → List X → List X → Type 0
 IsFrontOf {X} front whole = (rest : List X) × (front ++ rest ≡ whole)
 
 -- A run of the network in which every vector of every record is the tight one, and the standing that it leaves.
-pub record IsTightRun (network : Project) (founds : List Found) (left : Standing) : Type 0 where
-  pub is_run : IsRun network founds left
-  pub tight : AllByRecursion (IsTightThroughout network) founds
+pub record IsTightRun (project : Project) (founds : List Found) (left : Standing) : Type 0 where
+  pub is_run : IsRun project founds left
+  pub tight : AllByRecursion (IsTightThroughout project) founds
 
 -- What a run writes and prints that finished and was to be tight, of whatever width and number of rounds.
-pub record FinishesTight (network : Project) (written printed : List ℕ) : Type 0 where
+pub record FinishesTight (project : Project) (written printed : List ℕ) : Type 0 where
   pub rounds : ℕ
   pub sharpness : Sharpness
   pub asked : sharpness.tight ≡ true
-  pub writes : RunWrites network rounds sharpness Finished written printed
+  pub writes : RunWrites project rounds sharpness Finished written printed
 
 -- What a fault left written and printed of a run that was to be tight: broken off in its records, where its end isn't
 -- known, or in its last lines, where it is. Where it is a stop, it's for another cause than spent rounds.
-pub record BreaksOffTight (network : Project) (written printed : List ℕ) : Type 0 where
+pub record BreaksOffTight (project : Project) (written printed : List ℕ) : Type 0 where
   pub rounds : ℕ
   pub sharpness : Sharpness
   pub asked : sharpness.tight ≡ true
-  pub breaks_off : RunBreaksOff network rounds sharpness written printed
+  pub breaks_off : RunBreaksOff project rounds sharpness written printed
   pub unspent : (cause : StopCause) → breaks_off.last ≡ Some (Stopped cause) → IsReason cause

@@ -17,27 +17,27 @@ ghost use Rattle.hyd_theorems_on_tight_runs.specs.TightRuns.{IsFrontOf, IsTightR
 
 /// Of two tight runs of a network the periods of one are the first of the other, and so are its records.
 pub fn fronts()
-    ensures periods { (network : Project) (a b : List Found) (last other : Standing) → IsTightRun network a last
-        → IsTightRun network b other → IsFrontOf a b ⊎ IsFrontOf b a }
-    ensures records { (network : Project) (a b : List Found) (last other : Standing) → IsTightRun network a last
-        → IsTightRun network b other → IsFrontOf (rows_of a) (rows_of b) ⊎ IsFrontOf (rows_of b) (rows_of a) }
+    ensures periods { (project : Project) (a b : List Found) (last other : Standing) → IsTightRun project a last
+        → IsTightRun project b other → IsFrontOf a b ⊎ IsFrontOf b a }
+    ensures records { (project : Project) (a b : List Found) (last other : Standing) → IsTightRun project a last
+        → IsTightRun project b other → IsFrontOf (rows_of a) (rows_of b) ⊎ IsFrontOf (rows_of b) (rows_of a) }
 {}
 
 /// Tight runs of a network that finish write one certificate and print one report, whatever the width and the number of
 /// rounds that were asked of each.
 pub fn one_text()
-    ensures certificate { (network : Project) (written printed text report : List ℕ)
-        → FinishesTight network written printed → FinishesTight network text report → written ≡ text }
-    ensures report { (network : Project) (written printed text report : List ℕ)
-        → FinishesTight network written printed → FinishesTight network text report → printed ≡ report }
+    ensures certificate { (project : Project) (written printed text report : List ℕ)
+        → FinishesTight project written printed → FinishesTight project text report → written ≡ text }
+    ensures report { (project : Project) (written printed text report : List ℕ)
+        → FinishesTight project written printed → FinishesTight project text report → printed ≡ report }
 {}
 
 /// Where a tight run of a sound network finishes, no cause of a stop but spent rounds holds where another tight run has
 /// come to and isn't finished.
 pub fn stops()
-    ensures { (network : Project) → Sound network → (text report : List ℕ) → FinishesTight network text report
-        → (founds : List Found) (left : Standing) → IsTightRun network founds left → left.finished ≡ false
-        → (rounds : ℕ) (cause : StopCause) → IsReason cause → Stops network left rounds cause → ⊥ }
+    ensures { (project : Project) → Sound project → (text report : List ℕ) → FinishesTight project text report
+        → (founds : List Found) (left : Standing) → IsTightRun project founds left → left.finished ≡ false
+        → (rounds : ℕ) (cause : StopCause) → IsReason cause → Stops project left rounds cause → ⊥ }
 {}
 
 // ---- fronts of a finished run
@@ -45,20 +45,20 @@ pub fn stops()
 /// The header, the records and the report lines of a tight run as far as it went, its last lines aside, begin the
 /// certificate and the report of each tight run that finishes.
 pub fn so_far()
-    ensures certificate { (network : Project) (text report : List ℕ) → FinishesTight network text report
-        → (founds : List Found) (left : Standing) → IsTightRun network founds left
-        → IsFrontOf (certificate_so_far network founds None) text }
-    ensures report { (network : Project) (text report : List ℕ) → FinishesTight network text report
-        → (founds : List Found) (left : Standing) → IsTightRun network founds left
-        → IsFrontOf (report_so_far network left founds None) report }
+    ensures certificate { (project : Project) (text report : List ℕ) → FinishesTight project text report
+        → (founds : List Found) (left : Standing) → IsTightRun project founds left
+        → IsFrontOf (certificate_so_far project founds None) text }
+    ensures report { (project : Project) (text report : List ℕ) → FinishesTight project text report
+        → (founds : List Found) (left : Standing) → IsTightRun project founds left
+        → IsFrontOf (report_so_far project left founds None) report }
 {}
 
 /// What was written and printed of a tight run that a fault broke off begins the certificate and the report of each
 /// tight run of the sound network that finishes. Nothing is claimed of the last lines of one that had spent its rounds:
 /// with more rounds another run goes on there.
 pub fn broken_off()
-    ensures certificate { (network : Project) → Sound network → (text report written printed : List ℕ)
-        → FinishesTight network text report → BreaksOffTight network written printed → IsFrontOf written text }
-    ensures report { (network : Project) → Sound network → (text report written printed : List ℕ)
-        → FinishesTight network text report → BreaksOffTight network written printed → IsFrontOf printed report }
+    ensures certificate { (project : Project) → Sound project → (text report written printed : List ℕ)
+        → FinishesTight project text report → BreaksOffTight project written printed → IsFrontOf written text }
+    ensures report { (project : Project) → Sound project → (text report written printed : List ℕ)
+        → FinishesTight project text report → BreaksOffTight project written printed → IsFrontOf printed report }
 {}

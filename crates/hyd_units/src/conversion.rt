@@ -4,16 +4,20 @@ ghost use Rattle.hyd_num.specs.FileQuantity.{pressure_denominator, pressure_nume
 ghost use Rattle.hyd_num.specs.QuotientsAndRoots.{IsCeiling, IsFloor};
 ghost use Rattle.std.specs.Prelude.{◌≡◌, pos};
 
-use hyd_num::{Decimal, FlowUnit, Span, mul_div_ceil, mul_div_floor};
+use hyd_num::{
+    Decimal, FlowUnit, HEAD_TICKS_IN_BILLIONTH_OF_METRE, NUMERATOR_OF_BILLIONTH_OF_POUND, Span,
+    TEN_THOUSANDTHS_OF_METRE_IN_FOOT, TEN_THOUSANDTHS_OF_POUND_IN_FOOT, mul_div_ceil,
+    mul_div_floor,
+};
 
 /// A head or a level in head ticks, exactly. `v` is in feet where `us` says so, else in metres.
 pub fn head_ticks(v: Decimal, us: bool) -> i128
     ensures { result ≡ quantity.head_ticks us v.nano }
 {
     if us {
-        return v.nano * 3_048;
+        return v.nano * TEN_THOUSANDTHS_OF_METRE_IN_FOOT as i128;
     }
-    v.nano * 10_000
+    v.nano * HEAD_TICKS_IN_BILLIONTH_OF_METRE as i128
 }
 
 /// A flow in flow ticks, cut toward zero.
@@ -31,11 +35,13 @@ pub fn pressure_ticks(v: Decimal, us: bool) -> Span
     ensures ceiling { IsCeiling (pressure_numerator us v.nano) (pos (pressure_denominator us)) result.hi }
 {
     if us {
-        let lo = mul_div_floor(30_480_000, v.nano, 4_333);
-        let hi = mul_div_ceil(30_480_000, v.nano, 4_333);
+        let numerator = NUMERATOR_OF_BILLIONTH_OF_POUND as i128;
+        let denominator = TEN_THOUSANDTHS_OF_POUND_IN_FOOT as i128;
+        let lo = mul_div_floor(numerator, v.nano, denominator);
+        let hi = mul_div_ceil(numerator, v.nano, denominator);
         return Span { lo, hi };
     }
-    let ticks = v.nano * 10_000;
+    let ticks = v.nano * HEAD_TICKS_IN_BILLIONTH_OF_METRE as i128;
     Span {
         lo: ticks,
         hi: ticks,

@@ -4,11 +4,14 @@ ghost use Rattle.hyd_units.specs.PrintedText.{IsDecimalOf, IsRounded, IsWhole};
 ghost use Rattle.std.specs.Prelude.{◌≡◌, ◌≤◌, ◌<◌, ◌^◌, drop, take, unsigned_abs, pos, ◌*ℤ◌, ◌*◌};
 
 use crate::writing::{BUFFER_SIZE, write_decimal};
-use hyd_num::{FlowUnit, mul_div_ceil, mul_div_floor};
+use hyd_num::{
+    FlowUnit, HEAD_TICKS_IN_BILLIONTH_OF_METRE, TEN_THOUSANDTHS_OF_METRE_IN_FOOT,
+    TEN_THOUSANDTHS_OF_POUND_IN_FOOT, mul_div_ceil, mul_div_floor,
+};
 
-const TICKS_PER_METRE: u64 = 10_000_000_000_000;
+const TICKS_PER_METRE: u64 = 1_000_000_000 * HEAD_TICKS_IN_BILLIONTH_OF_METRE;
 
-const TICKS_PER_FOOT: u64 = 3_048_000_000_000;
+const TICKS_PER_FOOT: u64 = 1_000_000_000 * TEN_THOUSANDTHS_OF_METRE_IN_FOOT;
 
 /// The direction in which a decimal is rounded.
 #[derive(Debug, Clone, Copy, PartialEq, Eq, Drop)]
@@ -68,9 +71,8 @@ fn pressure_decimal(ticks: i128, us: bool, way: Way) -> i128
     requires { unsigned_abs ticks ≤ 10 ^ 27 }
     ensures { IsRounded way (pressure_quantity us ticks) result }
 {
-    // A foot is 0.4333 pounds a square inch, that is 4,333 ten-thousandths.
     if us {
-        return divide(ticks, 4_333, TICKS_PER_FOOT, way);
+        return divide(ticks, TEN_THOUSANDTHS_OF_POUND_IN_FOOT, TICKS_PER_FOOT, way);
     }
     divide(ticks, 10_000, TICKS_PER_METRE, way)
 }

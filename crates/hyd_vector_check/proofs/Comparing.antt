@@ -39,53 +39,53 @@ past-map f (x ∷ xs) ys k =
     ∙ past-map f xs ys k
 
 -- a node after the junctions, where there is one head for each
-after : (network : Project) (heads ys : List ℤ) (k : ℕ) → length heads ≡ junction_count network
-    → head_at (heads ++ ys) (tank_node network k) ≡ head_at ys (reservoir_count network + k)
-after network heads ys k each =
-    ap (head_at (heads ++ ys)) (let e : (junction_count network + reservoir_count network) + k ≡ length heads
-    + (reservoir_count network + k) = omega (arith, each) in e)
-    ∙ past heads ys (reservoir_count network + k)
+after : (project : Project) (heads ys : List ℤ) (k : ℕ) → length heads ≡ junction_count project
+    → head_at (heads ++ ys) (tank_node project k) ≡ head_at ys (reservoir_count project + k)
+after project heads ys k each =
+    ap (head_at (heads ++ ys)) (let e : (junction_count project + reservoir_count project) + k ≡ length heads
+    + (reservoir_count project + k) = omega (arith, each) in e)
+    ∙ past heads ys (reservoir_count project + k)
 
 -- the head of a tank in an assignment
-tank-assigned : (network : Project) (S time : ℕ) (levels heads : List ℤ) (k : ℕ) → length heads ≡ junction_count network
-    → head_at (node_heads network S time levels heads) (tank_node network k)
-    ≡ head_at (tank_heads S network.tanks.list levels) k
-tank-assigned network S time levels heads k each =
-    after network heads _ k each
-    ∙ past-map (λ (r : Reservoir). at_scale S (reservoir_head network time r)) network.reservoirs.list
-    (tank_heads S network.tanks.list levels) k
+tank-assigned : (project : Project) (S time : ℕ) (levels heads : List ℤ) (k : ℕ) → length heads ≡ junction_count project
+    → head_at (node_heads project S time levels heads) (tank_node project k)
+    ≡ head_at (tank_heads S project.tanks.list levels) k
+tank-assigned project S time levels heads k each =
+    after project heads _ k each
+    ∙ past-map (λ (r : Reservoir). at_scale S (reservoir_head project time r)) project.reservoirs.list
+    (tank_heads S project.tanks.list levels) k
 
 -- and among the fixed heads
-tank-fixed : (network : Project) (time : ℕ) (intervals : List Interval) (tanks : List TankState)
+tank-fixed : (project : Project) (time : ℕ) (intervals : List Interval) (tanks : List TankState)
     (links : List LinkState) (grid : Grid)
-    (problem : Problem) (side : Side) (u : List ℤ) (k : ℕ) → IsGrid network time intervals tanks links grid
-    → length u ≡ junction_count network
-    → head_at (all_heads grid problem side u) (tank_node network k)
+    (problem : Problem) (side : Side) (u : List ℤ) (k : ℕ) → IsGrid project time intervals tanks links grid
+    → length u ≡ junction_count project
+    → head_at (all_heads grid problem side u) (tank_node project k)
     ≡ head_at (map_from (λ n tank. end_on (tank_side problem side n) tank) 0
-    (tank_intervals network.tanks.list intervals)) k
-tank-fixed network time intervals tanks links grid problem side u k is each =
-    after network u _ k each
-    ∙ rw (is.reservoirs, is.tank_heads) (past-map (reservoir_head network time) network.reservoirs.list
-    (map_from (λ n tank. end_on (tank_side problem side n) tank) 0 (tank_intervals network.tanks.list intervals)) k)
+    (tank_intervals project.tanks.list intervals)) k
+tank-fixed project time intervals tanks links grid problem side u k is each =
+    after project u _ k each
+    ∙ rw (is.reservoirs, is.tank_heads) (past-map (reservoir_head project time) project.reservoirs.list
+    (map_from (λ n tank. end_on (tank_side problem side n) tank) 0 (tank_intervals project.tanks.list intervals)) k)
 
 module _ (grid : Grid) (u : List ℤ) where
   pub above-all : IsCertificate grid Main Upper u → LiesAbove grid u
-  above-all is network S time intervals levels tanks links assignment compared =
-      below_main network S time intervals levels tanks links assignment grid u compared is
+  above-all is project S time intervals levels tanks links assignment compared =
+      below_main project S time intervals levels tanks links assignment grid u compared is
 
   pub below-all : IsCertificate grid Main Lower u → LiesBelow grid u
-  below-all is network S time intervals levels tanks links assignment compared =
-      above_main network S time intervals levels tanks links assignment grid u compared is
+  below-all is project S time intervals levels tanks links assignment compared =
+      above_main project S time intervals levels tanks links assignment grid u compared is
 
   pub above-pinned : (k : ℕ) → IsCertificate grid (Pinned k) Upper u → LiesAbovePinned grid k u
-  above-pinned k is network S time intervals levels tanks links assignment compared j h at =
+  above-pinned k is project S time intervals levels tanks links assignment compared j h at =
       let inside = slice_get_within assignment.heads j h at in
-      let same = one_each network S time intervals levels tanks links assignment grid (Pinned k) Upper u compared is in
+      let same = one_each project S time intervals levels tanks links assignment grid (Pinned k) Upper u compared is in
       let each = compared.assigned.head_each in
-      let within = upper_within network S time intervals levels tanks links assignment grid k u j compared is inside in
+      let within = upper_within project S time intervals levels tanks links assignment grid k u j compared is inside in
       let here : head_at assignment.heads j ≡ h = get_or_from_slice_get assignment.heads j h (pos 0) at in
-      let a = tank-assigned network S time levels assignment.heads k each in
-      let b = ap (λ (z : ℤ). pos S *ℤ z) (tank-fixed network time intervals tanks links grid (Pinned k) Upper u k
+      let a = tank-assigned project S time levels assignment.heads k each in
+      let b = ap (λ (z : ℤ). pos S *ℤ z) (tank-fixed project time intervals tanks links grid (Pinned k) Upper u k
       compared.is_grid (omega (arith, same, each))) in
       omega (
         arith,
@@ -95,18 +95,18 @@ module _ (grid : Grid) (u : List ℤ) where
         a,
         b,
         times_minus S (head_at u j)
-            (head_at (all_heads grid (Pinned k) Upper u) (tank_node network k)),
+            (head_at (all_heads grid (Pinned k) Upper u) (tank_node project k)),
       )
 
   pub below-pinned : (k : ℕ) → IsCertificate grid (Pinned k) Lower u → LiesBelowPinned grid k u
-  below-pinned k is network S time intervals levels tanks links assignment compared j h at =
+  below-pinned k is project S time intervals levels tanks links assignment compared j h at =
       let inside = slice_get_within assignment.heads j h at in
-      let same = one_each network S time intervals levels tanks links assignment grid (Pinned k) Lower u compared is in
+      let same = one_each project S time intervals levels tanks links assignment grid (Pinned k) Lower u compared is in
       let each = compared.assigned.head_each in
-      let within = lower_within network S time intervals levels tanks links assignment grid k u j compared is inside in
+      let within = lower_within project S time intervals levels tanks links assignment grid k u j compared is inside in
       let here : head_at assignment.heads j ≡ h = get_or_from_slice_get assignment.heads j h (pos 0) at in
-      let a = tank-assigned network S time levels assignment.heads k each in
-      let b = ap (λ (z : ℤ). pos S *ℤ z) (tank-fixed network time intervals tanks links grid (Pinned k) Lower u k
+      let a = tank-assigned project S time levels assignment.heads k each in
+      let b = ap (λ (z : ℤ). pos S *ℤ z) (tank-fixed project time intervals tanks links grid (Pinned k) Lower u k
       compared.is_grid (omega (arith, same, each))) in
       omega (
         arith,
@@ -116,7 +116,7 @@ module _ (grid : Grid) (u : List ℤ) where
         a,
         b,
         times_minus S (head_at u j)
-            (head_at (all_heads grid (Pinned k) Lower u) (tank_node network k)),
+            (head_at (all_heads grid (Pinned k) Lower u) (tank_node project k)),
       )
 
   pub above-lower : IsSteady grid → (problem : Problem) → IsCertificate grid problem Upper u

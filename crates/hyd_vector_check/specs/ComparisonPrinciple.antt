@@ -20,40 +20,40 @@ use Rattle.hyd_theorems_on_definitions.specs.TermsOfTheorems.{IsCompared}
 
 -- at every scale, each head of every assignment whose tank levels lie in the intervals of the grid lies below u
 abbrev pub LiesAbove : Grid → List ℤ → Type 0
-LiesAbove grid u = (network : Project) (S time : ℕ) (intervals : List Interval) (levels : List ℤ)
+LiesAbove grid u = (project : Project) (S time : ℕ) (intervals : List Interval) (levels : List ℤ)
     (tanks : List TankState) (links : List LinkState) (assignment : Assignment)
-    → IsCompared network S time intervals levels tanks links assignment grid
+    → IsCompared project S time intervals levels tanks links assignment grid
     → Each assignment.heads (λ j h. h <ℤ at_scale S (head_at u j))
 
 -- each lies above u
 abbrev pub LiesBelow : Grid → List ℤ → Type 0
-LiesBelow grid u = (network : Project) (S time : ℕ) (intervals : List Interval) (levels : List ℤ)
+LiesBelow grid u = (project : Project) (S time : ℕ) (intervals : List Interval) (levels : List ℤ)
     (tanks : List TankState) (links : List LinkState) (assignment : Assignment)
-    → IsCompared network S time intervals levels tanks links assignment grid
+    → IsCompared project S time intervals levels tanks links assignment grid
     → Each assignment.heads (λ j h. at_scale S (head_at u j) <ℤ h)
 
 -- how far a head of a vector lies above that of a tank, of the fixed heads of a problem and side
 abbrev pub above_tank : Project → Grid → Side → ℕ → List ℤ → ℕ → ℤ
-above_tank network grid side tank u j =
-    head_at u j -ℤ head_at (all_heads grid (Pinned tank) side u) (tank_node network tank)
+above_tank project grid side tank u j =
+    head_at u j -ℤ head_at (all_heads grid (Pinned tank) side u) (tank_node project tank)
 
 -- at every scale, each head of every such assignment lies less far above that of a tank than in u
 abbrev pub LiesAbovePinned : Grid → ℕ → List ℤ → Type 0
-LiesAbovePinned grid tank u = (network : Project) (S time : ℕ) (intervals : List Interval) (levels : List ℤ)
+LiesAbovePinned grid tank u = (project : Project) (S time : ℕ) (intervals : List Interval) (levels : List ℤ)
     (tanks : List TankState) (links : List LinkState) (assignment : Assignment)
-    → IsCompared network S time intervals levels tanks links assignment grid
+    → IsCompared project S time intervals levels tanks links assignment grid
     → Each assignment.heads (λ j h.
-    (h -ℤ head_at (node_heads network S time levels assignment.heads) (tank_node network tank))
-    <ℤ at_scale S (above_tank network grid Upper tank u j))
+    (h -ℤ head_at (node_heads project S time levels assignment.heads) (tank_node project tank))
+    <ℤ at_scale S (above_tank project grid Upper tank u j))
 
 -- each lies farther above it than in u
 abbrev pub LiesBelowPinned : Grid → ℕ → List ℤ → Type 0
-LiesBelowPinned grid tank u = (network : Project) (S time : ℕ) (intervals : List Interval) (levels : List ℤ)
+LiesBelowPinned grid tank u = (project : Project) (S time : ℕ) (intervals : List Interval) (levels : List ℤ)
     (tanks : List TankState) (links : List LinkState) (assignment : Assignment)
-    → IsCompared network S time intervals levels tanks links assignment grid
+    → IsCompared project S time intervals levels tanks links assignment grid
     → Each assignment.heads (λ j h.
-    at_scale S (above_tank network grid Lower tank u j)
-    <ℤ (h -ℤ head_at (node_heads network S time levels assignment.heads) (tank_node network tank)))
+    at_scale S (above_tank project grid Lower tank u j)
+    <ℤ (h -ℤ head_at (node_heads project S time levels assignment.heads) (tank_node project tank)))
 
 -- ---- certificates of the other side
 

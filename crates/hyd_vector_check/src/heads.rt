@@ -9,10 +9,7 @@ ghost use Rattle.hyd_period_network.specs.NetAsPeriodNetwork.{grid_of, node_coun
 ghost use Rattle.hyd_period_network.specs.NetInvariant.{HasProblem};
 
 use hyd_period_network::Net;
-use hyd_spec_certificates::{Problem, Side};
-
-/// The end of the box in which heads are sought, either way, in head ticks.
-pub(crate) const BOX_LIMIT: i64 = 1_000_000_000_000_000_000;
+use hyd_spec_certificates::{BOX_LIMIT, Problem, Side};
 
 /// Whether a head lies in the box.
 pub fn is_in_box(head: i64) -> bool

@@ -1,12 +1,13 @@
 -- Watched levels, one after another.
 use Rattle.std.proofs.Common.{◌≡◌, Bool, true, false, ℕ, zero, suc, ◌+◌, ◌<◌, ◌≤◌, min, List, [], ◌∷◌, ◌++◌, length}
-use Rattle.std.proofs.Common.{take, refl, ap, sym, ◌∙◌, subst, arith, append_assoc, get_or}
-use Rattle.std.specs.Prelude.{Option, Some, None, map, slice_get, if◌then◌else◌}
+use Rattle.std.proofs.Common.{take, ap, sym, ◌∙◌, subst, arith, append_assoc, get_or, append-nil}
+use Rattle.std.specs.Prelude.{Option, Some, map, slice_get, if◌then◌else◌}
 use Rattle.std.proofs.lemmas.List.{take_more, take_all, map_push}
 use Rattle.hyd_spec.specs.ProgramTypes.{Project, Tank, Control}
 use Rattle.hyd_spec.specs.declared.TankState.{TankState}
 use Rattle.hyd_spec.specs.LinkLaw.{is_full, is_empty}
 use Rattle.hyd_spec.specs.Lists.{present}
+use Rattle.hyd_spec_certificates.specs.Spans.{levels_of}
 use Rattle.hyd_spec_certificates.specs.Interval.{Interval}
 use Rattle.hyd_spec_certificates.specs.PeriodNetwork.{Grid}
 use Rattle.hyd_spec_certificates.specs.RecordAndStanding.{Record, Standing}
@@ -14,55 +15,51 @@ use Rattle.hyd_spec_certificates.specs.Stocks.{may_reach, must_reach}
 use Rattle.hyd_spec_certificates.specs.Decided.{Watch, watches, tank_watches, watch_of, IsClockLength, IsEarliestEnd}
 use Rattle.hyd_spec_certificates.specs.Decided.{IsLatestEnd}
 use Rattle.hyd_theorems_on_nesting.specs.Nesting.{IsFirstAmong}
+use Rattle.hyd_lemmas.proofs.ListsAndOptions.{present_push}
 use Rattle.hyd_theorems_on_nesting.proofs.Watched.{none_watched, end_is}
-use Rattle.hyd_period_facts.specs.FactsOfPeriod.{levels_of}
 use Rattle.hyd_period_facts.specs.declared.facts.Facts.{Facts}
 use Rattle.hyd_watched_levels.specs.declared.watch.Ends.{Ends}
 use Rattle.hyd_watched_levels.specs.FactsBeforeEnd.{AreStarted}
 use Rattle.hyd_watched_levels.specs.Watched.{IsReachedFirst, IsReachedAmong, AreEnds, most_of, least_of}
 use Rattle.hyd_watched_levels.proofs.Reaching.{one_behind}
 
-append_nil : {X : Type 0} (xs : List X) → xs ++ [] ≡ xs
-append_nil {X} [] = refl
-append_nil {X} (x ∷ xs) = ap (λ (ys : List X). x ∷ ys) (append_nil xs)
-
-pub none_yet : (network : Project) (facts : Facts) (cap : ℕ) (ends : Ends) → ends.earliest ≡ cap → ends.latest ≡ cap
-    → AreEnds network facts cap [] ends
-none_yet network facts cap ends a b = record {
-  earliest = λ grid standing row started. subst (IsFirstAmong may_reach network grid standing row cap []) (sym a)
-      (none_watched may_reach network grid standing row cap);
-  latest = λ grid standing row started. subst (IsFirstAmong must_reach network grid standing row cap []) (sym b)
-      (none_watched must_reach network grid standing row cap);
+pub none_yet : (project : Project) (facts : Facts) (cap : ℕ) (ends : Ends) → ends.earliest ≡ cap → ends.latest ≡ cap
+    → AreEnds project facts cap [] ends
+none_yet project facts cap ends a b = record {
+  earliest = λ grid standing row started. subst (IsFirstAmong may_reach project grid standing row cap []) (sym a)
+      (none_watched may_reach project grid standing row cap);
+  latest = λ grid standing row started. subst (IsFirstAmong must_reach project grid standing row cap []) (sym b)
+      (none_watched must_reach project grid standing row cap);
   within = omega (arith, a);
   some = λ h. omega (arith, a, h);
 }
 
 -- one more watched level
-pub one_more : (network : Project) (facts : Facts) (cap : ℕ) (watch : Watch) (watched : List Watch)
+pub one_more : (project : Project) (facts : Facts) (cap : ℕ) (watch : Watch) (watched : List Watch)
     (own ends both : Ends)
-    → IsReachedFirst may_reach network facts cap watch own.earliest
-    → IsReachedFirst must_reach network facts cap watch own.latest
+    → IsReachedFirst may_reach project facts cap watch own.earliest
+    → IsReachedFirst must_reach project facts cap watch own.latest
     → (0 < cap → 0 < own.earliest)
     → both.earliest ≡ min own.earliest ends.earliest → both.latest ≡ min own.latest ends.latest
-    → AreEnds network facts cap watched ends → AreEnds network facts cap (watched ++ watch ∷ []) both
-one_more network facts cap watch watched own ends both first last some a b are = record {
-  earliest = subst (IsReachedAmong may_reach network facts cap (watched ++ watch ∷ [])) (sym a)
-      (one_behind may_reach network facts cap watch watched own.earliest ends.earliest first are.earliest);
-  latest = subst (IsReachedAmong must_reach network facts cap (watched ++ watch ∷ [])) (sym b)
-      (one_behind must_reach network facts cap watch watched own.latest ends.latest last are.latest);
+    → AreEnds project facts cap watched ends → AreEnds project facts cap (watched ++ watch ∷ []) both
+one_more project facts cap watch watched own ends both first last some a b are = record {
+  earliest = subst (IsReachedAmong may_reach project facts cap (watched ++ watch ∷ [])) (sym a)
+      (one_behind may_reach project facts cap watch watched own.earliest ends.earliest first are.earliest);
+  latest = subst (IsReachedAmong must_reach project facts cap (watched ++ watch ∷ [])) (sym b)
+      (one_behind must_reach project facts cap watch watched own.latest ends.latest last are.latest);
   within = let w = are.within in omega (arith, a, w);
   some = λ h. let here = some h in let there = are.some h in omega (arith, a, here, there);
 }
 
-pub as_watched : (network : Project) (facts : Facts) (cap : ℕ) (some others : List Watch) (ends : Ends) → some ≡ others
-    → AreEnds network facts cap some ends → AreEnds network facts cap others ends
-as_watched network facts cap some others ends e are =
-    subst (λ (ws : List Watch). AreEnds network facts cap ws ends) e are
+pub as_watched : (project : Project) (facts : Facts) (cap : ℕ) (some others : List Watch) (ends : Ends) → some ≡ others
+    → AreEnds project facts cap some ends → AreEnds project facts cap others ends
+as_watched project facts cap some others ends e are =
+    subst (λ (ws : List Watch). AreEnds project facts cap ws ends) e are
 
-pub no_more : (network : Project) (facts : Facts) (cap : ℕ) (watched : List Watch) (ends : Ends)
-    → AreEnds network facts cap watched ends → AreEnds network facts cap (watched ++ []) ends
-no_more network facts cap watched ends are =
-    as_watched network facts cap watched (watched ++ []) ends (sym (append_nil watched)) are
+pub no_more : (project : Project) (facts : Facts) (cap : ℕ) (watched : List Watch) (ends : Ends)
+    → AreEnds project facts cap watched ends → AreEnds project facts cap (watched ++ []) ends
+no_more project facts cap watched ends are =
+    as_watched project facts cap watched (watched ++ []) ends (sym (append-nil watched)) are
 
 -- ---- tanks
 
@@ -75,7 +72,7 @@ tank_more k i (x ∷ tanks) [] tank state at is = absurd (cc)
 tank_more k zero (x ∷ tanks) (s ∷ states) tank state at is =
     let same : x ≡ tank = cc in
     let alike : s ≡ state = cc in
-    ap (λ (ws : List Watch). most_of k x s ++ ws) (append_nil (least_of k x s))
+    ap (λ (ws : List Watch). most_of k x s ++ ws) (append-nil (least_of k x s))
     ∙ ap (λ (t : Tank). most_of k t s ++ least_of k t s) same
     ∙ ap (λ (t : TankState). most_of k tank t ++ least_of k tank t) alike
     ∙ ap (λ (n : ℕ). most_of n tank state ++ least_of n tank state) (let e : k ≡ k + 0 = omega arith in e)
@@ -93,79 +90,73 @@ tank_more k (suc i) (x ∷ tanks) (s ∷ states) tank state at is =
     (least_of k x s) w m))
     ∙ sym (append_assoc (most_of k x s) (least_of k x s ++ w) m))
 
-pub most_so : (network : Project) (facts : Facts) (cap k : ℕ) (here each : Tank) (state : TankState)
+pub most_so : (project : Project) (facts : Facts) (cap k : ℕ) (here each : Tank) (state : TankState)
     (watched : List Watch) (ends : Ends)
     → is_full state ≡ false → here ≡ each
-    → AreEnds network facts cap (watched ++ record { tank = k; target = here.maximum; rising = true } ∷ []) ends
-    → AreEnds network facts cap (watched ++ most_of k each state) ends
-most_so network facts cap k here each state watched ends lacks is are =
-    as_watched network facts cap _ (watched ++ most_of k each state) ends
+    → AreEnds project facts cap (watched ++ record { tank = k; target = here.maximum; rising = true } ∷ []) ends
+    → AreEnds project facts cap (watched ++ most_of k each state) ends
+most_so project facts cap k here each state watched ends lacks is are =
+    as_watched project facts cap _ (watched ++ most_of k each state) ends
     (ap (λ (b : Bool). watched ++ (if b then [] else record { tank = k; target = here.maximum; rising = true } ∷ []))
     (sym lacks)
     ∙ ap (λ (t : Tank). watched ++ most_of k t state) is) are
 
-pub least_so : (network : Project) (facts : Facts) (cap k : ℕ) (here each : Tank) (state : TankState)
+pub least_so : (project : Project) (facts : Facts) (cap k : ℕ) (here each : Tank) (state : TankState)
     (watched : List Watch) (ends : Ends)
     → is_empty state ≡ false → here ≡ each
-    → AreEnds network facts cap (watched ++ record { tank = k; target = here.minimum; rising = false } ∷ []) ends
-    → AreEnds network facts cap (watched ++ least_of k each state) ends
-least_so network facts cap k here each state watched ends lacks is are =
-    as_watched network facts cap _ (watched ++ least_of k each state) ends
+    → AreEnds project facts cap (watched ++ record { tank = k; target = here.minimum; rising = false } ∷ []) ends
+    → AreEnds project facts cap (watched ++ least_of k each state) ends
+least_so project facts cap k here each state watched ends lacks is are =
+    as_watched project facts cap _ (watched ++ least_of k each state) ends
     (ap (λ (b : Bool). watched ++
     (if b then [] else record { tank = k; target = here.minimum; rising = false } ∷ [])) (sym lacks)
     ∙ ap (λ (t : Tank). watched ++ least_of k t state) is) are
 
-pub no_most : (network : Project) (facts : Facts) (cap k : ℕ) (each : Tank) (state : TankState)
+pub no_most : (project : Project) (facts : Facts) (cap k : ℕ) (each : Tank) (state : TankState)
     (watched : List Watch) (ends : Ends)
-    → is_full state ≡ true → AreEnds network facts cap watched ends
-    → AreEnds network facts cap (watched ++ most_of k each state) ends
-no_most network facts cap k each state watched ends full are =
-    as_watched network facts cap _ (watched ++ most_of k each state) ends
+    → is_full state ≡ true → AreEnds project facts cap watched ends
+    → AreEnds project facts cap (watched ++ most_of k each state) ends
+no_most project facts cap k each state watched ends full are =
+    as_watched project facts cap _ (watched ++ most_of k each state) ends
     (ap (λ (b : Bool). watched ++ (if b then [] else record { tank = k; target = each.maximum; rising = true } ∷ []))
     (sym full))
-    (no_more network facts cap watched ends are)
+    (no_more project facts cap watched ends are)
 
-pub no_least : (network : Project) (facts : Facts) (cap k : ℕ) (each : Tank) (state : TankState)
+pub no_least : (project : Project) (facts : Facts) (cap k : ℕ) (each : Tank) (state : TankState)
     (watched : List Watch) (ends : Ends)
-    → is_empty state ≡ true → AreEnds network facts cap watched ends
-    → AreEnds network facts cap (watched ++ least_of k each state) ends
-no_least network facts cap k each state watched ends empty are =
-    as_watched network facts cap _ (watched ++ least_of k each state) ends
+    → is_empty state ≡ true → AreEnds project facts cap watched ends
+    → AreEnds project facts cap (watched ++ least_of k each state) ends
+no_least project facts cap k each state watched ends empty are =
+    as_watched project facts cap _ (watched ++ least_of k each state) ends
     (ap (λ (b : Bool). watched ++
     (if b then [] else record { tank = k; target = each.minimum; rising = false } ∷ [])) (sym empty))
-    (no_more network facts cap watched ends are)
+    (no_more project facts cap watched ends are)
 
-pub tank_further : (network : Project) (facts : Facts) (cap i : ℕ) (tank : Tank) (state : TankState) (ends : Ends)
-    → slice_get network.tanks.list i ≡ Some tank → slice_get facts.tanks.list i ≡ Some state
-    → AreEnds network facts cap ((tank_watches 0 (take i network.tanks.list)
+pub tank_further : (project : Project) (facts : Facts) (cap i : ℕ) (tank : Tank) (state : TankState) (ends : Ends)
+    → slice_get project.tanks.list i ≡ Some tank → slice_get facts.tanks.list i ≡ Some state
+    → AreEnds project facts cap ((tank_watches 0 (take i project.tanks.list)
     (take i facts.tanks.list) ++ most_of i tank state) ++ least_of i tank state) ends
-    → AreEnds network facts cap (tank_watches 0 (take (i + 1) network.tanks.list) (take (i + 1) facts.tanks.list)) ends
-tank_further network facts cap i tank state ends at is are =
-    as_watched network facts cap _ (tank_watches 0 (take (i + 1) network.tanks.list) (take
+    → AreEnds project facts cap (tank_watches 0 (take (i + 1) project.tanks.list) (take (i + 1) facts.tanks.list)) ends
+tank_further project facts cap i tank state ends at is are =
+    as_watched project facts cap _ (tank_watches 0 (take (i + 1) project.tanks.list) (take
     (i + 1) facts.tanks.list)) ends
-    (sym (ap (λ (n : ℕ). tank_watches 0 (take n network.tanks.list) (take n facts.tanks.list))
+    (sym (ap (λ (n : ℕ). tank_watches 0 (take n project.tanks.list) (take n facts.tanks.list))
     (let e : i + 1 ≡ suc i = omega arith in e)
-    ∙ tank_more 0 i network.tanks.list facts.tanks.list tank state at is
-    ∙ ap (λ (n : ℕ). (tank_watches 0 (take i network.tanks.list)
+    ∙ tank_more 0 i project.tanks.list facts.tanks.list tank state at is
+    ∙ ap (λ (n : ℕ). (tank_watches 0 (take i project.tanks.list)
     (take i facts.tanks.list) ++ most_of n tank state) ++ least_of n tank state)
     (let same : 0 + i ≡ i = omega arith in same))) are
 
-pub all_tanks : (network : Project) (facts : Facts) (cap i : ℕ) (ends : Ends) → length network.tanks.list ≤ i
+pub all_tanks : (project : Project) (facts : Facts) (cap i : ℕ) (ends : Ends) → length project.tanks.list ≤ i
     → length facts.tanks.list ≤ i
-    → AreEnds network facts cap (tank_watches 0 (take i network.tanks.list) (take i facts.tanks.list)) ends
-    → AreEnds network facts cap (tank_watches 0 network.tanks.list facts.tanks.list) ends
-all_tanks network facts cap i ends a b are =
-    as_watched network facts cap _ (tank_watches 0 network.tanks.list facts.tanks.list) ends
-    (ap (λ (ts : List Tank). tank_watches 0 ts (take i facts.tanks.list)) (take_all i network.tanks.list a)
-    ∙ ap (λ (ss : List TankState). tank_watches 0 network.tanks.list ss) (take_all i facts.tanks.list b)) are
+    → AreEnds project facts cap (tank_watches 0 (take i project.tanks.list) (take i facts.tanks.list)) ends
+    → AreEnds project facts cap (tank_watches 0 project.tanks.list facts.tanks.list) ends
+all_tanks project facts cap i ends a b are =
+    as_watched project facts cap _ (tank_watches 0 project.tanks.list facts.tanks.list) ends
+    (ap (λ (ts : List Tank). tank_watches 0 ts (take i facts.tanks.list)) (take_all i project.tanks.list a)
+    ∙ ap (λ (ss : List TankState). tank_watches 0 project.tanks.list ss) (take_all i facts.tanks.list b)) are
 
 -- ---- controls
-
-present_push : {X : Type 0} (xs : List (Option X)) (o : Option X)
-    → present (xs ++ o ∷ []) ≡ present xs ++ present (o ∷ [])
-present_push {X} [] o = refl
-present_push {X} (Some x ∷ xs) o = ap (λ (ys : List X). x ∷ ys) (present_push xs o)
-present_push {X} (None ∷ xs) o = present_push xs o
 
 abbrev pub control_watches : List Interval → List Control → List Watch
 control_watches levels controls = present (map (watch_of levels) controls)
@@ -180,57 +171,57 @@ control_more levels controls i control h at =
     ∙ ap present (map_push (watch_of levels) (take i controls) control)
     ∙ present_push (map (watch_of levels) (take i controls)) (watch_of levels control)
 
-pub control_further : (network : Project) (facts : Facts) (cap i : ℕ) (controls : List Control) (control : Control)
+pub control_further : (project : Project) (facts : Facts) (cap i : ℕ) (controls : List Control) (control : Control)
     (watched : List Watch)
     (ends : Ends) → i < length controls → control ≡ get_or controls i control
-    → AreEnds network facts cap ((watched ++ control_watches (map levels_of facts.levels.list) (take i controls))
+    → AreEnds project facts cap ((watched ++ control_watches (map levels_of facts.levels.list) (take i controls))
     ++ present (watch_of (map levels_of facts.levels.list) control ∷ [])) ends
-    → AreEnds network facts cap (watched ++ control_watches (map levels_of facts.levels.list) (take
+    → AreEnds project facts cap (watched ++ control_watches (map levels_of facts.levels.list) (take
     (i + 1) controls)) ends
-control_further network facts cap i controls control watched ends h at are =
+control_further project facts cap i controls control watched ends h at are =
     let levels : List Interval = map levels_of facts.levels.list in
-    as_watched network facts cap _ (watched ++ control_watches levels (take (i + 1) controls)) ends
+    as_watched project facts cap _ (watched ++ control_watches levels (take (i + 1) controls)) ends
     (append_assoc watched (control_watches levels (take i controls)) (present (watch_of levels control ∷ []))
     ∙ ap (λ (ws : List Watch). watched ++ ws) (sym (control_more levels controls i control h at))) are
 
-pub watched_so : (network : Project) (facts : Facts) (cap : ℕ) (watched : List Watch) (watch o : Option Watch)
+pub watched_so : (project : Project) (facts : Facts) (cap : ℕ) (watched : List Watch) (watch o : Option Watch)
     (ends : Ends)
-    → watch ≡ o → AreEnds network facts cap (watched ++ present (watch ∷ [])) ends
-    → AreEnds network facts cap (watched ++ present (o ∷ [])) ends
-watched_so network facts cap watched watch o ends is are =
-    subst (λ (w : Option Watch). AreEnds network facts cap (watched ++ present (w ∷ [])) ends) is are
+    → watch ≡ o → AreEnds project facts cap (watched ++ present (watch ∷ [])) ends
+    → AreEnds project facts cap (watched ++ present (o ∷ [])) ends
+watched_so project facts cap watched watch o ends is are =
+    subst (λ (w : Option Watch). AreEnds project facts cap (watched ++ present (w ∷ [])) ends) is are
 
-pub all_controls : (network : Project) (facts : Facts) (cap i : ℕ) (controls all : List Control)
+pub all_controls : (project : Project) (facts : Facts) (cap i : ℕ) (controls all : List Control)
     (watched : List Watch) (ends : Ends)
     → length controls ≤ i → controls ≡ all
-    → AreEnds network facts cap (watched ++ control_watches (map levels_of facts.levels.list) (take i controls)) ends
-    → AreEnds network facts cap (watched ++ control_watches (map levels_of facts.levels.list) all) ends
-all_controls network facts cap i controls all watched ends h is are =
+    → AreEnds project facts cap (watched ++ control_watches (map levels_of facts.levels.list) (take i controls)) ends
+    → AreEnds project facts cap (watched ++ control_watches (map levels_of facts.levels.list) all) ends
+all_controls project facts cap i controls all watched ends h is are =
     let levels : List Interval = map levels_of facts.levels.list in
-    as_watched network facts cap _ (watched ++ control_watches levels all) ends
+    as_watched project facts cap _ (watched ++ control_watches levels all) ends
     (ap (λ (cs : List Control). watched ++ control_watches levels cs) (take_all i controls h ∙ is)) are
 
 -- ---- all of them
 
-module _ (network : Project) (facts : Facts) (cap : ℕ) (ends : Ends)
-    (are : AreEnds network facts cap (tank_watches 0 network.tanks.list facts.tanks.list
-    ++ control_watches (map levels_of facts.levels.list) network.controls.list) ends)
-    (grid : Grid) (standing : Standing) (row : Record) (started : AreStarted network grid standing row facts)
-    (clock : IsClockLength network standing.time cap) where
-  watched_are : tank_watches 0 network.tanks.list facts.tanks.list
-      ++ control_watches (map levels_of facts.levels.list) network.controls.list ≡ watches network standing
+module _ (project : Project) (facts : Facts) (cap : ℕ) (ends : Ends)
+    (are : AreEnds project facts cap (tank_watches 0 project.tanks.list facts.tanks.list
+    ++ control_watches (map levels_of facts.levels.list) project.controls.list) ends)
+    (grid : Grid) (standing : Standing) (row : Record) (started : AreStarted project grid standing row facts)
+    (clock : IsClockLength project standing.time cap) where
+  watched_are : tank_watches 0 project.tanks.list facts.tanks.list
+      ++ control_watches (map levels_of facts.levels.list) project.controls.list ≡ watches project standing
   watched_are =
-      ap (λ (states : List TankState). tank_watches 0 network.tanks.list states
-      ++ control_watches (map levels_of facts.levels.list) network.controls.list) started.tanks
-      ∙ ap (λ (levels : List Interval). tank_watches 0 network.tanks.list standing.tanks ++ control_watches levels
-      network.controls.list) started.levels
+      ap (λ (states : List TankState). tank_watches 0 project.tanks.list states
+      ++ control_watches (map levels_of facts.levels.list) project.controls.list) started.tanks
+      ∙ ap (λ (levels : List Interval). tank_watches 0 project.tanks.list standing.tanks ++ control_watches levels
+      project.controls.list) started.levels
 
-  pub earliest_is : IsEarliestEnd network grid standing row ends.earliest
-  earliest_is = end_is may_reach network grid standing row cap clock ends.earliest
-      (subst (λ (ws : List Watch). IsFirstAmong may_reach network grid standing row cap ws ends.earliest) watched_are
+  pub earliest_is : IsEarliestEnd project grid standing row ends.earliest
+  earliest_is = end_is may_reach project grid standing row cap clock ends.earliest
+      (subst (λ (ws : List Watch). IsFirstAmong may_reach project grid standing row cap ws ends.earliest) watched_are
       (are.earliest grid standing row started))
 
-  pub latest_is : IsLatestEnd network grid standing row ends.latest
-  latest_is = end_is must_reach network grid standing row cap clock ends.latest
-      (subst (λ (ws : List Watch). IsFirstAmong must_reach network grid standing row cap ws ends.latest) watched_are
+  pub latest_is : IsLatestEnd project grid standing row ends.latest
+  latest_is = end_is must_reach project grid standing row cap clock ends.latest
+      (subst (λ (ws : List Watch). IsFirstAmong must_reach project grid standing row cap ws ends.latest) watched_are
       (are.latest grid standing row started))

@@ -13,6 +13,7 @@ use Rattle.hyd_spec_certificates.specs.Stocks.{Stocks}
 use Rattle.hyd_spec_certificates.specs.FirstSeconds.{IsFirstSecond}
 use Rattle.hyd_spec_certificates.specs.Decided.{Watch, stocks_of_tank, inflow_of_tank, nowhere}
 use Rattle.hyd_theorems_on_nesting.specs.Nesting.{ReachTest, IsFirstAmong}
+use Rattle.hyd_lemmas.proofs.ListsAndOptions.{item_is}
 use Rattle.hyd_theorems_on_nesting.proofs.Watched.{one_watched, one_more}
 use Rattle.hyd_theorems_on_histories.proofs.Watching.{contains-here, contains-later, contains-cons}
 use Rattle.hyd_period_facts.specs.declared.facts.Facts.{Facts}
@@ -20,16 +21,6 @@ use Rattle.hyd_watched_levels.specs.FactsBeforeEnd.{AreStarted, stocks_in, inflo
 use Rattle.hyd_watched_levels.specs.Watched.{IsReachedFirst, IsReachedAmong}
 
 -- ---- items of lists
-
-pub item_there : {X : Type 0} (xs : List X) (k : ℕ) → k < length xs → (x : X) × (slice_get xs k ≡ Some x)
-item_there {X} [] k h = absurd (omega (arith, h))
-item_there {X} (x ∷ xs) zero h = (x, refl)
-item_there {X} (x ∷ xs) (suc k) h = item_there xs k (omega (arith, h))
-
-pub item_is : {X : Type 0} (xs : List X) (k : ℕ) (x d : X) → slice_get xs k ≡ Some x → slice_index_or xs k d ≡ x
-item_is {X} [] k x d at = absurd (cc)
-item_is {X} (y ∷ xs) zero x d at = cc
-item_is {X} (y ∷ xs) (suc k) x d at = item_is xs k x d at
 
 pub mapped : {X Y : Type 0} (f : X → Y) (xs : List X) (k : ℕ) (d : Y) (e : X) → k < length xs
     → slice_index_or (map f xs) k d ≡ f (slice_index_or xs k e)
@@ -53,9 +44,9 @@ each_is {X} xs ys k here each is are at =
 
 -- ---- what facts say
 
-pub stocks_are : (network : Project) (grid : Grid) (standing : Standing) (row : Record) (facts : Facts)
-    → AreStarted network grid standing row facts → (k : ℕ) → stocks_in facts k ≡ stocks_of_tank standing k
-stocks_are network grid standing row facts started k =
+pub stocks_are : (project : Project) (grid : Grid) (standing : Standing) (row : Record) (facts : Facts)
+    → AreStarted project grid standing row facts → (k : ℕ) → stocks_in facts k ≡ stocks_of_tank standing k
+stocks_are project grid standing row facts started k =
     ap (λ (levels : List Interval). let s : Stocks = record {
       level = slice_index_or levels k nowhere;
       volume =
@@ -66,39 +57,39 @@ stocks_are network grid standing row facts started k =
       volume = slice_index_or volumes k nowhere;
     } in s) started.volumes
 
-pub inflow_is : (network : Project) (grid : Grid) (standing : Standing) (row : Record) (facts : Facts)
-    → AreStarted network grid standing row facts → (k : ℕ) (tank : Tank) → slice_get network.tanks.list k ≡ Some tank
-    → inflow_in facts k ≡ inflow_of_tank network grid row k
-inflow_is network grid standing row facts started k tank at =
+pub inflow_is : (project : Project) (grid : Grid) (standing : Standing) (row : Record) (facts : Facts)
+    → AreStarted project grid standing row facts → (k : ℕ) (tank : Tank) → slice_get project.tanks.list k ≡ Some tank
+    → inflow_in facts k ≡ inflow_of_tank project grid row k
+inflow_is project grid standing row facts started k tank at =
     ap (λ (inflows : List Interval). slice_index_or inflows k nowhere) started.inflows
-    ∙ placed (λ k (tank : Tank). inflow_of_tank network grid row k) 0 k network.tanks.list nowhere tank at
-    ∙ ap (inflow_of_tank network grid row) (let same : 0 + k ≡ k = omega arith in same)
+    ∙ placed (λ k (tank : Tank). inflow_of_tank project grid row k) 0 k project.tanks.list nowhere tank at
+    ∙ ap (inflow_of_tank project grid row) (let same : 0 + k ≡ k = omega arith in same)
 
 -- the first second of a watched level is that of its tank's stocks and inflow
-pub reached_first : (test : ReachTest) (network : Project) (facts : Facts) (cap : ℕ) (watch : Watch) (second : ℕ)
+pub reached_first : (test : ReachTest) (project : Project) (facts : Facts) (cap : ℕ) (watch : Watch) (second : ℕ)
     (tank : Tank)
     (stocks : Stocks) (inflow : Interval)
-    → slice_get network.tanks.list watch.tank ≡ Some tank → stocks ≡ stocks_in facts watch.tank
+    → slice_get project.tanks.list watch.tank ≡ Some tank → stocks ≡ stocks_in facts watch.tank
     → inflow ≡ inflow_in facts watch.tank
-    → IsFirstSecond (test (walls_of network tank) tank stocks inflow watch.target watch.rising) cap second
-    → IsReachedFirst test network facts cap watch second
-reached_first test network facts cap watch second tank stocks inflow at are is first = λ grid standing row started.
-    let there = are ∙ stocks_are network grid standing row facts started watch.tank in
-    let flow = is ∙ inflow_is network grid standing row facts started watch.tank tank at in
-    one_watched test network grid standing row cap watch tank second at
-    (subst (λ (s : Stocks). IsFirstSecond (test (walls_of network tank) tank s
-    (inflow_of_tank network grid row watch.tank) watch.target watch.rising) cap second) there
+    → IsFirstSecond (test (walls_of project tank) tank stocks inflow watch.target watch.rising) cap second
+    → IsReachedFirst test project facts cap watch second
+reached_first test project facts cap watch second tank stocks inflow at are is first = λ grid standing row started.
+    let there = are ∙ stocks_are project grid standing row facts started watch.tank in
+    let flow = is ∙ inflow_is project grid standing row facts started watch.tank tank at in
+    one_watched test project grid standing row cap watch tank second at
+    (subst (λ (s : Stocks). IsFirstSecond (test (walls_of project tank) tank s
+    (inflow_of_tank project grid row watch.tank) watch.target watch.rising) cap second) there
     (subst (λ (q : Interval). IsFirstSecond (test
-    (walls_of network tank) tank stocks q watch.target watch.rising) cap second) flow first))
+    (walls_of project tank) tank stocks q watch.target watch.rising) cap second) flow first))
 
 -- ---- the same levels in another order
 
-pub reordered : (test : ReachTest) (network : Project) (grid : Grid) (standing : Standing) (row : Record) (cap : ℕ)
+pub reordered : (test : ReachTest) (project : Project) (grid : Grid) (standing : Standing) (row : Record) (cap : ℕ)
     (some others : List Watch) (second : ℕ) → ((w : Watch) → Contains some w → Contains others w)
     → ((w : Watch) → Contains others w → Contains some w)
-    → IsFirstAmong test network grid standing row cap some second
-    → IsFirstAmong test network grid standing row cap others second
-reordered test network grid standing row cap some others second there back among = record {
+    → IsFirstAmong test project grid standing row cap some second
+    → IsFirstAmong test project grid standing row cap others second
+reordered test project grid standing row cap some others second there back among = record {
   within = among.within;
   reached = elim among.reached [
     | inl at ↦ inl at
@@ -107,12 +98,12 @@ reordered test network grid standing row cap some others second there back among
   none_before = λ w c s some passes. among.none_before w (back w c) s some passes;
 }
 
-pub one_behind : (test : ReachTest) (network : Project) (facts : Facts) (cap : ℕ) (watch : Watch)
+pub one_behind : (test : ReachTest) (project : Project) (facts : Facts) (cap : ℕ) (watch : Watch)
     (watched : List Watch) (f e : ℕ)
-    → IsReachedFirst test network facts cap watch f → IsReachedAmong test network facts cap watched e
-    → IsReachedAmong test network facts cap (watched ++ watch ∷ []) (min f e)
-one_behind test network facts cap watch watched f e first among = λ grid standing row started.
-    reordered test network grid standing row cap (watch ∷ watched) (watched ++ watch ∷ []) (min f e)
+    → IsReachedFirst test project facts cap watch f → IsReachedAmong test project facts cap watched e
+    → IsReachedAmong test project facts cap (watched ++ watch ∷ []) (min f e)
+one_behind test project facts cap watch watched f e first among = λ grid standing row started.
+    reordered test project grid standing row cap (watch ∷ watched) (watched ++ watch ∷ []) (min f e)
     (λ w c. elim (contains-cons Watch w watch watched c) [
       | inl is ↦ subst (λ (v : Watch). Contains (watched ++ watch ∷ []) v) is (Contains-push watched watch)
       | inr later ↦ Contains-append_left watched (watch ∷ []) w later
@@ -121,5 +112,5 @@ one_behind test network facts cap watch watched f e first among = λ grid standi
       | inl before ↦ contains-later Watch w watch watched before
       | inr is ↦ subst (λ (v : Watch). Contains (watch ∷ watched) v) is (contains-here Watch watch watched)
     ])
-    (one_more test network grid standing row cap watch watched e f (first grid standing row started)
+    (one_more test project grid standing row cap watch watched e f (first grid standing row started)
     (among grid standing row started))

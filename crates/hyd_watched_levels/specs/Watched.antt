@@ -20,25 +20,25 @@ abbrev pub watch_for : Here → Watch
 watch_for watch = record { tank = watch.tank; target = watch.target; rising = watch.rising }
 
 -- the tank is there, and the level in range
-pub record IsWatch (network : Project) (watch : Here) : Type 0 where
-  pub tank : watch.tank < length network.tanks.list
+pub record IsWatch (project : Project) (watch : Here) : Type 0 where
+  pub tank : watch.tank < length project.tanks.list
   pub target : unsigned_abs watch.target ≤ 2 * 10 ^ 17
 
 -- whatever standing and record the facts are of, this is the first second at which a watched level passes a test
 abbrev pub IsReachedFirst : ReachTest → Project → Facts → ℕ → Watch → ℕ → Type 0
-IsReachedFirst test network facts cap watch second = (grid : Grid) (standing : Standing) (row : Record)
-    → AreStarted network grid standing row facts
-    → IsFirstSecond (watch_passes test network grid standing row watch) cap second
+IsReachedFirst test project facts cap watch second = (grid : Grid) (standing : Standing) (row : Record)
+    → AreStarted project grid standing row facts
+    → IsFirstSecond (watch_passes test project grid standing row watch) cap second
 
 -- and this the first second at which one of several does
 abbrev pub IsReachedAmong : ReachTest → Project → Facts → ℕ → List Watch → ℕ → Type 0
-IsReachedAmong test network facts cap watched second = (grid : Grid) (standing : Standing) (row : Record)
-    → AreStarted network grid standing row facts → IsFirstAmong test network grid standing row cap watched second
+IsReachedAmong test project facts cap watched second = (grid : Grid) (standing : Standing) (row : Record)
+    → AreStarted project grid standing row facts → IsFirstAmong test project grid standing row cap watched second
 
 -- the first seconds at which one of several watched levels may, and must, have been reached
-pub record AreEnds (network : Project) (facts : Facts) (cap : ℕ) (watched : List Watch) (ends : Ends) : Type 0 where
-  pub earliest : IsReachedAmong may_reach network facts cap watched ends.earliest
-  pub latest : IsReachedAmong must_reach network facts cap watched ends.latest
+pub record AreEnds (project : Project) (facts : Facts) (cap : ℕ) (watched : List Watch) (ends : Ends) : Type 0 where
+  pub earliest : IsReachedAmong may_reach project facts cap watched ends.earliest
+  pub latest : IsReachedAmong must_reach project facts cap watched ends.latest
   -- the earliest isn't after the cap, and is a second or more where the cap is
   pub within : ends.earliest ≤ cap
   pub some : 0 < cap → 0 < ends.earliest

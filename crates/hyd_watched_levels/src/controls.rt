@@ -6,9 +6,9 @@ ghost use Rattle.std.specs.Option.{option_map};
 ghost use Rattle.hyd_net.specs.Sound.{Sound};
 ghost use Rattle.hyd_net.specs.ControlsAndRules.{IsControl};
 ghost use Rattle.hyd_spec.specs.Lists.{present};
+ghost use Rattle.hyd_spec_certificates.specs.Spans.{levels_of};
 ghost use Rattle.hyd_spec_certificates.specs.ThreeValuedLogic.{is_yes};
 ghost use Rattle.hyd_spec_certificates.specs.Decided as decided;
-ghost use Rattle.hyd_period_facts.specs.FactsOfPeriod.{levels_of};
 ghost use Rattle.hyd_watched_levels.specs.FactsBeforeEnd.{HaveTanks};
 ghost use Rattle.hyd_watched_levels.specs.Watched.{IsWatch, AreEnds, watch_for};
 

@@ -3,9 +3,9 @@
 
 ghost use Rattle.std.specs.Prelude.{◌≡◌, ◌<◌, length, map, slice_index_or};
 ghost use Rattle.std.specs.List.{All};
+ghost use Rattle.hyd_spec_certificates.specs.Spans.{flows_of, levels_of};
 ghost use Rattle.hyd_spec_certificates.specs.Decided.{nowhere};
-ghost use Rattle.hyd_tank.specs.StockIntervals.{stocks_of, inflows_of, IsInflow};
-ghost use Rattle.hyd_period_facts.specs.FactsOfPeriod.{levels_of};
+ghost use Rattle.hyd_tank.specs.StockIntervals.{stocks_of, IsInflow};
 ghost use Rattle.hyd_watched_levels.specs.FactsBeforeEnd.{stocks_in, inflow_in};
 
 use hyd_num::Span;
@@ -37,7 +37,7 @@ pub fn stock_at(facts: &Facts, tank: u32) -> Stock
 pub fn inflow_at(facts: &Facts, tank: u32) -> Span
     requires in_range { tank < length facts.now.inflows.list }
     requires small { All IsInflow facts.now.inflows.list }
-    ensures value { inflows_of result ≡ inflow_in facts.now tank }
+    ensures value { flows_of result ≡ inflow_in facts.now tank }
     ensures small { IsInflow result }
 {
     facts.inflows.as_slice()[tank as usize]

@@ -4,11 +4,11 @@ use Rattle.hyd_theorems_on_checks.proofs.RunsByRecords.{one_by_records, next_val
 use Rattle.hyd_theorems_on_checks.proofs.runs.Goals as goal
 
 pub returns-clause-one : goal.returns-clause-one
-returns-clause-one c = λ network a b last other x y rows.
-    let same = one_by_records network (initial_standing network) a b last other x y rows in
-    (same, one_left network (initial_standing network) a b last other x y same)
+returns-clause-one c = λ project a b last other x y rows.
+    let same = one_by_records project (initial_standing project) a b last other x y rows in
+    (same, one_left project (initial_standing project) a b last other x y same)
 
 pub returns-clause-next : goal.returns-clause-next
-returns-clause-next c = λ network a b row rows last other x y e.
-    let is = next_valid network (initial_standing network) a b row rows last other x y e in
+returns-clause-next c = λ project a b row rows last other x y e.
+    let is = next_valid project (initial_standing project) a b row rows last other x y e in
     (is.grid, is.next, is.valid)

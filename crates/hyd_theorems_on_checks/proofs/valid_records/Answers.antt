@@ -9,5 +9,5 @@ pub returns-clause-certificate : goal.returns-clause-certificate
 returns-clause-certificate c = certificate_of
 
 pub returns-clause-never_refused : goal.returns-clause-never_refused
-returns-clause-never_refused c = λ network sound text printed rows last valid certificate refusal.
-    never_refused network text printed (certificate_of network sound text rows last valid certificate) refusal
+returns-clause-never_refused c = λ project sound text printed rows last valid certificate refusal.
+    never_refused project text printed (certificate_of project sound text rows last valid certificate) refusal

@@ -3,6 +3,6 @@ use Rattle.hyd_theorems_on_nesting.proofs.Refining.{leaves_so}
 use Rattle.hyd_theorems_on_nesting.proofs.decisions.Goals as goal
 
 pub returns : goal.returns
-returns c = λ network sound standing grid outer inner nested seconds links leaves.
-    let e = earliest_is network grid standing inner sound.times.hydraulic in
-    leaves_so network sound standing grid outer inner nested seconds e.0 links e.1 leaves
+returns c = λ project sound standing grid outer inner nested seconds links leaves.
+    let e = earliest_is project grid standing inner sound.times.hydraulic in
+    leaves_so project sound standing grid outer inner nested seconds e.0 links e.1 leaves

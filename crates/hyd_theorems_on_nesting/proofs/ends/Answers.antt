@@ -3,15 +3,15 @@ use Rattle.hyd_theorems_on_nesting.proofs.Ending.{some_end}
 use Rattle.hyd_theorems_on_nesting.proofs.ends.Goals as goal
 
 pub returns-clause-lengths : goal.returns-clause-lengths
-returns-clause-lengths c = λ network sound time. clock_length_is network time sound.times.hydraulic
+returns-clause-lengths c = λ project sound time. clock_length_is project time sound.times.hydraulic
 
 pub returns-clause-earliest : goal.returns-clause-earliest
 returns-clause-earliest c =
-    λ network sound grid standing row. earliest_is network grid standing row sound.times.hydraulic
+    λ project sound grid standing row. earliest_is project grid standing row sound.times.hydraulic
 
 pub returns-clause-latest : goal.returns-clause-latest
-returns-clause-latest c = λ network sound grid standing row. latest_is network grid standing row sound.times.hydraulic
+returns-clause-latest c = λ project sound grid standing row. latest_is project grid standing row sound.times.hydraulic
 
 pub returns-clause-some : goal.returns-clause-some
 returns-clause-some c =
-    λ network sound grid standing row other. some_end network grid standing row sound.times.hydraulic other
+    λ project sound grid standing row other. some_end project grid standing row sound.times.hydraulic other

@@ -3,7 +3,7 @@ use Rattle.hyd_spec_lines.specs.Lines.{Row, row_of}
 use Rattle.hyd_spec_lines.specs.declared.line.Line.{Line}
 use Rattle.hyd_spec_lines.specs.declared.section.Section.TheVariants.{Junctions}
 use Rattle.hyd_spec_input.specs.Project.{IsClause}
-use Rattle.hyd_spec_input.specs.RuleRows.{begins_with, line_words}
+use Rattle.hyd_spec_input.specs.RuleRows.{begins_with, words_of_rule_line}
 use Rattle.hyd_text_rows.specs.FirstWrongRow.{rows_at}
 use Rattle.hyd_text_rows.proofs.FoundLemmas.{row_at}
 use Rattle.hyd_build_controls.proofs.RightParts.{names_numbered, read_as_clause}
@@ -19,9 +19,9 @@ returns-in_default c =
     let lines = c.args.lines.now in
     let here = row_of text (get_or lines c.args.place nothing) in
     let right = c.requires.right here (row_at text lines c.args.place nothing c.requires.within) in
-    let none : line_words false here.words ≡ None =
+    let none : words_of_rule_line false here.words ≡ None =
     read_as_clause (begins_with here.words) here.words right.begins right.by_itself in
-    let wrong : line_words false here.words ≡ Some c.in_default.field-0 = c.in_default.ensures in
+    let wrong : words_of_rule_line false here.words ≡ Some c.in_default.field-0 = c.in_default.ensures in
     absurd (let x : ⊥ = cc in x)
 
 pub returns-in_default-clause_said : goal.returns-in_default-clause_said

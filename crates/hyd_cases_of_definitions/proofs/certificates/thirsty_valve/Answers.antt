@@ -2,8 +2,8 @@ use Rattle.std.proofs.Common.{refl, ◌≡◌, ◌≤ℤ◌, ◌-ℤ◌, ℤ, po
 use Rattle.std.proofs.lemmas.Int.{ints}
 use Rattle.std.proofs.lemmas.List.Elements.{All-nil, All-cons, All-head}
 use Rattle.hyd_num.specs.BinaryNumbers.{numerator, denominator}
+use Rattle.hyd_num.proofs.Ends.{denominator_positive}
 use Rattle.hyd_lemmas.proofs.Each.{each_one}
-use Rattle.hyd_lemmas.proofs.Enclosing.{denominator_above}
 use Rattle.hyd_spec.specs.ProgramTypes.{Capacity}
 use Rattle.hyd_spec_certificates.specs.declared.Problem.TheVariants.{Main}
 use Rattle.hyd_spec_certificates.specs.declared.Side.TheVariants.{Upper, Lower}
@@ -38,7 +38,7 @@ low_rises : (capacity : Capacity) (d e : ℤ) → d ≤ℤ e → quadratic_low c
 low_rises capacity d e le =
     rw (low_is capacity d, low_is capacity e)
     (low-rises (numerator capacity.lo) (denominator capacity.lo) (numerator capacity.hi) (denominator capacity.hi)
-    (denominator_above capacity.lo) (denominator_above capacity.hi) d e le)
+    (denominator_positive capacity.lo) (denominator_positive capacity.hi) d e le)
 
 -- what it carries at the greatest that the box allows
 greatest : (capacity : Capacity) → IsValve capacity → quadratic_low capacity (pos 1001000000000000000)

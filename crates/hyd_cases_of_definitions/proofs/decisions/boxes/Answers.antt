@@ -5,4 +5,4 @@ pub returns-clause-flows : goal.returns-clause-flows
 returns-clause-flows c = refl
 
 pub returns-clause-inflow : goal.returns-clause-inflow
-returns-clause-inflow c = λ network junctions reservoirs. rw (junctions, reservoirs) refl
+returns-clause-inflow c = λ project junctions reservoirs. rw (junctions, reservoirs) refl

@@ -5,4 +5,4 @@ pub returns-clause-outflow : goal.returns-clause-outflow
 returns-clause-outflow c = refl
 
 pub returns-clause-inflow : goal.returns-clause-inflow
-returns-clause-inflow c = λ network links junctions reservoirs. rw (links, junctions, reservoirs) refl
+returns-clause-inflow c = λ project links junctions reservoirs. rw (links, junctions, reservoirs) refl

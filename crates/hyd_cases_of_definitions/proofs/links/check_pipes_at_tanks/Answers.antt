@@ -5,7 +5,7 @@ use Rattle.hyd_theorems_on_definitions.proofs.Roots.{root_down-quick, quick_root
 
 pub returns-clause-low : goal.returns-clause-low
 unfolding root_up quick_root
-returns-clause-low c = λ network capacity unit junctions reservoirs tanks ends.
+returns-clause-low c = λ project capacity unit junctions reservoirs tanks ends.
     rw (
       junctions,
       reservoirs,
@@ -20,7 +20,7 @@ returns-clause-low c = λ network capacity unit junctions reservoirs tanks ends.
 
 pub returns-clause-high : goal.returns-clause-high
 unfolding root_up quick_root
-returns-clause-high c = λ network capacity unit junctions reservoirs tanks ends.
+returns-clause-high c = λ project capacity unit junctions reservoirs tanks ends.
     rw (
       junctions,
       reservoirs,

@@ -5,7 +5,7 @@ use Rattle.hyd_theorems_on_definitions.proofs.Roots.{root_down-quick, quick_root
 
 pub returns-clause-low : goal.returns-clause-low
 unfolding root_up quick_root
-returns-clause-low c = λ network capacity shutoff head pattern unit junctions reservoirs tanks ends is.
+returns-clause-low c = λ project capacity shutoff head pattern unit junctions reservoirs tanks ends is.
     rw (
       junctions,
       reservoirs,
@@ -22,7 +22,7 @@ returns-clause-low c = λ network capacity shutoff head pattern unit junctions r
 
 pub returns-clause-high : goal.returns-clause-high
 unfolding root_up quick_root
-returns-clause-high c = λ network capacity shutoff head pattern unit junctions reservoirs tanks ends is.
+returns-clause-high c = λ project capacity shutoff head pattern unit junctions reservoirs tanks ends is.
     rw (
       junctions,
       reservoirs,

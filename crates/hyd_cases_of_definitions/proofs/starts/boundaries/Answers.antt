@@ -2,4 +2,4 @@ use Rattle.std.proofs.Common.{refl}
 use Rattle.hyd_cases_of_definitions.proofs.starts.boundaries.Goals as goal
 
 pub returns : goal.returns
-returns c = λ network step start. rw (start, step) refl
+returns c = λ project step start. rw (start, step) refl

@@ -2,7 +2,7 @@ use Rattle.std.proofs.Common.{refl}
 use Rattle.hyd_cases_of_definitions.proofs.statuses_events_tank_laws_and_clauses.tank_laws.Goals as goal
 
 pub returns-clause-out_of_full_low : goal.returns-clause-out_of_full_low
-returns-clause-out_of_full_low c = λ network junctions reservoirs tanks. rw (
+returns-clause-out_of_full_low c = λ project junctions reservoirs tanks. rw (
   junctions,
   reservoirs,
   tanks.tanks_are,
@@ -10,7 +10,7 @@ returns-clause-out_of_full_low c = λ network junctions reservoirs tanks. rw (
 ) refl
 
 pub returns-clause-out_of_full_high : goal.returns-clause-out_of_full_high
-returns-clause-out_of_full_high c = λ network junctions reservoirs tanks. rw (
+returns-clause-out_of_full_high c = λ project junctions reservoirs tanks. rw (
   junctions,
   reservoirs,
   tanks.tanks_are,
@@ -18,7 +18,7 @@ returns-clause-out_of_full_high c = λ network junctions reservoirs tanks. rw (
 ) refl
 
 pub returns-clause-into_full_low : goal.returns-clause-into_full_low
-returns-clause-into_full_low c = λ network junctions reservoirs tanks. rw (
+returns-clause-into_full_low c = λ project junctions reservoirs tanks. rw (
   junctions,
   reservoirs,
   tanks.tanks_are,
@@ -26,7 +26,7 @@ returns-clause-into_full_low c = λ network junctions reservoirs tanks. rw (
 ) refl
 
 pub returns-clause-into_full_high : goal.returns-clause-into_full_high
-returns-clause-into_full_high c = λ network junctions reservoirs tanks. rw (
+returns-clause-into_full_high c = λ project junctions reservoirs tanks. rw (
   junctions,
   reservoirs,
   tanks.tanks_are,
@@ -34,19 +34,19 @@ returns-clause-into_full_high c = λ network junctions reservoirs tanks. rw (
 ) refl
 
 pub returns-clause-out_of_empty_low : goal.returns-clause-out_of_empty_low
-returns-clause-out_of_empty_low c = λ network junctions reservoirs. rw (junctions, reservoirs) refl
+returns-clause-out_of_empty_low c = λ project junctions reservoirs. rw (junctions, reservoirs) refl
 
 pub returns-clause-out_of_empty_high : goal.returns-clause-out_of_empty_high
-returns-clause-out_of_empty_high c = λ network junctions reservoirs. rw (junctions, reservoirs) refl
+returns-clause-out_of_empty_high c = λ project junctions reservoirs. rw (junctions, reservoirs) refl
 
 pub returns-clause-into_empty_low : goal.returns-clause-into_empty_low
-returns-clause-into_empty_low c = λ network junctions reservoirs. rw (junctions, reservoirs) refl
+returns-clause-into_empty_low c = λ project junctions reservoirs. rw (junctions, reservoirs) refl
 
 pub returns-clause-into_empty_high : goal.returns-clause-into_empty_high
-returns-clause-into_empty_high c = λ network junctions reservoirs. rw (junctions, reservoirs) refl
+returns-clause-into_empty_high c = λ project junctions reservoirs. rw (junctions, reservoirs) refl
 
 pub returns-clause-full_to_full_low : goal.returns-clause-full_to_full_low
-returns-clause-full_to_full_low c = λ network junctions reservoirs tanks. rw (
+returns-clause-full_to_full_low c = λ project junctions reservoirs tanks. rw (
   junctions,
   reservoirs,
   tanks.tanks_are,
@@ -55,7 +55,7 @@ returns-clause-full_to_full_low c = λ network junctions reservoirs tanks. rw (
 ) refl
 
 pub returns-clause-full_to_full_high : goal.returns-clause-full_to_full_high
-returns-clause-full_to_full_high c = λ network junctions reservoirs tanks. rw (
+returns-clause-full_to_full_high c = λ project junctions reservoirs tanks. rw (
   junctions,
   reservoirs,
   tanks.tanks_are,
@@ -64,7 +64,7 @@ returns-clause-full_to_full_high c = λ network junctions reservoirs tanks. rw (
 ) refl
 
 pub returns-clause-empty_to_full_low : goal.returns-clause-empty_to_full_low
-returns-clause-empty_to_full_low c = λ network junctions reservoirs tanks. rw (
+returns-clause-empty_to_full_low c = λ project junctions reservoirs tanks. rw (
   junctions,
   reservoirs,
   tanks.tanks_are,
@@ -72,7 +72,7 @@ returns-clause-empty_to_full_low c = λ network junctions reservoirs tanks. rw (
 ) refl
 
 pub returns-clause-empty_to_full_high : goal.returns-clause-empty_to_full_high
-returns-clause-empty_to_full_high c = λ network junctions reservoirs tanks. rw (
+returns-clause-empty_to_full_high c = λ project junctions reservoirs tanks. rw (
   junctions,
   reservoirs,
   tanks.tanks_are,
@@ -80,7 +80,7 @@ returns-clause-empty_to_full_high c = λ network junctions reservoirs tanks. rw 
 ) refl
 
 pub returns-clause-full_to_empty_low : goal.returns-clause-full_to_empty_low
-returns-clause-full_to_empty_low c = λ network junctions reservoirs tanks. rw (
+returns-clause-full_to_empty_low c = λ project junctions reservoirs tanks. rw (
   junctions,
   reservoirs,
   tanks.tanks_are,
@@ -88,7 +88,7 @@ returns-clause-full_to_empty_low c = λ network junctions reservoirs tanks. rw (
 ) refl
 
 pub returns-clause-full_to_empty_high : goal.returns-clause-full_to_empty_high
-returns-clause-full_to_empty_high c = λ network junctions reservoirs tanks. rw (
+returns-clause-full_to_empty_high c = λ project junctions reservoirs tanks. rw (
   junctions,
   reservoirs,
   tanks.tanks_are,
@@ -96,13 +96,13 @@ returns-clause-full_to_empty_high c = λ network junctions reservoirs tanks. rw 
 ) refl
 
 pub returns-clause-between_low : goal.returns-clause-between_low
-returns-clause-between_low c = λ network junctions reservoirs. rw (junctions, reservoirs) refl
+returns-clause-between_low c = λ project junctions reservoirs. rw (junctions, reservoirs) refl
 
 pub returns-clause-between_high : goal.returns-clause-between_high
-returns-clause-between_high c = λ network junctions reservoirs. rw (junctions, reservoirs) refl
+returns-clause-between_high c = λ project junctions reservoirs. rw (junctions, reservoirs) refl
 
 pub returns-clause-into_overflowing_low : goal.returns-clause-into_overflowing_low
-returns-clause-into_overflowing_low c = λ network junctions reservoirs tanks. rw (
+returns-clause-into_overflowing_low c = λ project junctions reservoirs tanks. rw (
   junctions,
   reservoirs,
   tanks.tanks_are,
@@ -110,7 +110,7 @@ returns-clause-into_overflowing_low c = λ network junctions reservoirs tanks. r
 ) refl
 
 pub returns-clause-into_overflowing_high : goal.returns-clause-into_overflowing_high
-returns-clause-into_overflowing_high c = λ network junctions reservoirs tanks. rw (
+returns-clause-into_overflowing_high c = λ project junctions reservoirs tanks. rw (
   junctions,
   reservoirs,
   tanks.tanks_are,
@@ -118,7 +118,7 @@ returns-clause-into_overflowing_high c = λ network junctions reservoirs tanks. 
 ) refl
 
 pub returns-clause-overflowing_to_full_low : goal.returns-clause-overflowing_to_full_low
-returns-clause-overflowing_to_full_low c = λ network junctions reservoirs tanks. rw (
+returns-clause-overflowing_to_full_low c = λ project junctions reservoirs tanks. rw (
   junctions,
   reservoirs,
   tanks.tanks_are,

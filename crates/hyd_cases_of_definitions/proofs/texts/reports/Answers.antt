@@ -12,4 +12,4 @@ returns-clause-partial c = refl
 
 pub returns-clause-report : goal.returns-clause-report
 unfolding digits
-returns-clause-report c = λ network. refl
+returns-clause-report c = λ project. refl

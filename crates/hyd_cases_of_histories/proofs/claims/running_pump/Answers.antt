@@ -1,7 +1,7 @@
 use Rattle.std.proofs.Common.{refl}
 use Rattle.hyd_cases_of_histories.specs.OneLink.{link_of}
 use Rattle.hyd_cases_of_histories.specs.Spurs.{pump_spur}
-use Rattle.hyd_cases_of_histories.proofs.Single.{less}
+use Rattle.hyd_lemmas.proofs.Trials.{lt-yes}
 use Rattle.hyd_cases_of_histories.proofs.claims.running_pump.Goals as goal
 
 pub returns-clause-holds : goal.returns-clause-holds
@@ -11,5 +11,5 @@ returns-clause-holds c = record {
   state = pump_spur.start;
   is_state = refl;
   flow_lies = record { at_least = refl; at_most = refl };
-  status_holds = less _ _ refl;
+  status_holds = lt-yes _ _ refl;
 }

@@ -8,25 +8,25 @@ use Rattle.hyd_cases_of_runs.specs.TownPeriods.{standing_at_start}
 use Rattle.hyd_cases_of_runs.specs.Clauses.{town_truth}
 
 pub returns-clause-less : goal.returns-clause-less
-returns-clause-less c = λ network town. ap (λ network. map (λ seconds. town_truth network standing_at_start seconds
+returns-clause-less c = λ project town. ap (λ project. map (λ seconds. town_truth project standing_at_start seconds
     Clock Less (amount (pos 10))) (3599 ∷ 3600 ∷ 3609 ∷ 3610 ∷ 3969 ∷ 3970 ∷ [])) (town_is town)
 
 pub returns-clause-at_most : goal.returns-clause-at_most
-returns-clause-at_most c = λ network town. ap (λ network. map (λ seconds. town_truth network standing_at_start seconds
+returns-clause-at_most c = λ project town. ap (λ project. map (λ seconds. town_truth project standing_at_start seconds
     Clock NotMore (amount (pos 10))) (3599 ∷ 3600 ∷ 3609 ∷ 3610 ∷ 3969 ∷ 3970 ∷ [])) (town_is town)
 
 pub returns-clause-more : goal.returns-clause-more
-returns-clause-more c = λ network town. ap (λ network. map (λ seconds. town_truth network standing_at_start seconds
+returns-clause-more c = λ project town. ap (λ project. map (λ seconds. town_truth project standing_at_start seconds
     Clock More (amount (pos 10))) (3599 ∷ 3600 ∷ 3609 ∷ 3610 ∷ 3969 ∷ 3970 ∷ [])) (town_is town)
 
 pub returns-clause-at_least : goal.returns-clause-at_least
-returns-clause-at_least c = λ network town. ap (λ network. map (λ seconds. town_truth network standing_at_start
+returns-clause-at_least c = λ project town. ap (λ project. map (λ seconds. town_truth project standing_at_start
     seconds Clock NotLess (amount (pos 10))) (3599 ∷ 3600 ∷ 3609 ∷ 3610 ∷ 3969 ∷ 3970 ∷ [])) (town_is town)
 
 pub returns-clause-equal : goal.returns-clause-equal
-returns-clause-equal c = λ network town. ap (λ network. map (λ seconds. town_truth network standing_at_start seconds
+returns-clause-equal c = λ project town. ap (λ project. map (λ seconds. town_truth project standing_at_start seconds
     Clock Equal (amount (pos 10))) (3599 ∷ 3600 ∷ 3609 ∷ 3610 ∷ 3969 ∷ 3970 ∷ [])) (town_is town)
 
 pub returns-clause-unequal : goal.returns-clause-unequal
-returns-clause-unequal c = λ network town. ap (λ network. map (λ seconds. town_truth network standing_at_start seconds
+returns-clause-unequal c = λ project town. ap (λ project. map (λ seconds. town_truth project standing_at_start seconds
     Clock Unequal (amount (pos 10))) (3599 ∷ 3600 ∷ 3609 ∷ 3610 ∷ 3969 ∷ 3970 ∷ [])) (town_is town)

@@ -8,17 +8,17 @@ use Rattle.hyd_cases_of_runs.specs.TownPeriods.{standing_at_start}
 use Rattle.hyd_cases_of_runs.specs.Clauses.{town_truth}
 
 pub returns-clause-less : goal.returns-clause-less
-returns-clause-less c = λ network town. ap (λ network. map (λ seconds. town_truth network standing_at_start seconds
+returns-clause-less c = λ project town. ap (λ project. map (λ seconds. town_truth project standing_at_start seconds
     Clock Less (amount (pos 0))) (3599 ∷ 3600 ∷ 3959 ∷ 3960 ∷ 90000 ∷ 90360 ∷ [])) (town_is town)
 
 pub returns-clause-at_most : goal.returns-clause-at_most
-returns-clause-at_most c = λ network town. ap (λ network. map (λ seconds. town_truth network standing_at_start seconds
+returns-clause-at_most c = λ project town. ap (λ project. map (λ seconds. town_truth project standing_at_start seconds
     Clock NotMore (amount (pos 0))) (3599 ∷ 3600 ∷ 3959 ∷ 3960 ∷ 90000 ∷ 90360 ∷ [])) (town_is town)
 
 pub returns-clause-equal : goal.returns-clause-equal
-returns-clause-equal c = λ network town. ap (λ network. map (λ seconds. town_truth network standing_at_start seconds
+returns-clause-equal c = λ project town. ap (λ project. map (λ seconds. town_truth project standing_at_start seconds
     Clock Equal (amount (pos 0))) (3599 ∷ 3600 ∷ 3959 ∷ 3960 ∷ 90000 ∷ 90360 ∷ [])) (town_is town)
 
 pub returns-clause-unequal : goal.returns-clause-unequal
-returns-clause-unequal c = λ network town. ap (λ network. map (λ seconds. town_truth network standing_at_start seconds
+returns-clause-unequal c = λ project town. ap (λ project. map (λ seconds. town_truth project standing_at_start seconds
     Clock Unequal (amount (pos 0))) (3599 ∷ 3600 ∷ 3959 ∷ 3960 ∷ 90000 ∷ 90360 ∷ [])) (town_is town)

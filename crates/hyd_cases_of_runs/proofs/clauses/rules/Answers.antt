@@ -7,8 +7,8 @@ use Rattle.hyd_cases_of_runs.specs.Hamlet.{grid_at_start}
 use Rattle.hyd_cases_of_runs.specs.Clauses.{hamlet_row, hamlet_standing}
 
 pub returns-clause-high : goal.returns-clause-high
-returns-clause-high c = λ network hamlet. ap (λ network. map
-    (λ level. rule_truths network grid_at_start (hamlet_standing level) (hamlet_row (record {
+returns-clause-high c = λ project hamlet. ap (λ project. map
+    (λ level. rule_truths project grid_at_start (hamlet_standing level) (hamlet_row (record {
       lo = pos 396240000000001;
       hi = pos 396240000000002;
     })) 360)
@@ -19,8 +19,8 @@ returns-clause-high c = λ network hamlet. ap (λ network. map
     ∷ record { lo = pos 30170045602735; hi = pos 30170046314787 } ∷ [])) (hamlet_is hamlet)
 
 pub returns-clause-edge : goal.returns-clause-edge
-returns-clause-edge c = λ network hamlet. ap (λ network. map
-    (λ level. rule_truths network grid_at_start (hamlet_standing level) (hamlet_row (record {
+returns-clause-edge c = λ project hamlet. ap (λ project. map
+    (λ level. rule_truths project grid_at_start (hamlet_standing level) (hamlet_row (record {
       lo = pos 396240000000000;
       hi = pos 396240000000001;
     })) 360)
@@ -31,7 +31,7 @@ returns-clause-edge c = λ network hamlet. ap (λ network. map
     ∷ record { lo = pos 30170045602735; hi = pos 30170046314787 } ∷ [])) (hamlet_is hamlet)
 
 pub returns-clause-low : goal.returns-clause-low
-returns-clause-low c = λ network hamlet. ap (λ network. map (λ level. rule_truths network grid_at_start
+returns-clause-low c = λ project hamlet. ap (λ project. map (λ level. rule_truths project grid_at_start
     (hamlet_standing level) (hamlet_row (record {
       lo = pos 395543595661204;
       hi = pos 395543595661204;

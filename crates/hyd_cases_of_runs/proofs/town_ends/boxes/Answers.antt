@@ -8,12 +8,12 @@ pub returns-clause-flows_at_two : goal.returns-clause-flows_at_two
 returns-clause-flows_at_two c = refl
 
 pub returns-clause-inflows_at_two : goal.returns-clause-inflows_at_two
-returns-clause-inflows_at_two c = λ network town. ap (λ network. inflow_boxes network grid_at_two row_at_two)
+returns-clause-inflows_at_two c = λ project town. ap (λ project. inflow_boxes project grid_at_two row_at_two)
     (town_is town)
 
 pub returns-clause-flows_when_full : goal.returns-clause-flows_when_full
 returns-clause-flows_when_full c = refl
 
 pub returns-clause-inflows_when_full : goal.returns-clause-inflows_when_full
-returns-clause-inflows_when_full c = λ network town. ap (λ network. inflow_boxes network grid_when_full row_when_full)
+returns-clause-inflows_when_full c = λ project town. ap (λ project. inflow_boxes project grid_when_full row_when_full)
     (town_is town)

@@ -10,18 +10,18 @@ use Rattle.hyd_cases_of_runs.specs.TownPeriods.{standing_at_two, standing_when_f
 use Rattle.hyd_cases_of_runs.specs.TownPeriods.{row_at_two, row_when_full}
 
 pub returns-clause-at_two : goal.returns-clause-at_two
-returns-clause-at_two c = λ network town. ap (λ network. map (event_line 7313)
-    (events_of network grid_at_two standing_at_two row_at_two)) (town_is town)
+returns-clause-at_two c = λ project town. ap (λ project. map (event_line 7313)
+    (events_of project grid_at_two standing_at_two row_at_two)) (town_is town)
 
 pub returns-clause-when_full : goal.returns-clause-when_full
-returns-clause-when_full c = λ network town. ap (λ network. map (event_line 8640)
-    (events_of network grid_when_full standing_when_full row_when_full)) (town_is town)
+returns-clause-when_full c = λ project town. ap (λ project. map (event_line 8640)
+    (events_of project grid_when_full standing_when_full row_when_full)) (town_is town)
 
 pub returns-clause-before : goal.returns-clause-before
-returns-clause-before c = λ network town. ap (λ network. map (event_line 7312)
-    (events_of network grid_at_two standing_at_two (record row_at_two { length = 112 }))) (town_is town)
+returns-clause-before c = λ project town. ap (λ project. map (event_line 7312)
+    (events_of project grid_at_two standing_at_two (record row_at_two { length = 112 }))) (town_is town)
 
 pub returns-clause-text_at_two : goal.returns-clause-text_at_two
 unfolding digits fixed_point
-returns-clause-text_at_two c = λ network town. ap (λ network. map (line_text network)
-    (map (event_line 7313) (events_of network grid_at_two standing_at_two row_at_two))) (town_is town)
+returns-clause-text_at_two c = λ project town. ap (λ project. map (line_text project)
+    (map (event_line 7313) (events_of project grid_at_two standing_at_two row_at_two))) (town_is town)

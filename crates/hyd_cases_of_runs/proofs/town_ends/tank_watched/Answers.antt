@@ -5,13 +5,13 @@ use Rattle.hyd_spec_certificates.specs.Decided.{tank_watches}
 use Rattle.hyd_cases_of_runs.specs.TownPeriods.{standing_at_start, standing_at_two, standing_when_full}
 
 pub returns-clause-at_start : goal.returns-clause-at_start
-returns-clause-at_start c = λ network town. ap (λ network. tank_watches 0 network.tanks.list standing_at_start.tanks)
+returns-clause-at_start c = λ project town. ap (λ project. tank_watches 0 project.tanks.list standing_at_start.tanks)
     (town_is town)
 
 pub returns-clause-at_two : goal.returns-clause-at_two
-returns-clause-at_two c = λ network town. ap (λ network. tank_watches 0 network.tanks.list standing_at_two.tanks)
+returns-clause-at_two c = λ project town. ap (λ project. tank_watches 0 project.tanks.list standing_at_two.tanks)
     (town_is town)
 
 pub returns-clause-when_full : goal.returns-clause-when_full
-returns-clause-when_full c = λ network town. ap (λ network. tank_watches 0 network.tanks.list
+returns-clause-when_full c = λ project town. ap (λ project. tank_watches 0 project.tanks.list
     standing_when_full.tanks) (town_is town)

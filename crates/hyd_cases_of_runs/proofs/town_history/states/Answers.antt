@@ -7,17 +7,17 @@ use Rattle.hyd_cases_of_runs.specs.TownPeriods.{standing_at_two, standing_when_f
 use Rattle.hyd_cases_of_runs.specs.TownHistory.{period_at_two, period_when_full}
 
 pub returns-clause-tanks_at_two : goal.returns-clause-tanks_at_two
-returns-clause-tanks_at_two c = λ network town. ap (λ network. tank_states 1000 network.tanks.list
+returns-clause-tanks_at_two c = λ project town. ap (λ project. tank_states 1000 project.tanks.list
     period_at_two.levels) (town_is town)
 
 pub returns-clause-links_at_two : goal.returns-clause-links_at_two
-returns-clause-links_at_two c = λ network town. ap (λ network. started network 7200
+returns-clause-links_at_two c = λ project town. ap (λ project. started project 7200
     (acts_at 1000 period_at_two.levels) standing_at_two.commanded) (town_is town)
 
 pub returns-clause-tanks_when_full : goal.returns-clause-tanks_when_full
-returns-clause-tanks_when_full c = λ network town. ap (λ network. tank_states 1000 network.tanks.list
+returns-clause-tanks_when_full c = λ project town. ap (λ project. tank_states 1000 project.tanks.list
     period_when_full.levels) (town_is town)
 
 pub returns-clause-links_when_full : goal.returns-clause-links_when_full
-returns-clause-links_when_full c = λ network town. ap (λ network. started network 7313
+returns-clause-links_when_full c = λ project town. ap (λ project. started project 7313
     (acts_at 1000 period_when_full.levels) standing_when_full.commanded) (town_is town)

@@ -6,9 +6,9 @@ use Rattle.hyd_spec.specs.PeriodLength.{values_at}
 use Rattle.hyd_cases_of_runs.specs.TownHistory.{period_at_two, period_when_full}
 
 pub returns-clause-at_two : goal.returns-clause-at_two
-returns-clause-at_two c = λ network town. ap (λ network. map (values_at network 1000 period_at_two)
+returns-clause-at_two c = λ project town. ap (λ project. map (values_at project 1000 period_at_two)
     (7200 ∷ 7260 ∷ 7313 ∷ [])) (town_is town)
 
 pub returns-clause-when_full : goal.returns-clause-when_full
-returns-clause-when_full c = λ network town. ap (λ network. map (values_at network 1000 period_when_full)
+returns-clause-when_full c = λ project town. ap (λ project. map (values_at project 1000 period_when_full)
     (7560 ∷ 8280 ∷ 8640 ∷ 9000 ∷ [])) (town_is town)

@@ -13,14 +13,14 @@ use Rattle.hyd_cases_of_runs.specs.TownPeriods.{row_at_two, row_when_full}
 use Rattle.hyd_cases_of_runs.specs.TownReport.{lift}
 
 pub returns-clause-at_two : goal.returns-clause-at_two
-returns-clause-at_two c = λ network town. ap (λ network. map_from
-    (λ l link. status_of (is_us network) network.bends.list link.kind
-    (state_of_link (links_at network standing_at_two) l) (difference (slice_index_or grid_at_two.links l lift)
-    (heads_below grid_at_two row_at_two) (heads_above grid_at_two row_at_two))) 0 network.links.list) (town_is town)
+returns-clause-at_two c = λ project town. ap (λ project. map_from
+    (λ l link. status_of (is_us project) project.bends.list link.kind
+    (state_of_link (links_at project standing_at_two) l) (difference (slice_index_or grid_at_two.links l lift)
+    (heads_below grid_at_two row_at_two) (heads_above grid_at_two row_at_two))) 0 project.links.list) (town_is town)
 
 pub returns-clause-when_full : goal.returns-clause-when_full
-returns-clause-when_full c = λ network town. ap (λ network. map_from
-    (λ l link. status_of (is_us network) network.bends.list link.kind
-    (state_of_link (links_at network standing_when_full) l) (difference (slice_index_or grid_when_full.links l lift)
-    (heads_below grid_when_full row_when_full) (heads_above grid_when_full row_when_full))) 0 network.links.list)
+returns-clause-when_full c = λ project town. ap (λ project. map_from
+    (λ l link. status_of (is_us project) project.bends.list link.kind
+    (state_of_link (links_at project standing_when_full) l) (difference (slice_index_or grid_when_full.links l lift)
+    (heads_below grid_when_full row_when_full) (heads_above grid_when_full row_when_full))) 0 project.links.list)
     (town_is town)

@@ -11,10 +11,10 @@ use Rattle.hyd_cases_of_runs.specs.TownReport.{lines_at_two}
 
 pub returns-clause-text_state : goal.returns-clause-text_state
 unfolding digits fixed_point
-returns-clause-text_state c = λ network town. ap (λ network. map (line_text network) lines_at_two) (town_is town)
+returns-clause-text_state c = λ project town. ap (λ project. map (line_text project) lines_at_two) (town_is town)
 
 pub returns-clause-text_report : goal.returns-clause-text_report
 unfolding digits fixed_point
-returns-clause-text_report c = λ network town. ap (λ network. report_text network
-    (control_lines network standing_at_two ++ (lines_at_two ++ map (event_line 7313)
-    (events_of network grid_at_two standing_at_two row_at_two))) (done_line 1)) (town_is town)
+returns-clause-text_report c = λ project town. ap (λ project. report_text project
+    (control_lines project standing_at_two ++ (lines_at_two ++ map (event_line 7313)
+    (events_of project grid_at_two standing_at_two row_at_two))) (done_line 1)) (town_is town)

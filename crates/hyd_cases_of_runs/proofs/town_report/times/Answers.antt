@@ -5,5 +5,5 @@ use Rattle.std.specs.Prelude.{[], ◌∷◌, map}
 use Rattle.hyd_spec_reports.specs.Report.{is_report_time}
 
 pub returns : goal.returns
-returns c = λ network town. ap (λ network. map (is_report_time network) (0 ∷ 3600 ∷ 7200 ∷ 7313 ∷ 8640 ∷ 9720 ∷ 10080
+returns c = λ project town. ap (λ project. map (is_report_time project) (0 ∷ 3600 ∷ 7200 ∷ 7313 ∷ 8640 ∷ 9720 ∷ 10080
     ∷ 10800 ∷ [])) (town_is town)

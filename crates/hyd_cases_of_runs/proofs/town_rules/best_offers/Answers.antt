@@ -6,13 +6,13 @@ use Rattle.hyd_spec.specs.Rules.{offers_from, best_offer}
 use Rattle.hyd_cases_of_runs.specs.Town.{numbers}
 
 pub returns-clause-three : goal.returns-clause-three
-returns-clause-three c = λ network town. ap (λ network. map (λ link. best_offer link
-    (offers_from 0 network.rules.list (true ∷ true ∷ false ∷ false ∷ []))) numbers) (town_is town)
+returns-clause-three c = λ project town. ap (λ project. map (λ link. best_offer link
+    (offers_from 0 project.rules.list (true ∷ true ∷ false ∷ false ∷ []))) numbers) (town_is town)
 
 pub returns-clause-all : goal.returns-clause-all
-returns-clause-all c = λ network town. ap (λ network. map (λ link. best_offer link
-    (offers_from 0 network.rules.list (true ∷ true ∷ true ∷ true ∷ []))) numbers) (town_is town)
+returns-clause-all c = λ project town. ap (λ project. map (λ link. best_offer link
+    (offers_from 0 project.rules.list (true ∷ true ∷ true ∷ true ∷ []))) numbers) (town_is town)
 
 pub returns-clause-none : goal.returns-clause-none
-returns-clause-none c = λ network town. ap (λ network. map (λ link. best_offer link
-    (offers_from 0 network.rules.list (false ∷ false ∷ false ∷ false ∷ []))) numbers) (town_is town)
+returns-clause-none c = λ project town. ap (λ project. map (λ link. best_offer link
+    (offers_from 0 project.rules.list (false ∷ false ∷ false ∷ false ∷ []))) numbers) (town_is town)

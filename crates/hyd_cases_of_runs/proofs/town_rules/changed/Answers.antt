@@ -8,25 +8,25 @@ use Rattle.hyd_cases_of_runs.specs.Town.{numbers}
 use Rattle.hyd_cases_of_runs.specs.TownPeriods.{standing_when_full}
 
 pub returns-clause-three : goal.returns-clause-three
-returns-clause-three c = λ network town. ap (λ network. map (λ link. change_of network (true ∷ true ∷ false ∷ false
-    ∷ []) link (state_of_link (links_at network standing_when_full) link)) numbers) (town_is town)
+returns-clause-three c = λ project town. ap (λ project. map (λ link. change_of project (true ∷ true ∷ false ∷ false
+    ∷ []) link (state_of_link (links_at project standing_when_full) link)) numbers) (town_is town)
 
 pub returns-clause-three_in_order : goal.returns-clause-three_in_order
-returns-clause-three_in_order c = λ network town. ap (λ network. rule_changes network (true ∷ true ∷ false ∷ false
-    ∷ []) (links_at network standing_when_full)) (town_is town)
+returns-clause-three_in_order c = λ project town. ap (λ project. rule_changes project (true ∷ true ∷ false ∷ false
+    ∷ []) (links_at project standing_when_full)) (town_is town)
 
 pub returns-clause-all : goal.returns-clause-all
-returns-clause-all c = λ network town. ap (λ network. map (λ link. change_of network (true ∷ true ∷ true ∷ true ∷ [])
-    link (state_of_link (links_at network standing_when_full) link)) numbers) (town_is town)
+returns-clause-all c = λ project town. ap (λ project. map (λ link. change_of project (true ∷ true ∷ true ∷ true ∷ [])
+    link (state_of_link (links_at project standing_when_full) link)) numbers) (town_is town)
 
 pub returns-clause-all_in_order : goal.returns-clause-all_in_order
-returns-clause-all_in_order c = λ network town. ap (λ network. rule_changes network (true ∷ true ∷ true ∷ true ∷ [])
-    (links_at network standing_when_full)) (town_is town)
+returns-clause-all_in_order c = λ project town. ap (λ project. rule_changes project (true ∷ true ∷ true ∷ true ∷ [])
+    (links_at project standing_when_full)) (town_is town)
 
 pub returns-clause-none : goal.returns-clause-none
-returns-clause-none c = λ network town. ap (λ network. map (λ link. change_of network (false ∷ false ∷ false ∷ false
-    ∷ []) link (state_of_link (links_at network standing_when_full) link)) numbers) (town_is town)
+returns-clause-none c = λ project town. ap (λ project. map (λ link. change_of project (false ∷ false ∷ false ∷ false
+    ∷ []) link (state_of_link (links_at project standing_when_full) link)) numbers) (town_is town)
 
 pub returns-clause-none_in_order : goal.returns-clause-none_in_order
-returns-clause-none_in_order c = λ network town. ap (λ network. rule_changes network (false ∷ false ∷ false ∷ false
-    ∷ []) (links_at network standing_when_full)) (town_is town)
+returns-clause-none_in_order c = λ project town. ap (λ project. rule_changes project (false ∷ false ∷ false ∷ false
+    ∷ []) (links_at project standing_when_full)) (town_is town)

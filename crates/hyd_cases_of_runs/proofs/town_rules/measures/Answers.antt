@@ -9,13 +9,13 @@ use Rattle.hyd_cases_of_runs.specs.TownPeriods.{standing_when_full}
 use Rattle.hyd_cases_of_runs.specs.TownReadings.{readings_of_halves}
 
 pub returns-clause-heads : goal.returns-clause-heads
-returns-clause-heads c = λ network town. ap (λ network. map (head_of network 1 readings_of_halves) numbers)
+returns-clause-heads c = λ project town. ap (λ project. map (head_of project 1 readings_of_halves) numbers)
     (town_is town)
 
 pub returns-clause-pressures : goal.returns-clause-pressures
-returns-clause-pressures c = λ network town. ap (λ network. map (pressure_of network 1 readings_of_halves)
+returns-clause-pressures c = λ project town. ap (λ project. map (pressure_of project 1 readings_of_halves)
     (0 ∷ 1 ∷ 3 ∷ 4 ∷ [])) (town_is town)
 
 pub returns-clause-states : goal.returns-clause-states
-returns-clause-states c = λ network town. ap (λ network. map (state_of_link (links_at network standing_when_full))
+returns-clause-states c = λ project town. ap (λ project. map (state_of_link (links_at project standing_when_full))
     numbers) (town_is town)

@@ -5,13 +5,13 @@ use Rattle.std.specs.Prelude.{true, false, [], ◌∷◌}
 use Rattle.hyd_spec.specs.Rules.{offers_from}
 
 pub returns-clause-three : goal.returns-clause-three
-returns-clause-three c = λ network town. ap (λ network. offers_from 0 network.rules.list (true ∷ true ∷ false ∷ false
+returns-clause-three c = λ project town. ap (λ project. offers_from 0 project.rules.list (true ∷ true ∷ false ∷ false
     ∷ [])) (town_is town)
 
 pub returns-clause-all : goal.returns-clause-all
-returns-clause-all c = λ network town. ap (λ network. offers_from 0 network.rules.list (true ∷ true ∷ true ∷ true
+returns-clause-all c = λ project town. ap (λ project. offers_from 0 project.rules.list (true ∷ true ∷ true ∷ true
     ∷ [])) (town_is town)
 
 pub returns-clause-none : goal.returns-clause-none
-returns-clause-none c = λ network town. ap (λ network. offers_from 0 network.rules.list (false ∷ false ∷ false ∷ false
+returns-clause-none c = λ project town. ap (λ project. offers_from 0 project.rules.list (false ∷ false ∷ false ∷ false
     ∷ [])) (town_is town)

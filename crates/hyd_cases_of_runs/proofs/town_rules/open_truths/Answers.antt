@@ -6,7 +6,7 @@ use Rattle.hyd_spec_certificates.specs.Decided.{rule_truths}
 use Rattle.hyd_cases_of_runs.specs.TownPeriods.{standing_when_full, grid_when_full, row_when_full}
 
 pub returns-clause-upper : goal.returns-clause-upper
-returns-clause-upper c = λ network town. ap (λ network. map (rule_truths network grid_when_full
+returns-clause-upper c = λ project town. ap (λ project. map (rule_truths project grid_when_full
     (record standing_when_full {
       levels = record {
         lo = pos 47000000000000;
@@ -16,7 +16,7 @@ returns-clause-upper c = λ network town. ap (λ network. map (rule_truths netwo
     (247 ∷ 967 ∷ 1327 ∷ [])) (town_is town)
 
 pub returns-clause-lower : goal.returns-clause-lower
-returns-clause-lower c = λ network town. ap (λ network. map (rule_truths network grid_when_full
+returns-clause-lower c = λ project town. ap (λ project. map (rule_truths project grid_when_full
     (record standing_when_full {
       levels = record {
         lo = pos 46000000000000;
@@ -26,7 +26,7 @@ returns-clause-lower c = λ network town. ap (λ network. map (rule_truths netwo
     (247 ∷ 967 ∷ 1327 ∷ [])) (town_is town)
 
 pub returns-clause-both : goal.returns-clause-both
-returns-clause-both c = λ network town. ap (λ network. map (rule_truths network grid_when_full
+returns-clause-both c = λ project town. ap (λ project. map (rule_truths project grid_when_full
     (record standing_when_full {
       levels = record {
         lo = pos 47000000000000;
@@ -36,7 +36,7 @@ returns-clause-both c = λ network town. ap (λ network. map (rule_truths networ
     (247 ∷ 967 ∷ 1327 ∷ [])) (town_is town)
 
 pub returns-clause-earlier : goal.returns-clause-earlier
-returns-clause-earlier c = λ network town. ap (λ network. rule_truths network grid_when_full
+returns-clause-earlier c = λ project town. ap (λ project. rule_truths project grid_when_full
     (record standing_when_full {
       time = 3600;
       levels = record {

@@ -7,9 +7,9 @@ use Rattle.hyd_cases_of_runs.specs.TownPeriods.{standing_at_two, standing_when_f
 use Rattle.hyd_cases_of_runs.specs.TownPeriods.{row_at_two, row_when_full}
 
 pub returns-clause-when_full : goal.returns-clause-when_full
-returns-clause-when_full c = λ network town. ap (λ network. map (rule_truths network grid_when_full standing_when_full
+returns-clause-when_full c = λ project town. ap (λ project. map (rule_truths project grid_when_full standing_when_full
     row_when_full) (247 ∷ 967 ∷ 1327 ∷ 1687 ∷ [])) (town_is town)
 
 pub returns-clause-at_two : goal.returns-clause-at_two
-returns-clause-at_two c = λ network town. ap (λ network. map (rule_truths network grid_at_two standing_at_two
+returns-clause-at_two c = λ project town. ap (λ project. map (rule_truths project grid_at_two standing_at_two
     row_at_two) (0 ∷ 60 ∷ 360 ∷ [])) (town_is town)

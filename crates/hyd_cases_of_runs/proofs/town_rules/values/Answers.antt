@@ -5,14 +5,14 @@ use Rattle.hyd_spec.specs.Rules.{rule_values}
 use Rattle.hyd_cases_of_runs.specs.TownReadings.{readings_none, readings_three, readings_edges, readings_past_edges}
 
 pub returns-clause-none : goal.returns-clause-none
-returns-clause-none c = λ network town. ap (λ network. rule_values network 1 7560 readings_none) (town_is town)
+returns-clause-none c = λ project town. ap (λ project. rule_values project 1 7560 readings_none) (town_is town)
 
 pub returns-clause-three : goal.returns-clause-three
-returns-clause-three c = λ network town. ap (λ network. rule_values network 1 8640 readings_three) (town_is town)
+returns-clause-three c = λ project town. ap (λ project. rule_values project 1 8640 readings_three) (town_is town)
 
 pub returns-clause-edges : goal.returns-clause-edges
-returns-clause-edges c = λ network town. ap (λ network. rule_values network 1 8640 readings_edges) (town_is town)
+returns-clause-edges c = λ project town. ap (λ project. rule_values project 1 8640 readings_edges) (town_is town)
 
 pub returns-clause-past_edges : goal.returns-clause-past_edges
-returns-clause-past_edges c = λ network town. ap (λ network. rule_values network 1 8640 readings_past_edges)
+returns-clause-past_edges c = λ project town. ap (λ project. rule_values project 1 8640 readings_past_edges)
     (town_is town)

@@ -7,25 +7,25 @@ use Rattle.hyd_cases_of_runs.specs.TownPeriods.{standing_at_start, standing_at_o
 use Rattle.hyd_cases_of_runs.specs.TownPeriods.{standing_after_rules, standing_at_three}
 
 pub returns-clause-at_start : goal.returns-clause-at_start
-returns-clause-at_start c = λ network town. ap (λ network. start_changes network 0 (acts_on standing_at_start.levels)
+returns-clause-at_start c = λ project town. ap (λ project. start_changes project 0 (acts_on standing_at_start.levels)
     standing_at_start.commanded) (town_is town)
 
 pub returns-clause-at_one : goal.returns-clause-at_one
-returns-clause-at_one c = λ network town. ap (λ network. start_changes network 3600 (acts_on standing_at_one.levels)
+returns-clause-at_one c = λ project town. ap (λ project. start_changes project 3600 (acts_on standing_at_one.levels)
     standing_at_one.commanded) (town_is town)
 
 pub returns-clause-at_two : goal.returns-clause-at_two
-returns-clause-at_two c = λ network town. ap (λ network. start_changes network 7200 (acts_on standing_at_two.levels)
+returns-clause-at_two c = λ project town. ap (λ project. start_changes project 7200 (acts_on standing_at_two.levels)
     standing_at_two.commanded) (town_is town)
 
 pub returns-clause-when_full : goal.returns-clause-when_full
-returns-clause-when_full c = λ network town. ap (λ network. start_changes network 7313
+returns-clause-when_full c = λ project town. ap (λ project. start_changes project 7313
     (acts_on standing_when_full.levels) standing_when_full.commanded) (town_is town)
 
 pub returns-clause-after_rules : goal.returns-clause-after_rules
-returns-clause-after_rules c = λ network town. ap (λ network. start_changes network 8640
+returns-clause-after_rules c = λ project town. ap (λ project. start_changes project 8640
     (acts_on standing_after_rules.levels) standing_after_rules.commanded) (town_is town)
 
 pub returns-clause-at_three : goal.returns-clause-at_three
-returns-clause-at_three c = λ network town. ap (λ network. start_changes network 10800
+returns-clause-at_three c = λ project town. ap (λ project. start_changes project 10800
     (acts_on standing_at_three.levels) standing_at_three.commanded) (town_is town)

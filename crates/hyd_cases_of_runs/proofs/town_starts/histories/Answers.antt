@@ -6,13 +6,13 @@ use Rattle.hyd_spec.specs.PumpPatternsAndSimpleControls.{started, acts_at}
 use Rattle.hyd_cases_of_runs.specs.TownPeriods.{standing_when_full}
 
 pub returns-clause-reached : goal.returns-clause-reached
-returns-clause-reached c = λ network town. ap (λ network. started network 7313
+returns-clause-reached c = λ project town. ap (λ project. started project 7313
     (acts_at 3 (pos 150000000000000 ∷ pos 45000000000000 ∷ [])) standing_when_full.commanded) (town_is town)
 
 pub returns-clause-not_reached : goal.returns-clause-not_reached
-returns-clause-not_reached c = λ network town. ap (λ network. started network 7313
+returns-clause-not_reached c = λ project town. ap (λ project. started project 7313
     (acts_at 3 (pos 149999999999999 ∷ pos 45000000000001 ∷ [])) standing_when_full.commanded) (town_is town)
 
 pub returns-clause-only_below : goal.returns-clause-only_below
-returns-clause-only_below c = λ network town. ap (λ network. started network 7313
+returns-clause-only_below c = λ project town. ap (λ project. started project 7313
     (acts_at 3 (pos 149999999999999 ∷ pos 45000000000000 ∷ [])) standing_when_full.commanded) (town_is town)

@@ -5,10 +5,10 @@ use Rattle.hyd_spec.specs.History.{initial_links, initial_levels}
 use Rattle.hyd_spec_certificates.specs.RecordAndStanding.{initial_standing}
 
 pub returns-clause-standing : goal.returns-clause-standing
-returns-clause-standing c = λ network town. ap (λ network. initial_standing network) (town_is town)
+returns-clause-standing c = λ project town. ap (λ project. initial_standing project) (town_is town)
 
 pub returns-clause-links : goal.returns-clause-links
-returns-clause-links c = λ network town. ap (λ network. initial_links network) (town_is town)
+returns-clause-links c = λ project town. ap (λ project. initial_links project) (town_is town)
 
 pub returns-clause-levels : goal.returns-clause-levels
-returns-clause-levels c = λ network town. ap (λ network. initial_levels network 3) (town_is town)
+returns-clause-levels c = λ project town. ap (λ project. initial_levels project 3) (town_is town)

@@ -9,20 +9,20 @@ use Rattle.hyd_spec_reports.specs.ReportLine.{line_text}
 use Rattle.hyd_cases_of_runs.specs.TownPeriods.{standing_at_one, standing_when_full, standing_at_three}
 
 pub returns-clause-at_one : goal.returns-clause-at_one
-returns-clause-at_one c = λ network town. ap (λ network. control_lines network standing_at_one) (town_is town)
+returns-clause-at_one c = λ project town. ap (λ project. control_lines project standing_at_one) (town_is town)
 
 pub returns-clause-when_full : goal.returns-clause-when_full
-returns-clause-when_full c = λ network town. ap (λ network. control_lines network standing_when_full) (town_is town)
+returns-clause-when_full c = λ project town. ap (λ project. control_lines project standing_when_full) (town_is town)
 
 pub returns-clause-at_three : goal.returns-clause-at_three
-returns-clause-at_three c = λ network town. ap (λ network. control_lines network standing_at_three) (town_is town)
+returns-clause-at_three c = λ project town. ap (λ project. control_lines project standing_at_three) (town_is town)
 
 pub returns-clause-text_at_one : goal.returns-clause-text_at_one
 unfolding digits fixed_point
-returns-clause-text_at_one c = λ network town. ap (λ network. map (line_text network)
-    (control_lines network standing_at_one)) (town_is town)
+returns-clause-text_at_one c = λ project town. ap (λ project. map (line_text project)
+    (control_lines project standing_at_one)) (town_is town)
 
 pub returns-clause-text_when_full : goal.returns-clause-text_when_full
 unfolding digits fixed_point
-returns-clause-text_when_full c = λ network town. ap (λ network. map (line_text network)
-    (control_lines network standing_when_full)) (town_is town)
+returns-clause-text_when_full c = λ project town. ap (λ project. map (line_text project)
+    (control_lines project standing_when_full)) (town_is town)

@@ -6,19 +6,19 @@ use Rattle.hyd_cases_of_runs.specs.TownPeriods.{standing_at_start, standing_at_o
 use Rattle.hyd_cases_of_runs.specs.TownPeriods.{standing_after_rules, standing_at_three}
 
 pub returns-clause-at_start : goal.returns-clause-at_start
-returns-clause-at_start c = λ network town. ap (λ network. links_at network standing_at_start) (town_is town)
+returns-clause-at_start c = λ project town. ap (λ project. links_at project standing_at_start) (town_is town)
 
 pub returns-clause-at_one : goal.returns-clause-at_one
-returns-clause-at_one c = λ network town. ap (λ network. links_at network standing_at_one) (town_is town)
+returns-clause-at_one c = λ project town. ap (λ project. links_at project standing_at_one) (town_is town)
 
 pub returns-clause-at_two : goal.returns-clause-at_two
-returns-clause-at_two c = λ network town. ap (λ network. links_at network standing_at_two) (town_is town)
+returns-clause-at_two c = λ project town. ap (λ project. links_at project standing_at_two) (town_is town)
 
 pub returns-clause-when_full : goal.returns-clause-when_full
-returns-clause-when_full c = λ network town. ap (λ network. links_at network standing_when_full) (town_is town)
+returns-clause-when_full c = λ project town. ap (λ project. links_at project standing_when_full) (town_is town)
 
 pub returns-clause-after_rules : goal.returns-clause-after_rules
-returns-clause-after_rules c = λ network town. ap (λ network. links_at network standing_after_rules) (town_is town)
+returns-clause-after_rules c = λ project town. ap (λ project. links_at project standing_after_rules) (town_is town)
 
 pub returns-clause-at_three : goal.returns-clause-at_three
-returns-clause-at_three c = λ network town. ap (λ network. links_at network standing_at_three) (town_is town)
+returns-clause-at_three c = λ project town. ap (λ project. links_at project standing_at_three) (town_is town)

@@ -1,27 +1,11 @@
-use Rattle.std.proofs.Common.{◌≡◌, ◌≢◌, ℕ, List, ◌++◌, take, Some, None}
-use Rattle.std.specs.Prelude.{is_some}
-use Rattle.hyd_io.specs.DeskBytes.{file_at, Moves}
-use Rattle.hyd_io.specs.Output.{by_channel, OnCert, OnReport}
+use Rattle.std.proofs.Common.{take}
+use Rattle.std.specs.Prelude.{Ok}
+use Rattle.hyd_io.specs.Putting.{Puts}
 use Rattle.hyd_cert.specs.PlacesOfLines.{head_text}
 use Rattle.hyd_cert.proofs.writing.put_heads.Given as goal
 
--- the heads so far were put, and the desk is else as it was
+-- the heads so far were put
 abbrev pub invariant-loop-i : goal.invariant-loop-i
-invariant-loop-i g l = record {
-  moves : Moves (by_channel l.fn.pen.to (g.D.Desk.written l.fn.desk) (g.D.Desk.printed l.fn.desk))
-      (by_channel l.fn.pen.to (g.D.Desk.written l.desk) (g.D.Desk.printed l.desk))
-      (l.fn.pen.held ++ head_text l.junctions 0 (take l.i l.heads)) l.pen.held;
-  to_stays : l.pen.to ≡ l.fn.pen.to;
-  no_fault : l.pen.fault ≡ None;
-  steady : g.D.Desk.counts l.desk ≡ g.D.Desk.counts l.fn.desk;
-  report_files : OnReport l.fn.pen.to (g.D.Desk.files l.desk ≡ g.D.Desk.files l.fn.desk);
-  report_written : OnReport l.fn.pen.to (g.D.Desk.written l.desk ≡ g.D.Desk.written l.fn.desk);
-  cert_printed : OnCert l.fn.pen.to (g.D.Desk.printed l.desk ≡ g.D.Desk.printed l.fn.desk);
-  others : (other : List ℕ) → g.D.Desk.target l.fn.desk ≢ Some other → file_at (g.D.Desk.files l.desk) other
-      ≡ file_at (g.D.Desk.files l.fn.desk) other;
-  still_told : is_some (g.D.Desk.files l.desk) ≡ is_some (g.D.Desk.files l.fn.desk);
-  rest_stays : g.D.Desk.rest l.desk ≡ g.D.Desk.rest l.fn.desk;
-  target_stays : g.D.Desk.target l.desk ≡ g.D.Desk.target l.fn.desk;
-  ready_stays : g.D.Desk.ready l.desk ≡ g.D.Desk.ready l.fn.desk;
-  openings_stay : g.D.Desk.openings l.desk ≡ g.D.Desk.openings l.fn.desk;
-}
+invariant-loop-i g l = Puts g.D.Desk.files g.D.Desk.rest g.D.Desk.written g.D.Desk.printed g.D.Desk.target
+    g.D.Desk.ready g.D.Desk.counts g.D.Desk.openings (head_text l.junctions 0 (take l.i l.heads)) (Ok tt) l.fn.pen l.pen
+    l.fn.desk l.desk

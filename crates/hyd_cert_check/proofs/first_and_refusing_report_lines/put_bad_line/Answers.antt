@@ -1,12 +1,12 @@
 -- One part after another.
-use Rattle.hyd_report.proofs.PutLemmas.{puts_then, puts_cut, puts_ready}
+use Rattle.hyd_io.proofs.PutLemmas.{puts_then, puts_cut, puts_ready}
 use Rattle.hyd_cert_check.proofs.first_and_refusing_report_lines.put_bad_line.Goals as goal
 
 pub put_number-requires : goal.put_number-requires
 put_number-requires g c = puts_ready _ _ _ _ _ _ c.in-Ok.ensures c.requires
 
-pub put_text-requires-2 : goal.put_text-requires-2
-put_text-requires-2 g c = puts_ready _ _ _ _ _ _ c.in-Ok-put_number.ensures (puts_ready _ _ _ _ _ _ c.in-Ok.ensures
+pub put-requires-2 : goal.put-requires-2
+put-requires-2 g c = puts_ready _ _ _ _ _ _ c.in-Ok-put_number.ensures (puts_ready _ _ _ _ _ _ c.in-Ok.ensures
     c.requires)
 
 pub returns-in-Err : goal.returns-in-Err
@@ -20,4 +20,4 @@ returns-in-Err-put_number g c =
 pub returns : goal.returns
 returns g c =
     puts_then _ _ _ _ _ _ _ _ _ c.in-Ok.ensures (puts_then _ _ _ _ _ _ _ _ _ c.in-Ok-put_number.ensures
-    c.put_text-2.ensures)
+    c.put-2.ensures)

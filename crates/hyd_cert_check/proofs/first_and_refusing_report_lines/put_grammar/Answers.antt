@@ -2,7 +2,7 @@
 use Rattle.std.proofs.Common.{◌≡◌, ℕ, List, [], ◌∷◌, ◌++◌, codes, append_assoc, refl}
 use Rattle.std.specs.Fmt.{decimal}
 use Rattle.hyd_spec_reports.specs.CertificateText.{line}
-use Rattle.hyd_report.proofs.PutLemmas.{puts_same}
+use Rattle.hyd_io.proofs.PutLemmas.{puts_same}
 use Rattle.hyd_cert_check.proofs.first_and_refusing_report_lines.put_grammar.Goals as goal
 
 line_is : (number : List ℕ) → codes "BADCERT line " ++ (number ++ codes " GRAMMAR\n")

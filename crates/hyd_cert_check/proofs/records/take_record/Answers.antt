@@ -5,7 +5,7 @@ use Rattle.hyd_run.specs.Pens.{told}
 use Rattle.hyd_cert_check.specs.ReaderAndPen.{moment}
 use Rattle.hyd_cert_check.specs.RecordByRecord.{in_reading, in_report}
 use Rattle.hyd_cert_check.specs.declared.outcome.CheckFault.TheVariants.{Read}
-use Rattle.hyd_cert_check.specs.declared.outcome.Verdict.TheVariants.{Grammar, Counts}
+use Rattle.hyd_cert_check.specs.declared.outcome.Conclusion.TheVariants.{Grammar, Counts}
 use Rattle.hyd_cert_check.proofs.PenLemmas.{read-puts, read-cut}
 use Rattle.hyd_cert_check.proofs.RecordLemmas.{is-read, over-there, end-is, grammar-is, counts-is}
 use Rattle.hyd_cert_check.proofs.records.take_record.Goals as goal
@@ -28,24 +28,24 @@ returns-in-Ok-End-clause-gives g c =
     let text = rw c.in-Ok-End.field-0-is at (c.in-Ok-End.ensures.end going) in
     let fits = rw c.in-Ok-End.field-0-is at (c.in-Ok-End.ensures.end_fits going) in
     over-there _ _ _ _ (c.judge_end.ensures _ _ (end-is _ c.next.new.into _ _ _ same text fits))
-    (read-puts _ _ c.requires.going.pen refl e.printed_stays c.in-Ok-End.ensures.steady (record {
-      files_stay = e.files_stay;
-      written_stays = e.written_stays;
-      target_stays = e.target_stays;
-      ready_stays = e.ready_stays;
-      openings_stay = e.openings_stay;
+    (read-puts _ _ c.requires.going.pen refl e.stays.printed_stays c.in-Ok-End.ensures.steady (record {
+      files_stay = e.stays.files_stay;
+      written_stays = e.stays.written_stays;
+      target_stays = e.stays.target_stays;
+      ready_stays = e.stays.ready_stays;
+      openings_stay = e.stays.openings_stay;
     }))
 
 pub returns-in-Err-Read-clause-gives : goal.returns-in-Err-Read-clause-gives
 returns-in-Err-Read-clause-gives g c =
     let e = c.next.ensures in
     let rose = rw c.in-Err-Read.field-0-is at (c.in-Err-Read.ensures.fault c.requires.going.going) in
-    in_reading (read-cut Read _ _ e.printed_stays rose (record {
-      files_stay = e.files_stay;
-      written_stays = e.written_stays;
-      target_stays = e.target_stays;
-      ready_stays = e.ready_stays;
-      openings_stay = e.openings_stay;
+    in_reading (read-cut Read _ _ e.stays.printed_stays rose (record {
+      files_stay = e.stays.files_stay;
+      written_stays = e.stays.written_stays;
+      target_stays = e.stays.target_stays;
+      ready_stays = e.stays.ready_stays;
+      openings_stay = e.stays.openings_stay;
     }))
 
 pub returns-in-Err-Grammar-clause-gives : goal.returns-in-Err-Grammar-clause-gives
@@ -55,12 +55,12 @@ returns-in-Err-Grammar-clause-gives g c =
     let lacks = rw c.in-Err-Grammar.field-0-is at (c.in-Err-Grammar.ensures.no_record c.requires.going.going) in
     over-there (Grammar c.in-Err-Grammar.line) _ _ _
     (grammar-is _ c.args.row.now c.in-Err-Grammar.line _ _ _ c.requires.header fault lacks)
-    (read-puts _ _ c.requires.going.pen refl e.printed_stays fault.1.2 (record {
-      files_stay = e.files_stay;
-      written_stays = e.written_stays;
-      target_stays = e.target_stays;
-      ready_stays = e.ready_stays;
-      openings_stay = e.openings_stay;
+    (read-puts _ _ c.requires.going.pen refl e.stays.printed_stays fault.1.2 (record {
+      files_stay = e.stays.files_stay;
+      written_stays = e.stays.written_stays;
+      target_stays = e.stays.target_stays;
+      ready_stays = e.stays.ready_stays;
+      openings_stay = e.stays.openings_stay;
     }))
 
 pub returns-in-Err-Count-clause-gives : goal.returns-in-Err-Count-clause-gives
@@ -69,12 +69,12 @@ returns-in-Err-Count-clause-gives g c =
     let fault = rw c.in-Err-Count.field-0-is at (c.in-Err-Count.ensures.fault c.requires.going.going) in
     over-there (Counts c.in-Err-Count.line) _ _ _
     (counts-is _ c.args.row.now c.in-Err-Count.line _ _ _ c.requires.header fault)
-    (read-puts _ _ c.requires.going.pen refl e.printed_stays fault.3 (record {
-      files_stay = e.files_stay;
-      written_stays = e.written_stays;
-      target_stays = e.target_stays;
-      ready_stays = e.ready_stays;
-      openings_stay = e.openings_stay;
+    (read-puts _ _ c.requires.going.pen refl e.stays.printed_stays fault.3 (record {
+      files_stay = e.stays.files_stay;
+      written_stays = e.stays.written_stays;
+      target_stays = e.stays.target_stays;
+      ready_stays = e.stays.ready_stays;
+      openings_stay = e.stays.openings_stay;
     }))
 
 pub returns-in-Ok-None-clause-gives : goal.returns-in-Ok-None-clause-gives
@@ -90,12 +90,12 @@ returns-in-Ok-None-clause-gives g c =
     let is = is-read (header_for c.args.sim.now.project) c.next.new.into before read (e.header ∙ c.requires.header)
     (rw r.field-0-is at (r.ensures.record going)) (rw r.field-0-is at (r.ensures.row going))
     (rw r.field-0-is at (r.ensures.line going)) (rw r.field-0-is at (r.ensures.stand going)) in
-    let none = read-puts before read c.requires.going.pen refl e.printed_stays r.ensures.steady (record {
-      files_stay = e.files_stay;
-      written_stays = e.written_stays;
-      target_stays = e.target_stays;
-      ready_stays = e.ready_stays;
-      openings_stay = e.openings_stay;
+    let none = read-puts before read c.requires.going.pen refl e.stays.printed_stays r.ensures.steady (record {
+      files_stay = e.stays.files_stay;
+      written_stays = e.stays.written_stays;
+      target_stays = e.stays.target_stays;
+      ready_stays = e.stays.ready_stays;
+      openings_stay = e.stays.openings_stay;
     }) in
     rw c.in-Ok-None.field-0-is at (c.in-Ok-None.ensures.tries before c.next.new.self is none)
 
@@ -112,12 +112,12 @@ returns-in-Ok-Some-clause-gives g c =
     let is = is-read (header_for c.args.sim.now.project) c.next.new.into before read (e.header ∙ c.requires.header)
     (rw r.field-0-is at (r.ensures.record going)) (rw r.field-0-is at (r.ensures.row going))
     (rw r.field-0-is at (r.ensures.line going)) (rw r.field-0-is at (r.ensures.stand going)) in
-    let none = read-puts before read c.requires.going.pen refl e.printed_stays r.ensures.steady (record {
-      files_stay = e.files_stay;
-      written_stays = e.written_stays;
-      target_stays = e.target_stays;
-      ready_stays = e.ready_stays;
-      openings_stay = e.openings_stay;
+    let none = read-puts before read c.requires.going.pen refl e.stays.printed_stays r.ensures.steady (record {
+      files_stay = e.stays.files_stay;
+      written_stays = e.stays.written_stays;
+      target_stays = e.stays.target_stays;
+      ready_stays = e.stays.ready_stays;
+      openings_stay = e.stays.openings_stay;
     }) in
     rw c.in-Ok-Some.field-0-is at (c.in-Ok-Some.ensures.tries before c.next.new.self is none)
 
@@ -134,11 +134,11 @@ returns-in-Err-clause-gives g c =
     let is = is-read (header_for c.args.sim.now.project) c.next.new.into before read (e.header ∙ c.requires.header)
     (rw r.field-0-is at (r.ensures.record going)) (rw r.field-0-is at (r.ensures.row going))
     (rw r.field-0-is at (r.ensures.line going)) (rw r.field-0-is at (r.ensures.stand going)) in
-    let none = read-puts before read c.requires.going.pen refl e.printed_stays r.ensures.steady (record {
-      files_stay = e.files_stay;
-      written_stays = e.written_stays;
-      target_stays = e.target_stays;
-      ready_stays = e.ready_stays;
-      openings_stay = e.openings_stay;
+    let none = read-puts before read c.requires.going.pen refl e.stays.printed_stays r.ensures.steady (record {
+      files_stay = e.stays.files_stay;
+      written_stays = e.stays.written_stays;
+      target_stays = e.stays.target_stays;
+      ready_stays = e.stays.ready_stays;
+      openings_stay = e.stays.openings_stay;
     }) in
     in_report (c.in-Err.ensures.tries before c.next.new.self is none)

@@ -6,12 +6,12 @@ use Rattle.hyd_cert_check.proofs.records.take_records.Goals as goal
 
 pub take_record-requires-clause-header : goal.take_record-requires-clause-header
 take_record-requires-clause-header g c =
-    let i = c.loop-verdict.invariant in
+    let i = c.loop-conclusion.invariant in
     i.header ∙ ap header_for (sym i.project)
 
 pub returns-in-Ok-Some-clause-give : goal.returns-in-Ok-Some-clause-give
 returns-in-Ok-Some-clause-give g c =
-    let i = c.loop-verdict.invariant in
+    let i = c.loop-conclusion.invariant in
     let over = rw c.in-Ok-Some.field-0-is at c.in-Ok-Some.ensures.gives in
     λ start so_far. turn-over _ _ _ _ start _ _ (c.take_record.ensures.project ∙ i.project) over (i.so_far start so_far)
 
@@ -22,13 +22,13 @@ returns-in-Ok-Some-clause-unbroken g c =
 
 pub returns-in-Err-clause-give : goal.returns-in-Err-clause-give
 returns-in-Err-clause-give g c =
-    let i = c.loop-verdict.invariant in
+    let i = c.loop-conclusion.invariant in
     λ start so_far. turn-lost _ c.in-Err.fault _ _ start _ _ (c.take_record.ensures.project ∙ i.project)
     c.project-project.ensures.is_sim.sound c.in-Err.ensures.gives (i.so_far start so_far)
 
-pub loop-verdict-preserved : goal.loop-verdict-preserved
-loop-verdict-preserved g c =
-    let i = c.loop-verdict.invariant in
+pub loop-conclusion-preserved : goal.loop-conclusion-preserved
+loop-conclusion-preserved g c =
+    let i = c.loop-conclusion.invariant in
     let p = c.take_record.ensures.project ∙ i.project in
     let did = rw c.in-Ok-None.field-0-is at c.in-Ok-None.ensures.gives in
     record {
@@ -40,9 +40,9 @@ loop-verdict-preserved g c =
       so_far = λ start so_far. turn-more _ _ _ start _ _ p did (i.so_far start so_far);
     }
 
-pub loop-verdict-smaller : goal.loop-verdict-smaller
-loop-verdict-smaller g c =
-    let i = c.loop-verdict.invariant in
+pub loop-conclusion-smaller : goal.loop-conclusion-smaller
+loop-conclusion-smaller g c =
+    let i = c.loop-conclusion.invariant in
     let p = c.take_record.ensures.project ∙ i.project in
     let did = rw c.in-Ok-None.field-0-is at c.in-Ok-None.ensures.gives in
     rw p at did.fewer

@@ -8,8 +8,8 @@ use Rattle.hyd_cert_check.specs.RecordByRecord.{CanGoOn, IsSoFar}
 use Rattle.hyd_cert_check.proofs.records.take_records.Given as goal
 
 -- whatever was put in before as a check so far is one still
-abbrev pub invariant-loop-verdict : goal.invariant-loop-verdict
-invariant-loop-verdict g l =
+abbrev pub invariant-loop-conclusion : goal.invariant-loop-conclusion
+invariant-loop-conclusion g l =
     let D = g.D.Desk in
     record {
       project : l.sim.project ≡ l.fn.sim.project;
@@ -25,5 +25,5 @@ invariant-loop-verdict g l =
           (told D.files D.rest D.written D.printed D.target D.ready D.counts D.openings l.desk));
     }
 
-abbrev pub decreases-loop-verdict : goal.decreases-loop-verdict
-decreases-loop-verdict g l = periods_left l.fn.sim.project (standing_of l.sim)
+abbrev pub decreases-loop-conclusion : goal.decreases-loop-conclusion
+decreases-loop-conclusion g l = periods_left l.fn.sim.project (standing_of l.sim)

@@ -2,8 +2,8 @@
 use Rattle.std.specs.Prelude.{Err}
 use Rattle.std.proofs.Common.{◌∙◌, ap}
 use Rattle.hyd_cert.specs.ReaderView.{ReaderView, to_come}
+use Rattle.hyd_cert.proofs.ReadingLemmas.{nothing-before}
 use Rattle.hyd_cert_check.proofs.PenLemmas.{new-open}
-use Rattle.hyd_cert_check.proofs.TextLemmas.{nothing-before}
 use Rattle.hyd_cert_check.proofs.EndLemmas.{prints-whole, prints-front, says-printed, says-rose, says-steady}
 use Rattle.hyd_cert_check.proofs.EndLemmas.{says-leaves}
 use Rattle.hyd_cert_check.proofs.whole_check.check.Goals as goal

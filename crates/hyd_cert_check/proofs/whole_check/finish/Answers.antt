@@ -9,14 +9,14 @@ pub empty-requires : goal.empty-requires
 empty-requires g c = not_cert _ _ c.requires.to
 
 pub returns-in-Ok-clause-puts : goal.returns-in-Ok-clause-puts
-returns-in-Ok-clause-puts g c = λ network start reader whole.
-    whole-emptied network c.args.end start _ _ whole (put-in _ reader reader _ _ _ _ c.requires c.in-Ok.ensures.puts)
+returns-in-Ok-clause-puts g c = λ project start reader whole.
+    whole-emptied project c.args.end start _ _ whole (put-in _ reader reader _ _ _ _ c.requires c.in-Ok.ensures.puts)
 
 pub returns-in-Ok-clause-report : goal.returns-in-Ok-clause-report
 returns-in-Ok-clause-report g c =
     pen-new _ (put-in _ fresh fresh _ _ _ _ c.requires c.in-Ok.ensures.puts).open_still c.in-Ok.ensures.empty
 
 pub returns-in-Err-clause-puts : goal.returns-in-Err-clause-puts
-returns-in-Err-clause-puts g c = λ network start reader whole.
-    whole-cut network c.args.end (Output c.in-Err.fault) start _ _ whole (put-cut _ c.in-Err.fault reader reader _ _ _ _
+returns-in-Err-clause-puts g c = λ project start reader whole.
+    whole-cut project c.args.end (Output c.in-Err.fault) start _ _ whole (put-cut _ c.in-Err.fault reader reader _ _ _ _
     c.requires c.in-Err.ensures.puts)

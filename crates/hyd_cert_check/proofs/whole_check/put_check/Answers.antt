@@ -41,9 +41,10 @@ returns-in-Err-take_records-clause-puts g c =
 pub returns-in-Ok-take_records-clause-puts : goal.returns-in-Ok-take_records-clause-puts
 returns-in-Ok-take_records-clause-puts g c =
     let r = c.args.reader.now in
-    let network = c.args.sim.now.project in
-    let begun = so-far-begun network (standing_of c.args.sim.now) _ _ c.requires.start c.requires.reader refl
+    let project = c.args.sim.now.project in
+    let begun = so-far-begun project (standing_of c.args.sim.now) _ _ c.requires.start c.requires.reader refl
     c.in-Ok.ensures.rest_stays (put-in _ r r _ _ _ _ c.requires.unbroken c.in-Ok.ensures) in
-    ending-puts network c.take_records.new.sim.project c.in-Ok-take_records.verdict (standing_of c.take_records.new.sim)
+    ending-puts project c.take_records.new.sim.project c.in-Ok-take_records.conclusion
+    (standing_of c.take_records.new.sim)
     c.put_ending.result _ _ _ c.take_records.ensures.project
     (λ x. c.put_ending.ensures x c.take_records.new.reader) (c.in-Ok-take_records.ensures.give _ begun)

@@ -3,14 +3,14 @@ use Rattle.std.proofs.Common.{◌∙◌, ℕ, ap, sym, subst}
 use Rattle.hyd_net.specs.Sound.{Sound}
 use Rattle.hyd_spec.specs.ProgramTypes.{Project}
 use Rattle.hyd_sim.specs.View.{standing_of}
-use Rattle.hyd_cert_check.specs.RecordByRecord.{verdict_line}
+use Rattle.hyd_cert_check.specs.RecordByRecord.{conclusion_line}
 use Rattle.hyd_cert_check.specs.declared.outcome.CheckFault.TheVariants.{Output}
 use Rattle.hyd_cert_check.proofs.PenLemmas.{not_cert, put-in, put-cut, put-as, cut-as}
 use Rattle.hyd_cert_check.proofs.EndLemmas.{last-whole, last-cut, whole-as}
 use Rattle.hyd_cert_check.proofs.whole_check.put_ending.Goals as goal
 
-pub put_verdict-requires : goal.put_verdict-requires
-put_verdict-requires g c = record {
+pub put_conclusion-requires : goal.put_conclusion-requires
+put_conclusion-requires g c = record {
   sound = subst Sound (sym c.project.ensures.project) c.project.ensures.is_sim.sound;
   ready = not_cert _ _ c.requires.to;
 }
@@ -18,18 +18,18 @@ put_verdict-requires g c = record {
 pub returns-in-Ok : goal.returns-in-Ok
 returns-in-Ok g c = λ start reader read.
     let sim = c.args.sim.now in
-    let text = ap (λ (p : Project). verdict_line p c.number.result c.args.verdict) c.project.ensures.project
-    ∙ ap (λ (n : ℕ). verdict_line sim.project n c.args.verdict) c.number.ensures in
+    let text = ap (λ (p : Project). conclusion_line p c.number.result c.args.conclusion) c.project.ensures.project
+    ∙ ap (λ (n : ℕ). conclusion_line sim.project n c.args.conclusion) c.number.ensures in
     whole-as sim.project _ _ start _ (sym c.end_of.ensures)
-    (last-whole sim.project c.args.verdict (standing_of sim) start _ _ c.project.ensures.is_sim.sound read
+    (last-whole sim.project c.args.conclusion (standing_of sim) start _ _ c.project.ensures.is_sim.sound read
     (put-as _ _ _ _ text (put-in _ reader reader _ _ _ _ c.requires c.in-Ok.ensures)))
 
 pub returns-in-Err : goal.returns-in-Err
 returns-in-Err g c = λ start reader read.
     let sim = c.args.sim.now in
-    let text = ap (λ (p : Project). verdict_line p c.number.result c.args.verdict) c.project.ensures.project
-    ∙ ap (λ (n : ℕ). verdict_line sim.project n c.args.verdict) c.number.ensures in
-    last-cut sim.project c.args.verdict (standing_of sim) start _ _ c.project.ensures.is_sim.sound read
+    let text = ap (λ (p : Project). conclusion_line p c.number.result c.args.conclusion) c.project.ensures.project
+    ∙ ap (λ (n : ℕ). conclusion_line sim.project n c.args.conclusion) c.number.ensures in
+    last-cut sim.project c.args.conclusion (standing_of sim) start _ _ c.project.ensures.is_sim.sound read
     (Output c.in-Err.fault)
     (cut-as (Output c.in-Err.fault) _ _ _ _ text (put-cut _ c.in-Err.fault reader reader _ _ _ _ c.requires
     c.in-Err.ensures))

@@ -11,8 +11,8 @@ returns-clause-whole g c =
     c.put.ensures.to_stays (ap (λ (p : PenState). p.held) c.new-pen.ensures) c.in-Ok.ensures.moves w)
     c.flush.ensures.whole
 
-pub returns-clause-prefix : goal.returns-clause-prefix
-returns-clause-prefix g c =
+pub returns-clause-front : goal.returns-clause-front
+returns-clause-front g c =
     on_err_weaker c.flush.result (λ k. put_front _ _ _ _ _ _ _ _ _ _ _ (ap (λ (p : PenState). p.to) c.new-pen.ensures)
     c.put.ensures.to_stays (ap (λ (p : PenState). p.held) c.new-pen.ensures) c.in-Ok.ensures.moves k)
-    c.flush.ensures.prefix
+    c.flush.ensures.front

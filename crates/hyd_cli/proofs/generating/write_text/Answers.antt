@@ -38,4 +38,4 @@ returns-clause-cut_short g c =
       others = c.create.ensures.others;
     } in
     on_err_weaker c.put_text.result (λ out. inr (text_cut_short c.args.text.now c.args.net.now before created after
-    made c.put_text.ensures.leaves (search rules) c.put_text.ensures.printed_stays out)) c.put_text.ensures.prefix
+    made c.put_text.ensures.leaves (search rules) c.put_text.ensures.printed_stays out)) c.put_text.ensures.front

@@ -10,8 +10,10 @@ pub returns-in-Ok-clause-does : goal.returns-in-Ok-clause-does
 returns-in-Ok-clause-does g c =
     let before = seen g.D.Desk.files g.D.Desk.written g.D.Desk.printed c.args.desk.now in
     let now = seen g.D.Desk.files g.D.Desk.written g.D.Desk.printed c.do_by_run-status.new.desk in
-    subst (λ (p : Project). DoesTask c.args.task p c.do_by_run-status.result before now (g.D.Desk.openings c.args.desk.now)
-    (g.D.Desk.openings c.do_by_run-status.new.desk) (g.D.Desk.ready c.do_by_run-status.new.desk)) c.in-Ok.ensures.project
+    subst (λ (p : Project). DoesTask c.args.task p c.do_by_run-status.result before now
+    (g.D.Desk.openings c.args.desk.now)
+    (g.D.Desk.openings c.do_by_run-status.new.desk) (g.D.Desk.ready c.do_by_run-status.new.desk))
+    c.in-Ok.ensures.project
     c.do_by_run-status.ensures.does
 
 pub returns-in-Err-clause-does : goal.returns-in-Err-clause-does

@@ -2,7 +2,8 @@
 use Rattle.std.proofs.Common.{ap, ◌∙◌}
 use Rattle.std.proofs.lemmas.Result.{on_ok_weaker, on_err_weaker}
 use Rattle.hyd_io.specs.Output.{PenState}
-use Rattle.hyd_cli.proofs.PrintLemmas.{printed_whole, printed_front, cause_since, on_report}
+use Rattle.hyd_run.proofs.PenLemmas.{on-report}
+use Rattle.hyd_cli.proofs.PrintLemmas.{printed_whole, printed_front, cause_since}
 use Rattle.hyd_cli.proofs.usage_and_refusal.print_refusal.Goals as goal
 
 pub returns-clause-whole : goal.returns-clause-whole
@@ -12,11 +13,11 @@ returns-clause-whole g c =
     c.in-Ok.ensures.to_stays (ap (λ (p : PenState). p.held) c.new-pen.ensures) c.in-Ok.ensures.moves w)
     c.flush.ensures.whole
 
-pub returns-clause-prefix : goal.returns-clause-prefix
-returns-clause-prefix g c =
+pub returns-clause-front : goal.returns-clause-front
+returns-clause-front g c =
     on_err_weaker c.flush.result (λ k. printed_front _ _ _ _ _ _ _ _ _ _ _ (ap (λ (p : PenState). p.to)
     c.new-pen.ensures) c.in-Ok.ensures.to_stays (ap (λ (p : PenState). p.held) c.new-pen.ensures)
-    c.in-Ok.ensures.moves k) c.flush.ensures.prefix
+    c.in-Ok.ensures.moves k) c.flush.ensures.front
 
 pub returns-clause-cause : goal.returns-clause-cause
 returns-clause-cause g c =
@@ -28,15 +29,15 @@ returns-clause-steady g c = on_ok_weaker c.flush.result (λ s. s ∙ c.in-Ok.ens
 
 pub returns-clause-files_stay : goal.returns-clause-files_stay
 returns-clause-files_stay g c =
-    on_report _ _ (c.in-Ok.ensures.to_stays ∙ ap (λ (p : PenState). p.to) c.new-pen.ensures)
+    on-report _ _ (c.in-Ok.ensures.to_stays ∙ ap (λ (p : PenState). p.to) c.new-pen.ensures)
     c.flush.ensures.report_files
-    ∙ on_report _ _ (ap (λ (p : PenState). p.to) c.new-pen.ensures) c.in-Ok.ensures.report_files
+    ∙ on-report _ _ (ap (λ (p : PenState). p.to) c.new-pen.ensures) c.in-Ok.ensures.report_files
 
 pub returns-clause-written_stays : goal.returns-clause-written_stays
 returns-clause-written_stays g c =
-    on_report _ _ (c.in-Ok.ensures.to_stays ∙ ap (λ (p : PenState). p.to) c.new-pen.ensures)
+    on-report _ _ (c.in-Ok.ensures.to_stays ∙ ap (λ (p : PenState). p.to) c.new-pen.ensures)
     c.flush.ensures.report_written
-    ∙ on_report _ _ (ap (λ (p : PenState). p.to) c.new-pen.ensures) c.in-Ok.ensures.report_written
+    ∙ on-report _ _ (ap (λ (p : PenState). p.to) c.new-pen.ensures) c.in-Ok.ensures.report_written
 
 pub returns-clause-openings_stay : goal.returns-clause-openings_stay
 returns-clause-openings_stay g c = c.flush.ensures.openings_stay ∙ c.in-Ok.ensures.openings_stay

@@ -9,29 +9,29 @@ use Rattle.hyd_controls_and_rules.proofs.changes_by_rules.act.Goals as goal
 
 pub returns-clause-links : goal.returns-clause-links
 returns-clause-links c =
-    let network = c.args.project.now in
-    let count = length network.links.list in
+    let project = c.args.project.now in
+    let count = length project.links.list in
     let table : c.deref.result.now ≡ c.rank_offers.new.best =
     c.deref.ensures.value ∙ whole_table c.rank_offers.new.best c.changes.inside.best.items
     c.changes.inside.best.len (omega arith) in
-    let are = subst (λ (best : List (Option program.Offer)). AreBest count (offers_from 0 network.rules.list
+    let are = subst (λ (best : List (Option program.Offer)). AreBest count (offers_from 0 project.rules.list
     c.args.values.now) best) (sym table) c.rank_offers.ensures in
-    c.carry_out.ensures.links ∙ states_are network c.args.values.now count c.deref.result.now
+    c.carry_out.ensures.links ∙ states_are project c.args.values.now count c.deref.result.now
     c.args.links.now are c.requires.each_link
 
 pub returns-clause-rows : goal.returns-clause-rows
 returns-clause-rows c =
-    let network = c.args.project.now in
-    let count = length network.links.list in
+    let project = c.args.project.now in
+    let count = length project.links.list in
     let table : c.deref.result.now ≡ c.rank_offers.new.best =
     c.deref.ensures.value ∙ whole_table c.rank_offers.new.best c.changes.inside.best.items
     c.changes.inside.best.len (omega arith) in
-    let are = subst (λ (best : List (Option program.Offer)). AreBest count (offers_from 0 network.rules.list
+    let are = subst (λ (best : List (Option program.Offer)). AreBest count (offers_from 0 project.rules.list
     c.args.values.now) best) (sym table) c.rank_offers.ensures in
     c.carry_out.ensures.rows
-    ∙ ap (λ (more : List Change). c.changes.inside.rows.list ++ more) (changes_are network
+    ∙ ap (λ (more : List Change). c.changes.inside.rows.list ++ more) (changes_are project
     c.args.values.now count c.deref.result.now c.args.links.now are c.requires.each_link)
-    ∙ ap (λ (view : ListView Change). view.list ++ rule_changes network c.args.values.now c.args.links.now)
+    ∙ ap (λ (view : ListView Change). view.list ++ rule_changes project c.args.values.now c.args.links.now)
     c.changes.view_is
 
 pub returns-clause-spare : goal.returns-clause-spare

@@ -6,14 +6,14 @@ use Rattle.hyd_controls_and_rules.proofs.clauses.head_ends.Goals as goal
 
 pub returns-in-Some : goal.returns-in-Some
 returns-in-Some c =
-    let network = c.args.instant.now.project.now in
+    let project = c.args.instant.now.project.now in
     let here = c.index-as_slice-tank.result in
     record {
-      lo = head_of_tank network (below c.args.instant.now) c.args.node c.in-Some.tank
+      lo = head_of_tank project (below c.args.instant.now) c.args.node c.in-Some.tank
           c.as_slice.result.now here _ c.level_ends.result.lo
           c.in-Some.ensures.tank (omega (arith, c.in-Some.ensures.tank)) c.as_slice.ensures
           c.index-as_slice-tank.is (omega (arith, ints)) c.level_ends.ensures.lo;
-      hi = head_of_tank network (above c.args.instant.now) c.args.node c.in-Some.tank
+      hi = head_of_tank project (above c.args.instant.now) c.args.node c.in-Some.tank
           c.as_slice.result.now here _ c.level_ends.result.hi
           c.in-Some.ensures.tank (omega (arith, c.in-Some.ensures.tank)) c.as_slice.ensures
           c.index-as_slice-tank.is (omega (arith, ints)) c.level_ends.ensures.hi;

@@ -1,7 +1,8 @@
 use Rattle.std.proofs.Common.{map, subst}
 use Rattle.hyd_spec.specs.ProgramTypes.{Rule}
+use Rattle.hyd_spec_certificates.specs.Spans.{levels_of, flows_of}
 use Rattle.hyd_spec_certificates.specs.Decided.{IsTruthBetween}
-use Rattle.hyd_controls_and_rules.specs.RuleReadings.{flow_interval, level_interval, lower_readings, upper_readings}
+use Rattle.hyd_controls_and_rules.specs.RuleReadings.{lower_readings, upper_readings}
 use Rattle.hyd_controls_and_rules.proofs.Opening.{sound_rule, rule_is}
 use Rattle.hyd_controls_and_rules.proofs.Truths.{truth_holds, truth_stays}
 use Rattle.hyd_controls_and_rules.proofs.rules.decide.Goals as goal
@@ -13,9 +14,9 @@ rule_truth-requires-clause-rule c =
 
 pub returns-clause-truth : goal.returns-clause-truth
 returns-clause-truth c = λ each there.
-    let low = lower_readings c.args.low.now (map flow_interval c.args.flows.now) (map level_interval c.args.levels.now)
+    let low = lower_readings c.args.low.now (map flows_of c.args.flows.now) (map levels_of c.args.levels.now)
     c.args.links.now in
-    let high = upper_readings c.args.high.now (map flow_interval c.args.flows.now) (map level_interval
+    let high = upper_readings c.args.high.now (map flows_of c.args.flows.now) (map levels_of
     c.args.levels.now) c.args.links.now in
     subst (λ (rule : Rule). IsTruthBetween c.args.project.now c.args.time low high rule c.rule_truth.result)
     (rule_is c.args.project.now c.args.rule c.as_slice.result.now c.index-as_slice-rule.result each

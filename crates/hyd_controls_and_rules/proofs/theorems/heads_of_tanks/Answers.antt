@@ -3,14 +3,14 @@ use Rattle.hyd_controls_and_rules.proofs.Unseen.{same_truth, heads_behind, still
 use Rattle.hyd_controls_and_rules.proofs.theorems.heads_of_tanks.Goals as goal
 
 pub returns-clause-truths : goal.returns-clause-truths
-returns-clause-truths c = λ network time below above other_below other_above rule truth alike alike_above.
-    same_truth network time below above other_below other_above rule truth alike alike_above
+returns-clause-truths c = λ project time below above other_below other_above rule truth alike alike_above.
+    same_truth project time below above other_below other_above rule truth alike alike_above
 
 pub returns-clause-between : goal.returns-clause-between
 returns-clause-between c = still_between
 
 pub returns-clause-below : goal.returns-clause-below
-returns-clause-below c = λ network low tanks flows levels links e. record {
+returns-clause-below c = λ project low tanks flows levels links e. record {
   heads = λ node h. heads_behind low tanks node (omega (arith, e, h));
   levels = refl;
   flows = refl;
@@ -18,7 +18,7 @@ returns-clause-below c = λ network low tanks flows levels links e. record {
 }
 
 pub returns-clause-above : goal.returns-clause-above
-returns-clause-above c = λ network high tanks flows levels links e. record {
+returns-clause-above c = λ project high tanks flows levels links e. record {
   heads = λ node h. heads_behind high tanks node (omega (arith, e, h));
   levels = refl;
   flows = refl;

@@ -2,7 +2,8 @@ use Rattle.std.proofs.Common.{FitsSigned, ◌^◌, ◌-ℤ◌, ◌*ℤ◌, pos, 
 use Rattle.std.specs.Int.{w128}
 use Rattle.std.proofs.lemmas.Int.{ints, to_z-of_z}
 use Rattle.hyd_curves.specs.PointsAsKnots.{knot_of}
-use Rattle.hyd_curves.proofs.LineLemmas.{above, low_is, high_is}
+use Rattle.hyd_lemmas.proofs.Trials.{lt_z-yes}
+use Rattle.hyd_curves.proofs.LineLemmas.{low_is, high_is}
 use Rattle.hyd_curves.proofs.pumps.begins_low.Goals as goal
 
 pub returns-then-first-gt-GREATEST_SHUTOFF : goal.returns-then-first-gt-GREATEST_SHUTOFF
@@ -15,7 +16,7 @@ returns-then-first-gt-GREATEST_SHUTOFF c =
     ) in
     high_is (knot_of c.args.first) (knot_of c.args.second) (pos (10 ^ 16)) c.requires.rises c.requires.first.forward
     (omega (arith, ints, c.requires.falls))
-    (above (pos (10 ^ 16)) c.args.first.value (rw (to_z-of_z w128 c.args.first.value fits) at
+    (lt_z-yes (pos (10 ^ 16)) c.args.first.value (rw (to_z-of_z w128 c.args.first.value fits) at
     c.if-first-gt-GREATEST_SHUTOFF.true))
 
 pub returns : goal.returns

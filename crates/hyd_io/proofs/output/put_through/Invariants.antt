@@ -1,27 +1,21 @@
-use Rattle.std.proofs.Common.{◌≡◌, ◌≢◌, ◌<◌, ◌++◌, ℕ, List, length, take, Some, is_some}
-use Rattle.hyd_io.specs.DeskBytes.{file_at, Moves}
-use Rattle.hyd_io.specs.Output.{by_channel, OnCert, OnReport}
+use Rattle.std.proofs.Common.{◌≡◌, ◌<◌, ◌++◌, length, take}
+use Rattle.hyd_io.specs.Buffers.{buffer_bytes}
+use Rattle.hyd_io.specs.DeskBytes.{Moves}
+use Rattle.hyd_io.specs.Output.{by_channel}
+use Rattle.hyd_io.specs.Keeping.{KeepsOthers}
 use Rattle.hyd_io.proofs.output.put_through.Given as goal
 
 -- a front of what was held and of the piece is out, the buffer holds what follows, and the desk is
 -- else as it was
 abbrev pub invariant-loop-rest : goal.invariant-loop-rest
 invariant-loop-rest g l = record {
-  room : l.used < 8192;
+  room : l.used < buffer_bytes;
   moves : Moves (by_channel l.to (g.D.Desk.written l.fn.desk) (g.D.Desk.printed l.fn.desk)) (by_channel l.to
       (g.D.Desk.written l.desk) (g.D.Desk.printed l.desk)) (take l.fn.used l.fn.buffer ++ l.piece) (take l.used
       l.buffer ++ l.rest);
   steady : g.D.Desk.counts l.desk ≡ g.D.Desk.counts l.fn.desk;
-  report_files : OnReport l.to (g.D.Desk.files l.desk ≡ g.D.Desk.files l.fn.desk);
-  report_written : OnReport l.to (g.D.Desk.written l.desk ≡ g.D.Desk.written l.fn.desk);
-  cert_printed : OnCert l.to (g.D.Desk.printed l.desk ≡ g.D.Desk.printed l.fn.desk);
-  others : (other : List ℕ) → g.D.Desk.target l.fn.desk ≢ Some other → file_at (g.D.Desk.files l.desk) other ≡ file_at
-      (g.D.Desk.files l.fn.desk) other;
-  still_told : is_some (g.D.Desk.files l.desk) ≡ is_some (g.D.Desk.files l.fn.desk);
-  rest_stays : g.D.Desk.rest l.desk ≡ g.D.Desk.rest l.fn.desk;
-  target_stays : g.D.Desk.target l.desk ≡ g.D.Desk.target l.fn.desk;
-  ready_stays : g.D.Desk.ready l.desk ≡ g.D.Desk.ready l.fn.desk;
-  openings_stay : g.D.Desk.openings l.desk ≡ g.D.Desk.openings l.fn.desk;
+  stays : KeepsOthers g.D.Desk.files g.D.Desk.rest g.D.Desk.written g.D.Desk.printed g.D.Desk.target g.D.Desk.ready
+      g.D.Desk.counts g.D.Desk.openings l.to l.fn.desk l.desk;
 }
 
 abbrev pub decreases-loop-rest : goal.decreases-loop-rest

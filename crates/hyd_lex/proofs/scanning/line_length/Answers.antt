@@ -1,6 +1,6 @@
 use Rattle.std.proofs.Common.{length, unwrap_or, ap, ◌∙◌}
 use Rattle.hyd_spec_lines.specs.WordsOfLines.{is_line_feed}
-use Rattle.hyd_lex.proofs.Places.{place_is}
+use Rattle.hyd_num.proofs.Digits.{place_is}
 use Rattle.hyd_lex.proofs.scanning.line_length.Goals as goal
 
 pub returns-in-None : goal.returns-in-None

@@ -1,6 +1,6 @@
 use Rattle.std.proofs.Common.{not, length, take, drop, unwrap_or, ap, sym, ◌∙◌}
 use Rattle.hyd_spec_lines.specs.WordsOfLines.{is_blank}
-use Rattle.hyd_lex.proofs.Places.{place_is}
+use Rattle.hyd_num.proofs.Digits.{place_is}
 use Rattle.hyd_lex.proofs.Words.{none_left, split_is, empty_is, filled_is}
 use Rattle.hyd_lex.proofs.scanning.split_word.Goals as goal
 

@@ -1,13 +1,13 @@
 use Rattle.std.proofs.Common.{◌∙◌, arith}
 use Rattle.std.specs.Prelude.{map}
+use Rattle.hyd_spec_certificates.specs.Spans.{levels_of}
 use Rattle.hyd_spec_reports.specs.Report.{control_event}
-use Rattle.hyd_period_facts.specs.FactsOfPeriod.{levels_of}
 use Rattle.hyd_period_events.proofs.Listing.{control_further, all_controls}
 use Rattle.hyd_period_events.proofs.controls.add_controls.Goals as goal
 
 pub loop-number-preserved : goal.loop-number-preserved
 loop-number-preserved c =
-    let network = c.args.project.now in
+    let project = c.args.project.now in
     let i = c.loop-number.number in
     let end = c.len-number-end.ensures in
     let test = c.loop-number-test.true in
@@ -18,7 +18,7 @@ loop-number-preserved c =
     let room = c.loop-number.invariant.room in
     record {
       events = listed ∙ control_further (control_event (map levels_of c.args.before.now)
-          (map levels_of c.args.carried.now)) network.controls.list c.args.events.now.list
+          (map levels_of c.args.carried.now)) project.controls.list c.args.events.now.list
           c.loop-number.events.list c.event_at.result i (omega (arith, end, test)) c.loop-number.invariant.events
           c.event_at.ensures;
       spare = omega (arith, spare, before);

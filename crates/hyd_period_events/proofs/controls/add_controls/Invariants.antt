@@ -1,8 +1,8 @@
 use Rattle.std.proofs.Common.{◌≡◌, ◌≤◌, ◌+◌, ◌++◌, length, take}
 use Rattle.std.specs.Prelude.{map}
 use Rattle.hyd_spec.specs.Lists.{map_from, present}
+use Rattle.hyd_spec_certificates.specs.Spans.{levels_of}
 use Rattle.hyd_spec_reports.specs.Report.{control_event}
-use Rattle.hyd_period_facts.specs.FactsOfPeriod.{levels_of}
 use Rattle.hyd_period_events.proofs.controls.add_controls.Given as goal
 
 abbrev pub invariant-loop-number : goal.invariant-loop-number

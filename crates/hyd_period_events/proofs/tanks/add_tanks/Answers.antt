@@ -5,7 +5,7 @@ use Rattle.hyd_period_events.proofs.tanks.add_tanks.Goals as goal
 
 pub loop-tank-preserved : goal.loop-tank-preserved
 loop-tank-preserved c =
-    let network = c.args.project.now in
+    let project = c.args.project.now in
     let i = c.loop-tank.tank in
     let end = c.len-tank-end.ensures in
     let test = c.loop-tank-test.true in
@@ -17,7 +17,7 @@ loop-tank-preserved c =
     let before = c.loop-tank.invariant.spare in
     let room = c.loop-tank.invariant.room in
     record {
-      events = listed ∙ tank_further network.tanks.list c.args.states.now c.args.carried.now c.args.events.now.list
+      events = listed ∙ tank_further project.tanks.list c.args.states.now c.args.carried.now c.args.events.now.list
           c.loop-tank.events.list (present (c.event_at.result ∷ [])) i (omega (arith, end, test))
           (omega (arith, end, test, states)) (omega (arith, end, test, levels)) c.loop-tank.invariant.events
           c.event_at.ensures;

@@ -55,7 +55,7 @@ end_at-requires-clause-changes c =
 
 pub loop-seconds-preserved : goal.loop-seconds-preserved
 loop-seconds-preserved c =
-    let network = c.args.project.now in
+    let project = c.args.project.now in
     let facts = c.args.facts.now in
     let low = c.args.low.now in
     let high = c.args.high.now in
@@ -64,10 +64,10 @@ loop-seconds-preserved c =
     let was = c.loop-seconds.invariant in
     record {
       later = let l = was.later in omega (arith, l);
-      multiple = next_multiple facts.time at network.times.rule was.multiple;
-      walked = walk_goes_on network facts low high flows at was.multiple
-          (subst (λ (f : Facts). ForPeriod network f low high flows
-          (λ grid standing row. RulesMatter network grid standing row at → ⊥)) was.facts c.in_default.ensures.none)
+      multiple = next_multiple facts.time at project.times.rule was.multiple;
+      walked = walk_goes_on project facts low high flows at was.multiple
+          (subst (λ (f : Facts). ForPeriod project f low high flows
+          (λ grid standing row. RulesMatter project grid standing row at → ⊥)) was.facts c.in_default.ensures.none)
           was.walked;
       facts = c.in_default.ensures.facts_stay ∙ was.facts;
       links = c.in_default.ensures.links_stay ∙ was.links;
@@ -79,7 +79,7 @@ loop-seconds-preserved c =
 
 pub returns-in-Some-clause-some : goal.returns-in-Some-clause-some
 returns-in-Some-clause-some c =
-    let network = c.args.project.now in
+    let project = c.args.project.now in
     let facts = c.args.facts.now in
     let low = c.args.low.now in
     let high = c.args.high.now in
@@ -88,10 +88,10 @@ returns-in-Some-clause-some c =
     let was = c.loop-seconds.invariant in
     let after = c.end_at.new.facts.changes.list in
     let links = c.end_at.new.links in
-    walk_finds network facts low high flows at c.args.last facts.changes.list after links c.in-Some.ending was.later
+    walk_finds project facts low high flows at c.args.last facts.changes.list after links c.in-Some.ending was.later
     was.multiple c.loop-seconds-test.true was.walked
-    (subst (λ (f : Facts). ForPeriod network f low high flows
-    (λ grid standing row. IsBrought network grid standing row at f.changes.list after links c.in-Some.ending)) was.facts
+    (subst (λ (f : Facts). ForPeriod project f low high flows
+    (λ grid standing row. IsBrought project grid standing row at f.changes.list after links c.in-Some.ending)) was.facts
     c.in-Some.ensures.some)
 
 pub returns-in-Some-clause-within : goal.returns-in-Some-clause-within

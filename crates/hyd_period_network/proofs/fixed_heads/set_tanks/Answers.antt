@@ -1,8 +1,8 @@
 use Rattle.std.proofs.Common.{◌<◌, ℕ, List, length, map, slice_index_or, pos, rules, subst, sym, ap, ◌∙◌, arith}
 use Rattle.hyd_spec.specs.ProgramTypes.{Tank}
+use Rattle.hyd_spec_certificates.specs.Spans.{levels_of}
 use Rattle.hyd_spec_certificates.specs.PeriodNetwork.{tank_intervals}
 use Rattle.hyd_spec_certificates.specs.declared.LevelSpan.{LevelSpan}
-use Rattle.hyd_period_network.specs.NetAsPeriodNetwork.{interval_of}
 use Rattle.hyd_period_network.specs.NetInvariant.{AreHeads}
 use Rattle.hyd_period_network.specs.Periods.{HasHeads}
 use Rattle.hyd_period_network.proofs.Writing.{more_set, intervals, heads_at}
@@ -38,7 +38,7 @@ returns-clause-set c =
     let i = intervals c.as_slice-tanks.result.now c.args.levels.now c.loop-i.heads
     (omega (arith, n, c.requires.levels.each)) (omega (arith, n, c.loop-i.invariant.count))
     (λ k s h. c.loop-i.invariant.set k s (omega (arith, h, c.loop-i-test.false))) in
-    i ∙ ap (λ (ts : List Tank). tank_intervals ts (map interval_of c.args.levels.now)) c.as_slice-tanks.ensures
+    i ∙ ap (λ (ts : List Tank). tank_intervals ts (map levels_of c.args.levels.now)) c.as_slice-tanks.ensures
 
 pub returns-clause-range : goal.returns-clause-range
 returns-clause-range c k d h =

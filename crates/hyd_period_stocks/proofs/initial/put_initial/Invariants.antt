@@ -2,9 +2,9 @@ use Rattle.std.proofs.Common.{◌≡◌, ℕ, ◌+◌, ◌<◌, ◌≤◌, lengt
 use Rattle.std.specs.Prelude.{Some, map, slice_get}
 use Rattle.hyd_spec.specs.ProgramTypes.{Tank}
 use Rattle.hyd_spec.specs.Tank.{walls_of, kept_volume}
+use Rattle.hyd_spec_certificates.specs.Spans.{levels_of}
 use Rattle.hyd_spec_certificates.specs.Interval.{exactly}
-use Rattle.hyd_tank.specs.StockIntervals.{initial_stocks, AreHeld}
-use Rattle.hyd_period_facts.specs.FactsOfPeriod.{levels_of, volumes_of}
+use Rattle.hyd_tank.specs.StockIntervals.{initial_stocks, AreHeld, volumes_of}
 use Rattle.hyd_period_stocks.proofs.initial.put_initial.Given as goal
 
 abbrev pub invariant-loop-tank : goal.invariant-loop-tank

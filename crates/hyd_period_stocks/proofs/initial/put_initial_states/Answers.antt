@@ -1,6 +1,6 @@
 use Rattle.std.proofs.Common.{◌∙◌, sym}
 use Rattle.std.specs.Prelude.{map}
-use Rattle.hyd_period_facts.specs.FactsOfPeriod.{levels_of}
+use Rattle.hyd_spec_certificates.specs.Spans.{levels_of}
 use Rattle.hyd_period_stocks.proofs.Starting.{none_at_start, states_are}
 use Rattle.hyd_period_stocks.proofs.initial.put_initial_states.Goals as goal
 

@@ -2,8 +2,8 @@ use Rattle.std.proofs.Common.{◌≡◌, ℕ, ◌+◌, ◌<◌, ◌≤◌, lengt
 use Rattle.std.specs.Prelude.{Some, map, slice_get}
 use Rattle.hyd_spec.specs.ProgramTypes.{Tank}
 use Rattle.hyd_spec.specs.Tank.{walls_of}
-use Rattle.hyd_tank.specs.StockIntervals.{AreHeld}
-use Rattle.hyd_period_facts.specs.FactsOfPeriod.{levels_of, volumes_of}
+use Rattle.hyd_spec_certificates.specs.Spans.{levels_of}
+use Rattle.hyd_tank.specs.StockIntervals.{AreHeld, volumes_of}
 use Rattle.hyd_period_stocks.specs.TankStart.{next_in}
 use Rattle.hyd_period_stocks.proofs.Stocking.{levels_in, volumes_in}
 use Rattle.hyd_period_stocks.proofs.stocks.put_stocks.Given as goal

@@ -1,4 +1,4 @@
-use Rattle.std.proofs.Common.{◌≡◌, ◌<◌, ◌∙◌, sym, subst, w64, to_z, of_z, arith, ℤ, length, Some}
+use Rattle.std.proofs.Common.{◌≡◌, ◌<◌, ◌∙◌, sym, subst, w64, to_z, of_z, arith, ℤ, length}
 use Rattle.std.specs.Prelude.{slice_set}
 use Rattle.std.proofs.lemmas.Int.{ints}
 use Rattle.std.proofs.lemmas.Bool.{false≢true}
@@ -6,13 +6,11 @@ use Rattle.hyd_spec.specs.Assignment.{head_at}
 use Rattle.hyd_spec_certificates.specs.Certificate.{Passes}
 use Rattle.hyd_spec_certificates.specs.PeriodNetwork.{GridJunction}
 use Rattle.hyd_period_network.specs.NetAsPeriodNetwork.{grid_of}
+use Rattle.hyd_lemmas.proofs.ListsAndOptions.{same_item}
 use Rattle.hyd_vector_check.proofs.Lookups.{junction-there}
 use Rattle.hyd_period_vectors.specs.TurnsTowardProposedHeads.{AreInTurn}
 use Rattle.hyd_period_vectors.proofs.Reaching.{turns-more}
 use Rattle.hyd_period_vectors.proofs.starting.take_turn.Goals as goal
-
-one : (X : Type 0) (x y : X) → ◌≡◌ {A = Rattle.std.specs.Prelude.Option X} (Some x) (Some y) → x ≡ y
-one X x y e = cc
 
 pub returns : goal.returns
 returns c =
@@ -34,5 +32,5 @@ returns c =
     (turns-more grid problem side c.junctions-junctions.ensures.steady v y i at.0 long inside at.1
     (λ passes. false≢true (sym c.if-passes.false ∙ c.passes.ensures.1 (λ other there.
     subst (λ (j : GridJunction). Passes grid problem side y i j)
-    (one GridJunction at.0 other (sym at.1 ∙ there)) passes)))
+    (same_item GridJunction at.0 other (sym at.1 ∙ there)) passes)))
     c.requires.turns)

@@ -2,7 +2,7 @@
 use Rattle.std.proofs.Common.{◌≡◌, ◌∙◌, ℕ, List, [], ◌∷◌, codes, append_assoc, refl}
 use Rattle.hyd_spec.specs.Lists.{joined}
 use Rattle.hyd_spec_reports.specs.CertificateText.{line}
-use Rattle.hyd_report.proofs.PutLemmas.{puts_same}
+use Rattle.hyd_io.proofs.PutLemmas.{puts_same}
 use Rattle.hyd_report.proofs.done_partial_and_refused_end.put_refused_end.Goals as goal
 
 end_text : (number : List ℕ) → joined (codes "BADCERT line " ∷ (number ∷ (codes " END" ∷ (codes "\n" ∷ []))))

@@ -7,15 +7,16 @@ use Rattle.hyd_spec_certificates.specs.declared.Problem.TheVariants.{Main}
 use Rattle.hyd_spec_certificates.specs.declared.Side.TheVariants.{Upper, Lower}
 use Rattle.hyd_period_network.specs.Periods.{ends_of}
 use Rattle.hyd_period_network.specs.NetAsPeriodNetwork.{grid_of, states_of}
-use Rattle.hyd_report.specs.Putting.{Puts}
-use Rattle.hyd_report.proofs.LineLemmas.{found, link_put}
+use Rattle.hyd_io.specs.Putting.{Puts}
+use Rattle.hyd_lemmas.proofs.ListsAndOptions.{item_there}
+use Rattle.hyd_report.proofs.LineLemmas.{link_put}
 use Rattle.hyd_report.proofs.LinkLemmas.{link_word}
 use Rattle.hyd_report.proofs.links.put_link.Goals as goal
 
 pub returns : goal.returns
 returns g c =
     let net = c.args.net.now in
-    let network = c.args.project.now in
+    let project = c.args.project.now in
     let below = all_heads (grid_of net) Main Lower c.args.lower.now in
     let above = all_heads (grid_of net) Main Upper c.args.upper.now in
     let within : c.args.link < length (grid_of net).links =
@@ -24,15 +25,15 @@ returns g c =
       c.links-links.ensures.each,
       c.requires.in_range,
       ap length c.requires.of.ends
-          ∙ length-map network.links.list ends_of,
+          ∙ length-map project.links.list ends_of,
     ) in
-    let place : (x : GridLink) × (slice_get (grid_of net).links c.args.link ≡ Some x) = found
+    let place : (x : GridLink) × (slice_get (grid_of net).links c.args.link ≡ Some x) = item_there
     (grid_of net).links c.args.link within in
-    link_put (slice_get network.links.list c.args.link) network (grid_of net) below above (states_of net)
+    link_put (slice_get project.links.list c.args.link) project (grid_of net) below above (states_of net)
     (λ (text : List ℕ). Puts g.D.Desk.files g.D.Desk.rest g.D.Desk.written g.D.Desk.printed g.D.Desk.target
     g.D.Desk.ready g.D.Desk.counts g.D.Desk.openings
     text c.put_parts.result c.args.pen.now c.put_parts.new.pen c.args.desk.now c.put_parts.new.desk)
     c.args.link c.flow_box-flow.result _ c.status_of-status.result place.0 place.1 c.flow_box-flow.ensures.flow
-    (link_word network net c.args.link below above c.status_of-status.result place.0 c.requires.of c.requires.states
+    (link_word project net c.args.link below above c.status_of-status.result place.0 c.requires.of c.requires.states
     c.requires.in_range place.1 c.status_of-status.ensures.word)
     c.print_flows-flow.ensures c.put_parts.ensures

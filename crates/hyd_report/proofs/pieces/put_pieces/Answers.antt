@@ -1,7 +1,7 @@
 -- One text follows another.
 use Rattle.std.proofs.Common.{ℕ, List, Bor}
 use Rattle.hyd_report.proofs.Joining.{joined-more, joined-split}
-use Rattle.hyd_report.proofs.PutLemmas.{puts_then, puts_cut, puts_same}
+use Rattle.hyd_io.proofs.PutLemmas.{puts_then, puts_cut, puts_same}
 use Rattle.hyd_report.proofs.pieces.put_pieces.Goals as goal
 
 pub returns-in-Err : goal.returns-in-Err

@@ -3,7 +3,7 @@ use Rattle.std.proofs.Common.{◌≡◌, ◌∙◌, ℕ, List, [], ◌∷◌, co
 use Rattle.std.specs.Fmt.{decimal}
 use Rattle.hyd_spec.specs.Lists.{joined}
 use Rattle.hyd_spec_reports.specs.CertificateText.{line}
-use Rattle.hyd_report.proofs.PutLemmas.{puts_same}
+use Rattle.hyd_io.proofs.PutLemmas.{puts_same}
 use Rattle.hyd_report.proofs.refused_text.put_refused_text.Goals as goal
 
 line_text : (n c d : List ℕ) → joined (codes "REFUSED line " ∷ (n ∷ (codes " cause " ∷ (c ∷ (codes " detail " ∷ (d

@@ -3,7 +3,7 @@ use Rattle.std.proofs.Common.{◌+◌, drop, refl}
 use Rattle.hyd_spec_reports.specs.Report.{change_line, event_line}
 use Rattle.hyd_report.specs.EventTextsAndChangesByRules.{before_rules}
 use Rattle.hyd_report.proofs.LineLemmas.{end_text}
-use Rattle.hyd_report.proofs.PutLemmas.{puts_then, puts_cut, puts_same}
+use Rattle.hyd_io.proofs.PutLemmas.{puts_then, puts_cut, puts_same}
 use Rattle.hyd_report.proofs.report.put_end.Goals as goal
 
 pub returns-in-Err : goal.returns-in-Err

@@ -5,9 +5,10 @@ use Rattle.hyd_period_network.specs.Periods.{ends_of}
 use Rattle.hyd_cert.specs.RecordView.{row_of}
 use Rattle.hyd_period_network.specs.NetAsPeriodNetwork.{grid_of, states_of}
 use Rattle.hyd_report.specs.PeriodLines.{start_lines, middle_lines, end_lines}
+use Rattle.hyd_period_network.proofs.Counts.{links_count}
 use Rattle.hyd_report.proofs.LineLemmas.{three_text}
-use Rattle.hyd_report.proofs.PutLemmas.{puts_then, puts_cut, puts_same}
-use Rattle.hyd_report.proofs.ReportLemmas.{length-links_of, lines_are_report}
+use Rattle.hyd_io.proofs.PutLemmas.{puts_then, puts_cut, puts_same}
+use Rattle.hyd_report.proofs.ReportLemmas.{lines_are_report}
 use Rattle.hyd_report.proofs.report.put_report.Goals as goal
 
 pub returns-in-Err-clause-puts : goal.returns-in-Err-clause-puts
@@ -39,35 +40,35 @@ returns-clause-puts g c =
 pub returns-in-Err-clause-report : goal.returns-in-Err-clause-report
 returns-in-Err-clause-report g c =
     let net = c.args.net.now in
-    let network = c.args.project.now in
+    let project = c.args.project.now in
     let of = c.requires.of in
-    let ends : length net.ends ≡ length network.links.list = ap length of.ends
-    ∙ length-map network.links.list ends_of in
-    let each : length (grid_of net).links ≡ length network.links.list =
-    length-links_of net.ends net.settings net.own (of.each_setting ∙ sym ends) (of.each_own ∙ sym ends) ∙ ends in
-    λ standing are. lines_are_report network (grid_of net) (states_of net) standing
+    let ends : length net.ends ≡ length project.links.list = ap length of.ends
+    ∙ length-map project.links.list ends_of in
+    let each : length (grid_of net).links ≡ length project.links.list =
+    links_count net.ends net.settings net.own (of.each_setting ∙ sym ends) (of.each_own ∙ sym ends) ∙ ends in
+    λ standing are. lines_are_report project (grid_of net) (states_of net) standing
     (row_of c.args.row.now) c.args.facts.now are c.requires.tanks c.requires.links each
 
 pub returns-in-Err-put_middle-clause-report : goal.returns-in-Err-put_middle-clause-report
 returns-in-Err-put_middle-clause-report g c =
     let net = c.args.net.now in
-    let network = c.args.project.now in
+    let project = c.args.project.now in
     let of = c.requires.of in
-    let ends : length net.ends ≡ length network.links.list = ap length of.ends
-    ∙ length-map network.links.list ends_of in
-    let each : length (grid_of net).links ≡ length network.links.list =
-    length-links_of net.ends net.settings net.own (of.each_setting ∙ sym ends) (of.each_own ∙ sym ends) ∙ ends in
-    λ standing are. lines_are_report network (grid_of net) (states_of net) standing
+    let ends : length net.ends ≡ length project.links.list = ap length of.ends
+    ∙ length-map project.links.list ends_of in
+    let each : length (grid_of net).links ≡ length project.links.list =
+    links_count net.ends net.settings net.own (of.each_setting ∙ sym ends) (of.each_own ∙ sym ends) ∙ ends in
+    λ standing are. lines_are_report project (grid_of net) (states_of net) standing
     (row_of c.args.row.now) c.args.facts.now are c.requires.tanks c.requires.links each
 
 pub returns-clause-report : goal.returns-clause-report
 returns-clause-report g c =
     let net = c.args.net.now in
-    let network = c.args.project.now in
+    let project = c.args.project.now in
     let of = c.requires.of in
-    let ends : length net.ends ≡ length network.links.list = ap length of.ends
-    ∙ length-map network.links.list ends_of in
-    let each : length (grid_of net).links ≡ length network.links.list =
-    length-links_of net.ends net.settings net.own (of.each_setting ∙ sym ends) (of.each_own ∙ sym ends) ∙ ends in
-    λ standing are. lines_are_report network (grid_of net) (states_of net) standing
+    let ends : length net.ends ≡ length project.links.list = ap length of.ends
+    ∙ length-map project.links.list ends_of in
+    let each : length (grid_of net).links ≡ length project.links.list =
+    links_count net.ends net.settings net.own (of.each_setting ∙ sym ends) (of.each_own ∙ sym ends) ∙ ends in
+    λ standing are. lines_are_report project (grid_of net) (states_of net) standing
     (row_of c.args.row.now) c.args.facts.now are c.requires.tanks c.requires.links each

@@ -3,7 +3,7 @@ use Rattle.std.proofs.Common.{take}
 use Rattle.hyd_spec_reports.specs.Report.{change_line}
 use Rattle.hyd_report.specs.EventTextsAndChangesByRules.{before_rules}
 use Rattle.hyd_report.proofs.LineLemmas.{items_text}
-use Rattle.hyd_report.proofs.PutLemmas.{puts_then, puts_cut, puts_same}
+use Rattle.hyd_io.proofs.PutLemmas.{puts_then, puts_cut, puts_same}
 use Rattle.hyd_report.proofs.report.put_start.Goals as goal
 
 pub returns-in-Err : goal.returns-in-Err

@@ -11,7 +11,7 @@ use Rattle.hyd_period_network.specs.NetAsPeriodNetwork.{grid_of, states_of}
 use Rattle.hyd_bounds.specs.VectorsInOrder.{AreInOrder}
 use Rattle.hyd_report.specs.NodeAndLinkLines.{texts, reservoir_line, tank_line, link_line}
 use Rattle.hyd_report.proofs.LineLemmas.{in_order, state_text}
-use Rattle.hyd_report.proofs.PutLemmas.{puts_then, puts_cut, puts_same, puts_ready}
+use Rattle.hyd_io.proofs.PutLemmas.{puts_then, puts_cut, puts_same, puts_ready}
 use Rattle.hyd_report.proofs.report.put_state.Goals as goal
 
 pub put_junctions-requires-clause-ordered : goal.put_junctions-requires-clause-ordered
@@ -46,53 +46,53 @@ returns-in-Err g c = puts_cut _ _ c.in-Err.fault _ _ _ _ (c.in-Err.ensures c.arg
 pub returns-in-Err-put_junctions : goal.returns-in-Err-put_junctions
 returns-in-Err-put_junctions g c =
     let net = c.args.net.now in
-    let network = c.args.project.now in
+    let project = c.args.project.now in
     let row = row_of c.args.row.now in
     let facts = c.args.facts.now in
-    let rs = map_from (reservoir_line network) 0 (grid_of net).reservoirs in
-    let tls = map_from (tank_line network facts.levels.list facts.inflows.list facts.tanks.list) 0 network.tanks.list
-    ++ map_from (link_line network (grid_of net) (heads_below (grid_of net) row) (heads_above (grid_of net) row)
-    (states_of net)) 0 network.links.list in
+    let rs = map_from (reservoir_line project) 0 (grid_of net).reservoirs in
+    let tls = map_from (tank_line project facts.levels.list facts.inflows.list facts.tanks.list) 0 project.tanks.list
+    ++ map_from (link_line project (grid_of net) (heads_below (grid_of net) row) (heads_above (grid_of net) row)
+    (states_of net)) 0 project.links.list in
     puts_same _ _ _ _ _ _ _
-    (state_text network (TimeLine facts.time) c.vector-lower.result.now row.main.lower c.vector-upper.result.now
+    (state_text project (TimeLine facts.time) c.vector-lower.result.now row.main.lower c.vector-upper.result.now
     row.main.upper (grid_of net).junctions rs tls
     c.vector-lower.ensures c.vector-upper.ensures)
-    (puts_then _ _ _ _ _ _ _ _ _ (c.in-Ok.ensures network)
-    (puts_cut _ (texts network rs ++ texts network tls) c.in-Err-put_junctions.fault _ _ _ _
+    (puts_then _ _ _ _ _ _ _ _ _ (c.in-Ok.ensures project)
+    (puts_cut _ (texts project rs ++ texts project tls) c.in-Err-put_junctions.fault _ _ _ _
     c.in-Err-put_junctions.ensures))
 
 pub returns-in-Err-put_reservoirs : goal.returns-in-Err-put_reservoirs
 returns-in-Err-put_reservoirs g c =
     let net = c.args.net.now in
-    let network = c.args.project.now in
+    let project = c.args.project.now in
     let row = row_of c.args.row.now in
     let facts = c.args.facts.now in
-    let rs = map_from (reservoir_line network) 0 (grid_of net).reservoirs in
-    let tls = map_from (tank_line network facts.levels.list facts.inflows.list facts.tanks.list) 0 network.tanks.list
-    ++ map_from (link_line network (grid_of net) (heads_below (grid_of net) row) (heads_above (grid_of net) row)
-    (states_of net)) 0 network.links.list in
+    let rs = map_from (reservoir_line project) 0 (grid_of net).reservoirs in
+    let tls = map_from (tank_line project facts.levels.list facts.inflows.list facts.tanks.list) 0 project.tanks.list
+    ++ map_from (link_line project (grid_of net) (heads_below (grid_of net) row) (heads_above (grid_of net) row)
+    (states_of net)) 0 project.links.list in
     puts_same _ _ _ _ _ _ _
-    (state_text network (TimeLine facts.time) c.vector-lower.result.now row.main.lower c.vector-upper.result.now
+    (state_text project (TimeLine facts.time) c.vector-lower.result.now row.main.lower c.vector-upper.result.now
     row.main.upper (grid_of net).junctions rs tls
     c.vector-lower.ensures c.vector-upper.ensures)
-    (puts_then _ _ _ _ _ _ _ _ _ (c.in-Ok.ensures network)
+    (puts_then _ _ _ _ _ _ _ _ _ (c.in-Ok.ensures project)
     (puts_then _ _ _ _ _ _ _ _ _ c.in-Ok-put_junctions.ensures
-    (puts_cut _ (texts network tls) c.in-Err-put_reservoirs.fault _ _ _ _ c.in-Err-put_reservoirs.ensures)))
+    (puts_cut _ (texts project tls) c.in-Err-put_reservoirs.fault _ _ _ _ c.in-Err-put_reservoirs.ensures)))
 
 pub returns : goal.returns
 returns g c =
     let net = c.args.net.now in
-    let network = c.args.project.now in
+    let project = c.args.project.now in
     let row = row_of c.args.row.now in
     let facts = c.args.facts.now in
-    let rs = map_from (reservoir_line network) 0 (grid_of net).reservoirs in
-    let tls = map_from (tank_line network facts.levels.list facts.inflows.list facts.tanks.list) 0 network.tanks.list
-    ++ map_from (link_line network (grid_of net) (heads_below (grid_of net) row) (heads_above (grid_of net) row)
-    (states_of net)) 0 network.links.list in
+    let rs = map_from (reservoir_line project) 0 (grid_of net).reservoirs in
+    let tls = map_from (tank_line project facts.levels.list facts.inflows.list facts.tanks.list) 0 project.tanks.list
+    ++ map_from (link_line project (grid_of net) (heads_below (grid_of net) row) (heads_above (grid_of net) row)
+    (states_of net)) 0 project.links.list in
     puts_same _ _ _ _ _ _ _
-    (state_text network (TimeLine facts.time) c.vector-lower.result.now row.main.lower c.vector-upper.result.now
+    (state_text project (TimeLine facts.time) c.vector-lower.result.now row.main.lower c.vector-upper.result.now
     row.main.upper (grid_of net).junctions rs tls
     c.vector-lower.ensures c.vector-upper.ensures)
-    (puts_then _ _ _ _ _ _ _ _ _ (c.in-Ok.ensures network)
+    (puts_then _ _ _ _ _ _ _ _ _ (c.in-Ok.ensures project)
     (puts_then _ _ _ _ _ _ _ _ _ c.in-Ok-put_junctions.ensures
     (puts_then _ _ _ _ _ _ _ _ _ c.in-Ok-put_reservoirs.ensures c.put_tanks_and_links.ensures)))

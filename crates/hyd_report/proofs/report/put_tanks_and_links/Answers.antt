@@ -3,7 +3,7 @@ use Rattle.std.proofs.Common.{refl}
 use Rattle.hyd_cert.specs.RecordView.{row_of}
 use Rattle.hyd_period_network.specs.NetAsPeriodNetwork.{grid_of, states_of}
 use Rattle.hyd_report.proofs.LineLemmas.{tanks_text}
-use Rattle.hyd_report.proofs.PutLemmas.{puts_then, puts_cut, puts_same}
+use Rattle.hyd_io.proofs.PutLemmas.{puts_then, puts_cut, puts_same}
 use Rattle.hyd_report.proofs.report.put_tanks_and_links.Goals as goal
 
 pub returns-in-Err : goal.returns-in-Err

@@ -1,7 +1,7 @@
 -- One part after another.
 use Rattle.std.proofs.Common.{codes}
 use Rattle.hyd_report.proofs.StopLemmas.{three_pieces}
-use Rattle.hyd_report.proofs.PutLemmas.{puts_then, puts_cut, puts_same}
+use Rattle.hyd_io.proofs.PutLemmas.{puts_then, puts_cut, puts_same}
 use Rattle.hyd_report.proofs.stops.put_failing.Goals as goal
 
 pub returns-in-Err : goal.returns-in-Err

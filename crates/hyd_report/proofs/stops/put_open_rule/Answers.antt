@@ -3,7 +3,7 @@ use Rattle.std.proofs.Common.{◌≡◌, ◌∙◌, ◌+◌, ◌++◌, ap, codes
 use Rattle.std.specs.Fmt.{decimal, signed_decimal}
 use Rattle.hyd_spec_reports.specs.ReportLine.{rule_id}
 use Rattle.hyd_report.proofs.StopLemmas.{rule_text}
-use Rattle.hyd_report.proofs.PutLemmas.{puts_then, puts_cut, puts_same}
+use Rattle.hyd_io.proofs.PutLemmas.{puts_then, puts_cut, puts_same}
 use Rattle.hyd_report.proofs.stops.put_open_rule.Goals as goal
 
 pub returns-in-Err : goal.returns-in-Err

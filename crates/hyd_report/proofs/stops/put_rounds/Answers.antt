@@ -2,7 +2,7 @@
 use Rattle.std.proofs.Common.{codes, ◌∙◌, ap}
 use Rattle.std.specs.Fmt.{decimal}
 use Rattle.hyd_report.proofs.StopLemmas.{three_pieces}
-use Rattle.hyd_report.proofs.PutLemmas.{puts_then, puts_cut, puts_same}
+use Rattle.hyd_io.proofs.PutLemmas.{puts_then, puts_cut, puts_same}
 use Rattle.hyd_report.proofs.stops.put_rounds.Goals as goal
 
 pub returns-in-Err : goal.returns-in-Err

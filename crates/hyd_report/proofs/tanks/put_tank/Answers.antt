@@ -1,9 +1,9 @@
 -- The line of the tank that is there.
 use Rattle.std.proofs.Common.{ℕ, List, to_z-of_z, FitsSigned, w64}
 use Rattle.std.specs.Prelude.{slice_get}
-use Rattle.hyd_period_facts.specs.FactsOfPeriod.{levels_of, flows_of}
+use Rattle.hyd_spec_certificates.specs.Spans.{levels_of, flows_of}
 use Rattle.hyd_spec_certificates.specs.Interval.{shifted}
-use Rattle.hyd_report.specs.Putting.{Puts}
+use Rattle.hyd_io.specs.Putting.{Puts}
 use Rattle.hyd_report.specs.Printing.{printed, quantity_in, ArePrinted}
 use Rattle.hyd_report.specs.declared.printed_intervals.Quantity.TheVariants.{Head}
 use Rattle.hyd_report.proofs.LineLemmas.{tank_put}

@@ -2,7 +2,7 @@
 use Rattle.std.proofs.Common.{ℕ, List, ◌<◌, length, arith}
 use Rattle.std.specs.Prelude.{Ok, Err, slice_get}
 use Rattle.hyd_report.specs.NodeAndLinkLines.{tank_line}
-use Rattle.hyd_report.specs.Putting.{Puts}
+use Rattle.hyd_io.specs.Putting.{Puts}
 use Rattle.hyd_report.proofs.LineLemmas.{tank_read}
 use Rattle.hyd_report.proofs.LoopLemmas.{line_put, line_cut}
 use Rattle.hyd_report.proofs.tanks.put_tanks.Goals as goal
@@ -10,11 +10,11 @@ use Rattle.hyd_report.proofs.tanks.put_tanks.Goals as goal
 pub returns-in-Err : goal.returns-in-Err
 returns-in-Err g c =
     let k = c.loop-k.k in
-    let network = c.args.project.now in
-    let within : k < length network.tanks.list = omega arith in
-    line_cut network (tank_line network c.args.levels.now c.args.inflows.now c.args.states.now) network.tanks.list
+    let project = c.args.project.now in
+    let within : k < length project.tanks.list = omega arith in
+    line_cut project (tank_line project c.args.levels.now c.args.inflows.now c.args.states.now) project.tanks.list
     k _ _ _ _ _ _ c.in-Err.fault within c.loop-k.invariant
-    (tank_read (slice_get network.tanks.list k) network
+    (tank_read (slice_get project.tanks.list k) project
     (λ (text : List ℕ). Puts g.D.Desk.files g.D.Desk.rest g.D.Desk.written g.D.Desk.printed g.D.Desk.target
     g.D.Desk.ready g.D.Desk.counts g.D.Desk.openings
     text (Err c.in-Err.fault) c.loop-k.pen c.put_tank.new.pen c.loop-k.desk c.put_tank.new.desk)
@@ -25,11 +25,11 @@ returns-in-Err g c =
 pub loop-k-preserved : goal.loop-k-preserved
 loop-k-preserved g c =
     let k = c.loop-k.k in
-    let network = c.args.project.now in
-    let within : k < length network.tanks.list = omega arith in
-    line_put network (tank_line network c.args.levels.now c.args.inflows.now c.args.states.now) network.tanks.list
+    let project = c.args.project.now in
+    let within : k < length project.tanks.list = omega arith in
+    line_put project (tank_line project c.args.levels.now c.args.inflows.now c.args.states.now) project.tanks.list
     k _ _ _ _ _ _ within c.loop-k.invariant
-    (tank_read (slice_get network.tanks.list k) network
+    (tank_read (slice_get project.tanks.list k) project
     (λ (text : List ℕ). Puts g.D.Desk.files g.D.Desk.rest g.D.Desk.written g.D.Desk.printed g.D.Desk.target
     g.D.Desk.ready g.D.Desk.counts g.D.Desk.openings
     text (Ok (tt {0})) c.loop-k.pen c.put_tank.new.pen c.loop-k.desk c.put_tank.new.desk)

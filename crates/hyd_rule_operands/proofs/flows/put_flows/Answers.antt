@@ -4,8 +4,9 @@ use Rattle.std.specs.List.{All}
 use Rattle.std.proofs.lemmas.List.{length_push}
 use Rattle.std.proofs.lemmas.List.Elements.{All-push}
 use Rattle.hyd_num.specs.declared.decimals.Span.{Span}
+use Rattle.hyd_spec_certificates.specs.Spans.{flows_of}
 use Rattle.hyd_period_network.specs.NetAsPeriodNetwork.{grid_of}
-use Rattle.hyd_controls_and_rules.specs.RuleReadings.{flow_interval, IsBounded}
+use Rattle.hyd_controls_and_rules.specs.RuleReadings.{IsBounded}
 use Rattle.hyd_rule_operands.specs.FlowBoxes.{box_between}
 use Rattle.hyd_rule_operands.proofs.Reading.{one_more, all_flows}
 use Rattle.hyd_rule_operands.proofs.flows.put_flows.Goals as goal
@@ -25,7 +26,7 @@ loop-link-preserved c =
     let test = c.loop-link-test.true in
     record {
       count = omega (arith, ap length listed, long, count);
-      flows = ap (map flow_interval) listed ∙ one_more (box_between grid c.args.low.now c.args.high.now) grid.links
+      flows = ap (map flows_of) listed ∙ one_more (box_between grid c.args.low.now c.args.high.now) grid.links
           c.loop-link.flows.list flow i (omega (arith, end, each, test)) c.loop-link.invariant.flows
           c.flow_box.ensures.flow;
       bounded = subst (λ (xs : List Span). All IsBounded xs) (sym listed)

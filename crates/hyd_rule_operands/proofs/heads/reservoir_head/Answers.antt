@@ -5,7 +5,8 @@ use Rattle.hyd_spec_certificates.specs.PeriodNetwork.{fixed_heads}
 use Rattle.hyd_spec_certificates.specs.declared.Problem.TheVariants.{Main}
 use Rattle.hyd_spec_certificates.specs.declared.Side.TheVariants.{Lower}
 use Rattle.hyd_period_network.specs.NetAsPeriodNetwork.{grid_of}
-use Rattle.hyd_rule_operands.proofs.Reading.{heads_of, heads_of-length, head_behind, head_before, reservoir_is}
+use Rattle.hyd_theorems_on_definitions.proofs.HeadLists.{heads_of, head_behind, head_before, heads_of-length}
+use Rattle.hyd_rule_operands.proofs.Reading.{reservoir_is}
 use Rattle.hyd_rule_operands.proofs.heads.reservoir_head.Goals as goal
 
 pub returns : goal.returns

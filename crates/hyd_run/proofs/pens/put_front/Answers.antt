@@ -4,8 +4,8 @@ use Rattle.std.specs.Prelude.{IsTrue}
 use Rattle.hyd_run.proofs.PenLemmas.{on_any, both-put, first-cut}
 use Rattle.hyd_run.proofs.pens.put_front.Goals as goal
 
-pub put_header-requires : goal.put_header-requires
-put_header-requires g c = on_any _ _ c.requires.ready
+pub put_head-requires : goal.put_head-requires
+put_head-requires g c = on_any _ _ c.requires.ready
 
 pub put_first-requires : goal.put_first-requires
 put_first-requires g c = on_any _ _ (subst IsTrue (sym c.in-Ok.ensures.ready_stays) c.requires.ready)

@@ -4,8 +4,8 @@ use Rattle.std.specs.Prelude.{IsTrue}
 use Rattle.hyd_run.proofs.PenLemmas.{on_any, both-put, first-cut}
 use Rattle.hyd_run.proofs.period_and_last_lines.put_last.Goals as goal
 
-pub put_end_line-requires : goal.put_end_line-requires
-put_end_line-requires g c = on_any _ _ c.requires.unbroken.ready
+pub put_end-requires : goal.put_end-requires
+put_end-requires g c = on_any _ _ c.requires.unbroken.ready
 
 pub put_last_line-requires-clause-ready : goal.put_last_line-requires-clause-ready
 put_last_line-requires-clause-ready g c = on_any _ _ (subst IsTrue (sym c.in-Ok.ensures.ready_stays)

@@ -6,8 +6,8 @@ use Rattle.hyd_run.proofs.PenLemmas.{on_any, both-put, first-cut}
 use Rattle.hyd_run.proofs.PeriodLemmas.{bounds-of}
 use Rattle.hyd_run.proofs.period_and_last_lines.put_period.Goals as goal
 
-pub put_row-requires : goal.put_row-requires
-put_row-requires g c = on_any _ _ c.requires.unbroken.ready
+pub put_record-requires : goal.put_record-requires
+put_record-requires g c = on_any _ _ c.requires.unbroken.ready
 
 pub put_report-requires-clause-bounds : goal.put_report-requires-clause-bounds
 put_report-requires-clause-bounds g c =

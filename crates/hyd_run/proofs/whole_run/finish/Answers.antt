@@ -5,8 +5,8 @@ use Rattle.hyd_run.proofs.EndLemmas.{pen-fresh}
 use Rattle.hyd_run.proofs.whole_run.finish.Goals as goal
 
 pub returns-in-Ok-clause-puts : goal.returns-in-Ok-clause-puts
-returns-in-Ok-clause-puts g c = λ network settings start whole.
-    whole-emptied network settings (outcome_of c.args.end) start _ _ whole c.in-Ok.ensures.puts
+returns-in-Ok-clause-puts g c = λ project settings start whole.
+    whole-emptied project settings (outcome_of c.args.end) start _ _ whole c.in-Ok.ensures.puts
 
 pub returns-in-Ok-clause-certificate : goal.returns-in-Ok-clause-certificate
 returns-in-Ok-clause-certificate g c =
@@ -19,5 +19,5 @@ returns-in-Ok-clause-report g c =
     pen-fresh _ _ unbroken.report_to unbroken.report_fault c.in-Ok.ensures.report
 
 pub returns-in-Err-clause-puts : goal.returns-in-Err-clause-puts
-returns-in-Err-clause-puts g c = λ network settings start whole.
-    whole-cut network settings c.in-Err.fault (outcome_of c.args.end) start _ _ whole c.in-Err.ensures.puts
+returns-in-Err-clause-puts g c = λ project settings start whole.
+    whole-cut project settings c.in-Err.fault (outcome_of c.args.end) start _ _ whole c.in-Err.ensures.puts

@@ -5,8 +5,9 @@ use Rattle.hyd_cert.specs.Vectors.{behind_two}
 use Rattle.hyd_cert.specs.RecordView.{row_of}
 use Rattle.hyd_period_network.specs.NetAsPeriodNetwork.{grid_of}
 use Rattle.hyd_sim.specs.View.{standing_for}
+use Rattle.hyd_tank_inflows.proofs.Placing.{problems_count}
 use Rattle.hyd_sim.proofs.Refusing.{shares-taken, fails-refused}
-use Rattle.hyd_sim.proofs.Running.{net-junctions, problems-each, certificates-of}
+use Rattle.hyd_sim.proofs.Running.{net-junctions, certificates-of}
 use Rattle.hyd_sim.proofs.accept.certify.Goals as goal
 
 pub check_vectors-requires : goal.check_vectors-requires
@@ -35,7 +36,7 @@ returns-clause-certificates c =
     let net = c.args.net.now in
     let given = c.args.given.now in
     let pinned : length (row_of given).pinned ≡ length net.tanks =
-    problems-each given.junctions given.tanks (behind_two given.junctions given.vectors.list)
+    problems_count given.junctions given.tanks (behind_two given.junctions given.vectors.list)
     ∙ (c.requires.tanks ∙ sym c.requires.of.each_tank) in
     certificates-of c.args.project.now (grid_of net) (length net.tanks) (row_of given) c.requires.of.each_tank pinned
     c.in_default.ensures.certificates

@@ -38,36 +38,36 @@ returns-then-is_err-clause-refused c =
 
 pub returns-then-row-given-clause-refused : goal.returns-then-row-given-clause-refused
 returns-then-row-given-clause-refused c =
-    let network = c.args.project.now in
+    let project = c.args.project.now in
     let here = c.args.standing.now in
     let net = c.args.net.now in
     let given = row_of c.args.given.now in
     let row = c.end_period.new.row in
     let share = shares-again given c.certify.new.row row c.in_ok-certify.ensures.shares c.end_period.ensures.row in
-    let made : IsMade network here net row c.end_period.new.facts c.end_period.new.close =
-    made-of network here net c.args.row.now row c.args.facts.now c.end_period.new.facts c.end_period.new.close
+    let made : IsMade project here net row c.end_period.new.facts c.end_period.new.close =
+    made-of project here net c.args.row.now row c.args.facts.now c.end_period.new.facts c.end_period.new.close
     c.requires.started c.requires.in_place.unfinished
     (ap (λ (r : Row). r.number) c.end_period.ensures.row ∙ c.certify.ensures.stays.number)
     (ap (λ (r : Row). r.time) c.end_period.ensures.row ∙ c.certify.ensures.stays.time) c.end_period.ensures.links
-    (certificates-shared network (grid_of net) given (row_of row) share c.in_ok-certify.ensures.certificates)
+    (certificates-shared project (grid_of net) given (row_of row) share c.in_ok-certify.ensures.certificates)
     (not-err _ c.end_period.result (sym c.is_err.ensures.value ∙ c.if-is_err.false) c.end_period.ensures.over) in
-    other-length-refused network (standing_for here) (grid_of net) given (row_of row) _ made.valid share
+    other-length-refused project (standing_for here) (grid_of net) given (row_of row) _ made.valid share
     (c.requires.in_place.due.number ∙ sym made.valid.number) (c.requires.in_place.due.time ∙ sym made.valid.time)
     (λ e. c.if-row-given.true (sym e))
 
 pub returns-clause-made : goal.returns-clause-made
 returns-clause-made c =
-    let network = c.args.project.now in
+    let project = c.args.project.now in
     let here = c.args.standing.now in
     let net = c.args.net.now in
     let given = row_of c.args.given.now in
     let row = c.end_period.new.row in
     let share = shares-again given c.certify.new.row row c.in_ok-certify.ensures.shares c.end_period.ensures.row in
-    made-of network here net c.args.row.now row c.args.facts.now c.end_period.new.facts c.end_period.new.close
+    made-of project here net c.args.row.now row c.args.facts.now c.end_period.new.facts c.end_period.new.close
     c.requires.started c.requires.in_place.unfinished
     (ap (λ (r : Row). r.number) c.end_period.ensures.row ∙ c.certify.ensures.stays.number)
     (ap (λ (r : Row). r.time) c.end_period.ensures.row ∙ c.certify.ensures.stays.time) c.end_period.ensures.links
-    (certificates-shared network (grid_of net) given (row_of row) share c.in_ok-certify.ensures.certificates)
+    (certificates-shared project (grid_of net) given (row_of row) share c.in_ok-certify.ensures.certificates)
     (not-err _ c.end_period.result (sym c.is_err.ensures.value ∙ c.if-is_err.false) c.end_period.ensures.over)
 
 pub returns-clause-row : goal.returns-clause-row

@@ -17,12 +17,12 @@ returns-clause-taken c =
 
 pub returns-clause-exactly : goal.returns-clause-exactly
 returns-clause-exactly c = λ cause is.
-    let network = c.args.project.now in
+    let project = c.args.project.now in
     let here = c.args.standing.now in
     let grid = grid_of c.check_due.new.net in
-    let next = next_standing network here c.check_due.new.row.length c.check_due.new.close in
-    absurd (refused_invalid network (standing_for here) (row_of c.args.given.now) cause is grid next
-    (subst (λ (r : Record). IsValid network (standing_for here) grid r next) c.in_ok-check_due.ensures.row
+    let next = next_standing project here c.check_due.new.row.length c.check_due.new.close in
+    absurd (refused_invalid project (standing_for here) (row_of c.args.given.now) cause is grid next
+    (subst (λ (r : Record). IsValid project (standing_for here) grid r next) c.in_ok-check_due.ensures.row
     c.in_ok-check_due.ensures.made.valid))
 
 pub returns-in_err-check_place-clause-exactly : goal.returns-in_err-check_place-clause-exactly

@@ -25,22 +25,22 @@ finish-requires-clause-before_end c =
 
 pub returns-clause-over : goal.returns-clause-over
 returns-clause-over c =
-    let network = c.args.project.now in
+    let project = c.args.project.now in
     let here = c.args.standing.now in
     on-ok-four _ _ _ _ _ c.finish.result
-    (λ closed held have some. closed-over network here (grid_of c.args.net.now) c.finish.new.row c.finish.new.facts
+    (λ closed held have some. closed-over project here (grid_of c.args.net.now) c.finish.new.row c.finish.new.facts
     c.finish.new.self c.if-standing-project.false (closed (standing_for here) c.requires.begun) held have some)
     c.finish.ensures.closed c.finish.ensures.held c.finish.ensures.have c.finish.ensures.some
 
 pub returns-clause-open : goal.returns-clause-open
 returns-clause-open c =
-    let network = c.args.project.now in
+    let project = c.args.project.now in
     let standing = standing_for c.args.standing.now in
     let grid = grid_of c.args.net.now in
-    if-err (λ (found : Open). (at : Standing) (other : Record) → AreBegun network at c.args.facts.now
-    → SharesVectors other (row_of c.args.row.now) → IsOpenAt network grid at other found)
+    if-err (λ (found : Open). (at : Standing) (other : Record) → AreBegun project at c.args.facts.now
+    → SharesVectors other (row_of c.args.row.now) → IsOpenAt project grid at other found)
     (λ (found : Open). (other : Record) → SharesVectors other (row_of c.args.row.now)
-    → IsOpenAt network grid standing other found) c.finish.result
+    → IsOpenAt project grid standing other found) c.finish.result
     (λ found all other share. all standing other c.requires.begun share) c.finish.ensures.open
 
 pub returns-then-standing-project-clause-over : goal.returns-then-standing-project-clause-over

@@ -9,9 +9,10 @@ use Rattle.hyd_period_network.specs.NetAsPeriodNetwork.{grid_of}
 use Rattle.hyd_period_end.specs.OpenMatters.{SharesVectors}
 use Rattle.hyd_period_vectors.specs.Vectors.{LacksFirst}
 use Rattle.hyd_sim.specs.PeriodAttempt.{AreSought}
+use Rattle.hyd_tank_inflows.proofs.Placing.{problems_count}
 use Rattle.hyd_sim.proofs.Attempting.{certificates-again, sought-again, made-of}
 use Rattle.hyd_sim.proofs.Lacking.{sought-all}
-use Rattle.hyd_sim.proofs.Running.{net-junctions, problems-each, certificates-of}
+use Rattle.hyd_sim.proofs.Running.{net-junctions, certificates-of}
 use Rattle.hyd_sim.proofs.attempt.try_period.Goals as goal
 
 pub find-requires-clause-room : goal.find-requires-clause-room
@@ -30,13 +31,13 @@ find-requires-clause-order g c = c.requires.started.order
 
 pub end_period-requires-clause-certificates : goal.end_period-requires-clause-certificates
 end_period-requires-clause-certificates g c =
-    let network = c.args.project.now in
+    let project = c.args.project.now in
     let net = c.args.net.now in
     let row = c.find.new.row in
     let pinned : length (row_of row).pinned ≡ length net.tanks =
-    problems-each row.junctions row.tanks (behind_two row.junctions row.vectors.list)
+    problems_count row.junctions row.tanks (behind_two row.junctions row.vectors.list)
     ∙ (ap (λ (h : Header). h.tanks) (c.find.ensures.stays.header ∙ c.requires.header) ∙ sym c.requires.of.each_tank) in
-    certificates-of network (grid_of net) (length net.tanks) (row_of row) c.requires.of.each_tank pinned
+    certificates-of project (grid_of net) (length net.tanks) (row_of row) c.requires.of.each_tank pinned
     (sought-all c.args.tight (g.F.Finder.told c.args.finder.now) (grid_of net) (length net.tanks) (row_of row)
     c.in_default.ensures.found)
 
@@ -45,21 +46,21 @@ end_period-requires-clause-header g c = c.find.ensures.stays.header ∙ c.requir
 
 pub returns-in-Ok-clause-made : goal.returns-in-Ok-clause-made
 returns-in-Ok-clause-made g c =
-    let network = c.args.project.now in
+    let project = c.args.project.now in
     let net = c.args.net.now in
     let row = c.find.new.row in
     let stays = c.find.ensures.stays in
     let pinned : length (row_of row).pinned ≡ length net.tanks =
-    problems-each row.junctions row.tanks (behind_two row.junctions row.vectors.list)
+    problems_count row.junctions row.tanks (behind_two row.junctions row.vectors.list)
     ∙ (ap (λ (h : Header). h.tanks) (stays.header ∙ c.requires.header) ∙ sym c.requires.of.each_tank) in
-    let certificates = certificates-of network (grid_of net) (length net.tanks) (row_of row) c.requires.of.each_tank
+    let certificates = certificates-of project (grid_of net) (length net.tanks) (row_of row) c.requires.of.each_tank
     pinned (sought-all c.args.tight (g.F.Finder.told c.args.finder.now) (grid_of net) (length net.tanks) (row_of row)
     c.in_default.ensures.found) in
-    made-of network c.args.standing.now net c.args.row.now c.end_period.new.row c.args.facts.now c.end_period.new.facts
+    made-of project c.args.standing.now net c.args.row.now c.end_period.new.row c.args.facts.now c.end_period.new.facts
     c.end_period.new.close c.requires.started c.requires.unfinished
     (ap (λ (r : Row). r.number) c.end_period.ensures.row ∙ stays.number)
     (ap (λ (r : Row). r.time) c.end_period.ensures.row ∙ stays.time) c.end_period.ensures.links
-    (certificates-again row c.end_period.new.row c.end_period.ensures.row network (grid_of net) certificates)
+    (certificates-again row c.end_period.new.row c.end_period.ensures.row project (grid_of net) certificates)
     c.in-Ok.ensures.over
 
 pub returns-in-Ok-clause-sought : goal.returns-in-Ok-clause-sought

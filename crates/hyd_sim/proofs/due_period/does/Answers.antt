@@ -15,9 +15,10 @@ use Rattle.hyd_period_vectors.specs.Vectors.{LacksFirst}
 use Rattle.hyd_sim.specs.PeriodAttempt.{AreSought, IsFault, next_standing}
 use Rattle.hyd_sim.specs.NarrowRecordsAndStops.{stop_of}
 use Rattle.hyd_sim.specs.View.{standing_for}
+use Rattle.hyd_tank_inflows.proofs.Placing.{problems_count}
 use Rattle.hyd_sim.proofs.Fitting.{heads-each, next-long, told-here, same-here, nothing-open, narrow-too}
 use Rattle.hyd_sim.proofs.Lacking.{if-err, lacks-one, none-lacking}
-use Rattle.hyd_sim.proofs.Running.{net-junctions, problems-each, lack-stops}
+use Rattle.hyd_sim.proofs.Running.{net-junctions, lack-stops}
 use Rattle.hyd_sim.proofs.due_period.does.Goals as goal
 
 -- where a period isn't done nothing need hold of its record
@@ -42,25 +43,25 @@ is_narrow-requires-clause-levels g c = λ other.
 
 pub returns-in-Ok-clause-proposal : goal.returns-in-Ok-clause-proposal
 returns-in-Ok-clause-proposal g c = λ w p.
-    let network = c.args.project.now in
+    let project = c.args.project.now in
     let standing = standing_for c.args.standing.now in
     let grid = grid_of c.args.net.now in
     let row = c.try_period.new.row in
-    let pinned : length (row_of row).pinned ≡ tank_count network =
-    problems-each row.junctions row.tanks (behind_two row.junctions row.vectors.list)
+    let pinned : length (row_of row).pinned ≡ tank_count project =
+    problems_count row.junctions row.tanks (behind_two row.junctions row.vectors.list)
     ∙ ap (λ (h : Header). h.tanks) (c.try_period.ensures.header ∙ c.requires.header) in
     let told = g.F.Finder.told c.args.finder.now in
     let width : to_z w64 (of_z w64 c.args.settings.width) ≡ c.args.settings.width = omega (arith, ints) in
-    let sought : AreSought false told grid (tank_count network) c.args.settings.rounds (row_of row) =
-    subst (λ (n : ℕ). AreSought false told grid (tank_count network) n (row_of row))
+    let sought : AreSought false told grid (tank_count project) c.args.settings.rounds (row_of row) =
+    subst (λ (n : ℕ). AreSought false told grid (tank_count project) n (row_of row))
     (ap (λ (room : Room). room.rounds) c.requires.search) c.in-Ok.ensures.sought in
-    let narrow = narrow-too network c.args.settings standing grid c.requires.started.is_grid told w p
+    let narrow = narrow-too project c.args.settings standing grid c.requires.started.is_grid told w p
     c.junctions-junctions.ensures.steady c.requires.started.order (row_of row) pinned sought _
     c.in-Ok.ensures.made.valid in (
       ap Ok (kept-true c.is_narrow.result (λ e. c.is_narrow.ensures.wide e
           (subst (λ (W : ℤ). IsNarrow W standing (row_of row)
-          (next_standing network c.args.standing.now row.length c.try_period.new.close)) (sym width) narrow))),
-      same-here network c.args.settings standing grid c.requires.started.is_grid told w p
+          (next_standing project c.args.standing.now row.length c.try_period.new.close)) (sym width) narrow))),
+      same-here project c.args.settings standing grid c.requires.started.is_grid told w p
           c.junctions-junctions.ensures.steady c.requires.started.order (row_of row) pinned sought,
     )
 
@@ -81,53 +82,53 @@ returns-in-Err-Lack-clause-sought g c = not-done _ c.lack_fits.result c.lack_fit
 
 pub returns-in-Err-Lack-clause-stops : goal.returns-in-Err-Lack-clause-stops
 returns-in-Err-Lack-clause-stops g c =
-    let network = c.args.project.now in
+    let project = c.args.project.now in
     let standing = standing_for c.args.standing.now in
     let grid = grid_of c.args.net.now in
     let told = g.F.Finder.told c.args.finder.now in
     let row = row_of c.try_period.new.row in
-    let count : length grid.junctions ≡ junction_count network =
-    c.junctions-junctions.ensures.each ∙ sym (net-junctions network c.args.net.now c.requires.of) in
-    let first : LacksFirst false told grid (tank_count network) c.args.settings.rounds row c.in-Err-Lack.lack =
-    subst (λ (n : ℕ). LacksFirst false told grid (tank_count network) n row c.in-Err-Lack.lack)
-    (ap (λ (room : Room). room.rounds) c.requires.search) (subst (IsFault false told network grid standing
+    let count : length grid.junctions ≡ junction_count project =
+    c.junctions-junctions.ensures.each ∙ sym (net-junctions project c.args.net.now c.requires.of) in
+    let first : LacksFirst false told grid (tank_count project) c.args.settings.rounds row c.in-Err-Lack.lack =
+    subst (λ (n : ℕ). LacksFirst false told grid (tank_count project) n row c.in-Err-Lack.lack)
+    (ap (λ (room : Room). room.rounds) c.requires.search) (subst (IsFault false told project grid standing
     c.args.search.now.rounds row) c.in-Err-Lack.field-0-is c.in-Err-Lack.ensures.fault) in
-    let stops = lack-stops network standing grid (tank_count network) c.args.settings.rounds c.in-Err-Lack.lack refl
+    let stops = lack-stops project standing grid (tank_count project) c.args.settings.rounds c.in-Err-Lack.lack refl
     count c.requires.started.in_range c.requires.started.is_grid
-    (lacks-one false told grid (tank_count network) c.args.settings.rounds row c.in-Err-Lack.lack first) in
+    (lacks-one false told grid (tank_count project) c.args.settings.rounds row c.in-Err-Lack.lack first) in
     if-err (λ (cause : StopCause). cause ≡ stop_of c.args.standing.now.number c.args.settings.rounds c.in-Err-Lack.lack)
-    (λ (cause : StopCause). Stops network standing c.args.settings.rounds cause) c.lack_fits.result
-    (λ cause same. subst (λ (other : StopCause). Stops network standing c.args.settings.rounds other) (sym same) stops)
+    (λ (cause : StopCause). Stops project standing c.args.settings.rounds cause) c.lack_fits.result
+    (λ cause same. subst (λ (other : StopCause). Stops project standing c.args.settings.rounds other) (sym same) stops)
     c.lack_fits.ensures.stop
 
 pub returns-in-Err-Lack-clause-proposal : goal.returns-in-Err-Lack-clause-proposal
 returns-in-Err-Lack-clause-proposal g c = λ w p.
-    let network = c.args.project.now in
+    let project = c.args.project.now in
     let standing = standing_for c.args.standing.now in
     let grid = grid_of c.args.net.now in
     let told = g.F.Finder.told c.args.finder.now in
     let row = row_of c.try_period.new.row in
-    let first : LacksFirst false told grid (tank_count network) c.args.settings.rounds row c.in-Err-Lack.lack =
-    subst (λ (n : ℕ). LacksFirst false told grid (tank_count network) n row c.in-Err-Lack.lack)
-    (ap (λ (room : Room). room.rounds) c.requires.search) (subst (IsFault false told network grid standing
+    let first : LacksFirst false told grid (tank_count project) c.args.settings.rounds row c.in-Err-Lack.lack =
+    subst (λ (n : ℕ). LacksFirst false told grid (tank_count project) n row c.in-Err-Lack.lack)
+    (ap (λ (room : Room). room.rounds) c.requires.search) (subst (IsFault false told project grid standing
     c.args.search.now.rounds row) c.in-Err-Lack.field-0-is c.in-Err-Lack.ensures.fault) in
-    absurd (none-lacking told grid (tank_count network) c.args.settings.rounds row w c.in-Err-Lack.lack first
-    (told-here network c.args.settings standing grid c.requires.started.is_grid told w p))
+    absurd (none-lacking told grid (tank_count project) c.args.settings.rounds row w c.in-Err-Lack.lack first
+    (told-here project c.args.settings standing grid c.requires.started.is_grid told w p))
 
 pub returns-in-Err-Open-clause-proposal : goal.returns-in-Err-Open-clause-proposal
 returns-in-Err-Open-clause-proposal g c = λ w p.
-    let network = c.args.project.now in
+    let project = c.args.project.now in
     let standing = standing_for c.args.standing.now in
     let grid = grid_of c.args.net.now in
     let told = g.F.Finder.told c.args.finder.now in
     let row = c.try_period.new.row in
-    let pinned : length (row_of row).pinned ≡ tank_count network =
-    problems-each row.junctions row.tanks (behind_two row.junctions row.vectors.list)
+    let pinned : length (row_of row).pinned ≡ tank_count project =
+    problems_count row.junctions row.tanks (behind_two row.junctions row.vectors.list)
     ∙ ap (λ (h : Header). h.tanks) (c.try_period.ensures.header ∙ c.requires.header) in
-    let fault = subst (IsFault false told network grid standing c.args.search.now.rounds (row_of row))
+    let fault = subst (IsFault false told project grid standing c.args.search.now.rounds (row_of row))
     c.in-Err-Open.field-0-is c.in-Err-Open.ensures.fault in
-    let sought : AreSought false told grid (tank_count network) c.args.settings.rounds (row_of row) =
-    subst (λ (n : ℕ). AreSought false told grid (tank_count network) n (row_of row))
+    let sought : AreSought false told grid (tank_count project) c.args.settings.rounds (row_of row) =
+    subst (λ (n : ℕ). AreSought false told grid (tank_count project) n (row_of row))
     (ap (λ (room : Room). room.rounds) c.requires.search) fault.0 in
-    absurd (nothing-open network c.args.settings standing grid c.requires.started.is_grid told w p
+    absurd (nothing-open project c.args.settings standing grid c.requires.started.is_grid told w p
     c.junctions-junctions.ensures.steady c.requires.started.order (row_of row) pinned sought _ fault.1)

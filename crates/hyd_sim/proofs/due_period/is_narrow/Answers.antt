@@ -2,9 +2,9 @@ use Rattle.std.proofs.Common.{◌≡◌, ℤ, ap, sym, subst, ◌∙◌, arith, 
 use Rattle.std.proofs.lemmas.Int.{ints}
 use Rattle.hyd_sim.specs.NarrowRecordsAndStops.{AreNarrow}
 use Rattle.std.specs.Prelude.{length, map}
+use Rattle.hyd_spec_certificates.specs.Spans.{levels_of}
 use Rattle.hyd_spec_certificates.specs.Narrow.{IsNarrow}
 use Rattle.hyd_cert.specs.RecordView.{row_of}
-use Rattle.hyd_period_facts.specs.FactsOfPeriod.{levels_of}
 use Rattle.hyd_sim.specs.PeriodAttempt.{last_standing, later_standing}
 use Rattle.hyd_sim.specs.View.{standing_for}
 use Rattle.hyd_sim.proofs.Fitting.{narrow-there, narrow-here}

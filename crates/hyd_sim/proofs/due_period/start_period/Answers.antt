@@ -2,12 +2,12 @@ use Rattle.std.proofs.Common.{◌≡◌, refl, sym, ap, subst, ◌∙◌, List}
 use Rattle.std.specs.Prelude.{length, map}
 use Rattle.hyd_spec.specs.ProgramTypes.{LinkState}
 use Rattle.hyd_spec.specs.declared.TankState.{TankState}
+use Rattle.hyd_spec_certificates.specs.Spans.{levels_of}
 use Rattle.hyd_spec_certificates.specs.PeriodNetwork.{IsGrid}
 use Rattle.hyd_spec_certificates.specs.Valid.{IsGridAt}
 use Rattle.hyd_spec_certificates.specs.declared.LevelSpan.{LevelSpan}
 use Rattle.hyd_spec_reports.specs.Stops.{Stops}
 use Rattle.hyd_spec_reports.specs.declared.StopCause.{StopCause}
-use Rattle.hyd_period_facts.specs.FactsOfPeriod.{levels_of}
 use Rattle.hyd_period_network.specs.NetAsPeriodNetwork.{grid_of}
 use Rattle.hyd_period_network.specs.Periods.{AreLevels}
 use Rattle.hyd_period_network.specs.LawsInSettings.{AreStates}
@@ -27,27 +27,27 @@ set_period-requires-clause-tanks c = ap length c.as_slice-2.ensures ∙ c.requir
 
 pub returns-in-Ok-clause-started : goal.returns-in-Ok-clause-started
 returns-in-Ok-clause-started c =
-    let network = c.args.project.now in
+    let project = c.args.project.now in
     let here = c.args.standing.now in
     let grid = grid_of c.set_period.new.self in
     let own : c.begin.new.links ≡ c.begin.new.facts.links.list = sym c.begin.ensures.links in
-    let is : IsGridAt network (standing_for here) grid =
-    subst (λ (ls : List LinkState). IsGrid network here.time (map levels_of here.stocks.levels.list)
+    let is : IsGridAt project (standing_for here) grid =
+    subst (λ (ls : List LinkState). IsGrid project here.time (map levels_of here.stocks.levels.list)
     here.stocks.tanks.list ls grid) (own ∙ c.begin.ensures.begun.links)
-    (subst (λ (ts : List TankState). IsGrid network here.time (map levels_of here.stocks.levels.list) ts
+    (subst (λ (ts : List TankState). IsGrid project here.time (map levels_of here.stocks.levels.list) ts
     c.begin.new.links grid) c.as_slice-2.ensures
-    (subst (λ (xs : List LevelSpan). IsGrid network here.time (map levels_of xs) c.as_slice-2.result.now
+    (subst (λ (xs : List LevelSpan). IsGrid project here.time (map levels_of xs) c.as_slice-2.result.now
     c.begin.new.links grid) c.as_slice.ensures c.in-Ok.ensures.grid)) in
     record {
       in_range = c.in-Ok.ensures.in_range;
       is_grid = is;
-      states = subst (AreStates network) (sym c.in-Ok.ensures.states) c.begin.ensures.states;
+      states = subst (AreStates project) (sym c.in-Ok.ensures.states) c.begin.ensures.states;
       links = c.in-Ok.ensures.states ∙ own;
       begun = c.begin.ensures.begun;
       ready = c.begin.ensures.ready;
       number = refl;
       time = refl;
-      order = order-there network (standing_for here) grid c.requires.standing.tidy is;
+      order = order-there project (standing_for here) grid c.requires.standing.tidy is;
     }
 
 pub returns-in-Err-clause-in_range : goal.returns-in-Err-clause-in_range

@@ -10,8 +10,9 @@ use Rattle.hyd_period_network.specs.NetAsPeriodNetwork.{grid_of}
 use Rattle.hyd_period_vectors.specs.OpenedSearch.{Room}
 use Rattle.hyd_sim.specs.PeriodAttempt.{AreSought, IsFault}
 use Rattle.hyd_sim.specs.View.{standing_for}
+use Rattle.hyd_tank_inflows.proofs.Placing.{problems_count}
 use Rattle.hyd_sim.proofs.Fitting.{fault-stops}
-use Rattle.hyd_sim.proofs.Running.{net-junctions, problems-each, tight-of}
+use Rattle.hyd_sim.proofs.Running.{net-junctions, tight-of}
 use Rattle.hyd_sim.proofs.due_period.tighten.Goals as goal
 
 pub returns-in-Ok-clause-tight : goal.returns-in-Ok-clause-tight
@@ -26,17 +27,17 @@ returns-in-Ok-clause-sought g c =
 
 pub returns-in-Err-clause-stops : goal.returns-in-Err-clause-stops
 returns-in-Err-clause-stops g c =
-    let network = c.args.project.now in
+    let project = c.args.project.now in
     let row = c.try_period.new.row in
-    let count : length (grid_of c.args.net.now).junctions ≡ junction_count network =
-    c.junctions-junctions.ensures.each ∙ sym (net-junctions network c.args.net.now c.requires.of) in
-    let pinned : length (row_of row).pinned ≡ tank_count network =
-    problems-each row.junctions row.tanks (behind_two row.junctions row.vectors.list)
+    let count : length (grid_of c.args.net.now).junctions ≡ junction_count project =
+    c.junctions-junctions.ensures.each ∙ sym (net-junctions project c.args.net.now c.requires.of) in
+    let pinned : length (row_of row).pinned ≡ tank_count project =
+    problems_count row.junctions row.tanks (behind_two row.junctions row.vectors.list)
     ∙ ap (λ (h : Header). h.tanks) (c.try_period.ensures.header ∙ c.requires.header) in
-    subst (λ (cause : StopCause). Stops network (standing_for c.args.standing.now) c.args.rounds cause)
+    subst (λ (cause : StopCause). Stops project (standing_for c.args.standing.now) c.args.rounds cause)
     (sym c.fault_stop.ensures)
-    (fault-stops network c.args.standing.now c.args.net.now c.args.row.now row c.args.facts.now c.args.rounds
+    (fault-stops project c.args.standing.now c.args.net.now c.args.row.now row c.args.facts.now c.args.rounds
     (g.F.Finder.told c.args.finder.now) c.requires.started count pinned c.in-Err.fault
-    (subst (λ (n : ℕ). IsFault true (g.F.Finder.told c.args.finder.now) network (grid_of c.args.net.now)
+    (subst (λ (n : ℕ). IsFault true (g.F.Finder.told c.args.finder.now) project (grid_of c.args.net.now)
     (standing_for c.args.standing.now) n (row_of row) c.in-Err.fault) (ap (λ (room : Room). room.rounds)
     c.requires.search) c.in-Err.ensures.fault))

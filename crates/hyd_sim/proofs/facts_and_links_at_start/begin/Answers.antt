@@ -3,13 +3,14 @@ use Rattle.std.specs.List.{AllZip}
 use Rattle.std.proofs.lemmas.List.{length-map}
 use Rattle.hyd_spec.specs.ProgramTypes.{LinkState}
 use Rattle.hyd_spec.specs.PumpPatternsAndSimpleControls.{started}
+use Rattle.hyd_spec_certificates.specs.Spans.{levels_of}
 use Rattle.hyd_spec_certificates.specs.Decided.{acts_on}
 use Rattle.hyd_spec_certificates.specs.Valid.{ControlsAreDecided}
 use Rattle.hyd_spec_certificates.specs.declared.LevelSpan.{LevelSpan}
 use Rattle.hyd_spec_reports.specs.Report.{start_changes}
 use Rattle.hyd_theorems_on_histories.specs.Agreement.{IsOwnState}
 use Rattle.hyd_theorems_on_histories.proofs.Commanding.{started_own}
-use Rattle.hyd_period_facts.specs.FactsOfPeriod.{levels_of, volumes_of}
+use Rattle.hyd_tank.specs.StockIntervals.{volumes_of}
 use Rattle.hyd_period_facts.specs.declared.facts.Facts.{Facts}
 use Rattle.hyd_period_network.specs.LawsInSettings.{AreStates}
 use Rattle.hyd_sim.proofs.Starting.{own-states, ready-of, zip-length}
@@ -70,7 +71,7 @@ refill-requires c =
 
 pub returns-clause-begun : goal.returns-clause-begun
 returns-clause-begun c =
-    let network = c.args.project.now in
+    let project = c.args.project.now in
     let here = c.args.standing.now in
     record {
       time = ap (λ (f : Facts). f.time) c.put_tanks.ensures.keeps;
@@ -78,27 +79,27 @@ returns-clause-begun c =
       volumes = ap (map volumes_of) c.put_tanks.ensures.volumes;
       tanks = c.put_tanks.ensures.tanks;
       links = c.refill.ensures.items ∙ (c.start_links.ensures.links
-          ∙ (ap (λ (xs : List LevelSpan). started network here.time (acts_on (map levels_of xs)) c.deref.result.now)
+          ∙ (ap (λ (xs : List LevelSpan). started project here.time (acts_on (map levels_of xs)) c.deref.result.now)
           c.as_slice.ensures
-          ∙ ap (λ (ss : List LinkState). started network here.time (acts_on (map levels_of here.stocks.levels.list)) ss)
+          ∙ ap (λ (ss : List LinkState). started project here.time (acts_on (map levels_of here.stocks.levels.list)) ss)
           c.deref.ensures.value));
       changes = c.start_links.ensures.changes
-          ∙ (ap (λ (xs : List LevelSpan). start_changes network here.time (acts_on (map levels_of xs))
+          ∙ (ap (λ (xs : List LevelSpan). start_changes project here.time (acts_on (map levels_of xs))
           c.deref.result.now) c.as_slice.ensures
-          ∙ ap (λ (ss : List LinkState). start_changes network here.time
+          ∙ ap (λ (ss : List LinkState). start_changes project here.time
           (acts_on (map levels_of here.stocks.levels.list)) ss) c.deref.ensures.value);
     }
 
 pub returns-clause-states : goal.returns-clause-states
 returns-clause-states c =
-    let network = c.args.project.now in
+    let project = c.args.project.now in
     let here = c.args.standing.now in
-    let own : AllZip (IsOwnState network) network.links.list c.deref.result.now =
-    subst (AllZip (IsOwnState network) network.links.list) (sym c.deref.ensures.value)
+    let own : AllZip (IsOwnState project) project.links.list c.deref.result.now =
+    subst (AllZip (IsOwnState project) project.links.list) (sym c.deref.ensures.value)
     c.requires.standing.kept.states in
-    subst (AreStates network) (sym c.start_links.ensures.links)
-    (own-states network (started network here.time (acts_on (map levels_of c.as_slice.result.now)) c.deref.result.now)
-    (started_own network c.requires.sound here.time (acts_on (map levels_of c.as_slice.result.now))
+    subst (AreStates project) (sym c.start_links.ensures.links)
+    (own-states project (started project here.time (acts_on (map levels_of c.as_slice.result.now)) c.deref.result.now)
+    (started_own project c.requires.sound here.time (acts_on (map levels_of c.as_slice.result.now))
     c.deref.result.now own))
 
 pub returns-clause-ready : goal.returns-clause-ready

@@ -1,6 +1,6 @@
 use Rattle.std.proofs.Common.{◌≡◌, ◌-◌, ◌^◌, ℤ, pos, ◌≤ℤ◌, length, map, drop}
+use Rattle.hyd_spec_certificates.specs.Spans.{levels_of}
 use Rattle.hyd_spec_certificates.specs.Narrow.{widest}
-use Rattle.hyd_period_facts.specs.FactsOfPeriod.{levels_of}
 use Rattle.hyd_sim.proofs.narrow_records.widest.Given as goal
 
 abbrev pub invariant-loop-tank : goal.invariant-loop-tank

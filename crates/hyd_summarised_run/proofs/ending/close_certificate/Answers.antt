@@ -1,12 +1,12 @@
 -- The END line, and then nothing is held.
 use Rattle.std.proofs.Common.{append-nil}
 use Rattle.hyd_run.proofs.PenLemmas.{on_any}
-use Rattle.hyd_report.proofs.PutLemmas.{puts_then, puts_same, puts_ready}
+use Rattle.hyd_io.proofs.PutLemmas.{puts_then, puts_same, puts_ready}
 use Rattle.hyd_summarised_run.proofs.PenLemmas.{cert-put}
 use Rattle.hyd_summarised_run.proofs.ending.close_certificate.Goals as goal
 
-pub put_end_line-requires : goal.put_end_line-requires
-put_end_line-requires g c = on_any _ _ c.requires.ready
+pub put_end-requires : goal.put_end-requires
+put_end-requires g c = on_any _ _ c.requires.ready
 
 pub empty-requires : goal.empty-requires
 empty-requires g c = puts_ready _ _ _ _ _ _ c.in-Ok.ensures (on_any _ _ c.requires.ready)

@@ -1,6 +1,6 @@
 -- The counts, and then the last line.
 use Rattle.std.proofs.Common.{refl, append-nil}
-use Rattle.hyd_report.proofs.PutLemmas.{puts_then, puts_cut, puts_same, puts_ready}
+use Rattle.hyd_io.proofs.PutLemmas.{puts_then, puts_cut, puts_same, puts_ready}
 use Rattle.hyd_summarised_run.proofs.TextLemmas.{at_time}
 use Rattle.hyd_summarised_run.proofs.ending.print_summary.Goals as goal
 

@@ -1,11 +1,11 @@
 -- All that was held went out.
-use Rattle.hyd_run.proofs.PenLemmas.{flush-moves, flush-prefix}
+use Rattle.hyd_run.proofs.PenLemmas.{flush-moves, flush-front}
 use Rattle.hyd_summarised_run.proofs.pens.empty.Goals as goal
 
 pub returns-clause-puts : goal.returns-clause-puts
 returns-clause-puts g c = let e = c.flush.ensures in record {
   moves = flush-moves c.flush.result _ _ _ _ e.whole e.empty;
-  prefix = flush-prefix c.flush.result _ _ _ e.prefix;
+  front = flush-front c.flush.result _ _ _ e.front;
   to_stays = e.to_stays;
   no_fault = e.no_fault;
   keeps_fault = e.keeps_fault;

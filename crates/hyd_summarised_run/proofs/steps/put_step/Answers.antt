@@ -13,8 +13,8 @@ returns-in-Stop-clause-puts g c =
     over-stopped _ _ c.in-Stop.cause _ c.project-project-in-Stop.ensures.is_sim c.in-Stop.ensures.gives.0
     c.in-Stop.ensures.gives.1.0
 
-pub put_row-requires : goal.put_row-requires
-put_row-requires g c = on_any _ _ c.requires.ready
+pub put_record-requires : goal.put_record-requires
+put_record-requires g c = on_any _ _ c.requires.ready
 
 pub returns-in-Err-clause-puts : goal.returns-in-Err-clause-puts
 returns-in-Err-clause-puts g c =

@@ -1,6 +1,7 @@
 -- One step after another.
 use Rattle.std.proofs.Common.{◌∙◌, refl, arith}
-use Rattle.hyd_summarised_run.proofs.SumLemmas.{more-done, more-lost, over-ends, over-stays}
+use Rattle.hyd_run.proofs.StepLemmas.{steps-end}
+use Rattle.hyd_summarised_run.proofs.SumLemmas.{more-done, more-lost, over-stays}
 use Rattle.hyd_summarised_run.proofs.steps.put_steps.Goals as goal
 
 pub returns-in-Ok-Over-clause-puts : goal.returns-in-Ok-Over-clause-puts
@@ -9,7 +10,7 @@ returns-in-Ok-Over-clause-puts g c =
     let p = c.put_step.ensures.project ∙ i.project in
     let s = c.put_step.ensures.settings ∙ i.settings in
     let over = rw c.in-Ok-Over.field-0-is at c.in-Ok-Over.ensures.puts in (
-      over-ends _ _ _ _ _ _ _ p s over,
+      steps-end _ _ _ _ _ _ _ p s over,
       λ start so_far. over-stays _ c.args.sim.now.settings _ _ _ _ start _ _ over (i.so_far start so_far),
     )
 

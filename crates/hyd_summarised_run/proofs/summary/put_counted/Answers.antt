@@ -1,5 +1,5 @@
 -- The text, and then the number.
-use Rattle.hyd_report.proofs.PutLemmas.{puts_then, puts_cut, puts_ready}
+use Rattle.hyd_io.proofs.PutLemmas.{puts_then, puts_cut, puts_ready}
 use Rattle.hyd_summarised_run.proofs.summary.put_counted.Goals as goal
 
 pub put_number-requires : goal.put_number-requires

@@ -1,5 +1,5 @@
 -- The pieces are the line.
-use Rattle.hyd_report.proofs.PutLemmas.{puts_then, puts_cut, puts_same, puts_ready}
+use Rattle.hyd_io.proofs.PutLemmas.{puts_then, puts_cut, puts_same, puts_ready}
 use Rattle.hyd_summarised_run.proofs.TextLemmas.{summary_is}
 use Rattle.hyd_summarised_run.proofs.summary.put_counts.Goals as goal
 

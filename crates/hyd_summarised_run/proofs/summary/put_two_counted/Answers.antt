@@ -1,5 +1,5 @@
 -- One, and then the other.
-use Rattle.hyd_report.proofs.PutLemmas.{puts_then, puts_cut, puts_ready}
+use Rattle.hyd_io.proofs.PutLemmas.{puts_then, puts_cut, puts_ready}
 use Rattle.hyd_summarised_run.proofs.summary.put_two_counted.Goals as goal
 
 pub put_counted-requires-2 : goal.put_counted-requires-2

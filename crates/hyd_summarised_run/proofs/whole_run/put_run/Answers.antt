@@ -9,8 +9,8 @@ use Rattle.hyd_summarised_run.proofs.PenLemmas.{cert-put}
 use Rattle.hyd_summarised_run.proofs.SumLemmas.{begun, begun-cut, ending-sums}
 use Rattle.hyd_summarised_run.proofs.whole_run.put_run.Goals as goal
 
-pub put_header-requires : goal.put_header-requires
-put_header-requires g c = on_any _ _ c.requires.ready
+pub put_head-requires : goal.put_head-requires
+put_head-requires g c = on_any _ _ c.requires.ready
 
 pub put_steps-requires : goal.put_steps-requires
 put_steps-requires g c =

@@ -1,5 +1,5 @@
 use Rattle.std.proofs.Common.{◌≡◌, ◌<◌, ◌∙◌, sym, subst, w64, to_z, of_z, arith, List, ℤ, length, Bool, true, false}
-use Rattle.std.proofs.Common.{refl, Some, inl, inr}
+use Rattle.std.proofs.Common.{refl, inl, inr}
 use Rattle.std.specs.Prelude.{IsTrue}
 use mathlib.Core.Bool.{not as not_bool}
 use Rattle.std.proofs.lemmas.Int.{ints}
@@ -9,6 +9,7 @@ use Rattle.hyd_spec_certificates.specs.Certificate.{Passes}
 use Rattle.hyd_spec_certificates.specs.SearchSteps.{Fails}
 use Rattle.hyd_spec_certificates.specs.PeriodNetwork.{GridJunction}
 use Rattle.hyd_period_network.specs.NetAsPeriodNetwork.{grid_of}
+use Rattle.hyd_lemmas.proofs.ListsAndOptions.{same_item}
 use Rattle.hyd_vector_check.proofs.Lookups.{junction-there}
 use Rattle.hyd_sweep.proofs.Values.{free-fails, fails-free, held-stays}
 use Rattle.hyd_sweep.proofs.Turns.{one-turn}
@@ -21,9 +22,6 @@ yes-not false a e = false≢true e
 not-yes : (b : Bool) → (IsTrue b → ⊥) → IsTrue (not_bool b)
 not-yes true missing = absurd (missing refl)
 not-yes false missing = refl
-
-one : (X : Type 0) (x y : X) → ◌≡◌ {A = Rattle.std.specs.Prelude.Option X} (Some x) (Some y) → x ≡ y
-one X x y e = cc
 
 pub returns-in-Some : goal.returns-in-Some
 returns-in-Some c =
@@ -73,7 +71,7 @@ returns-in-None c =
           (free-fails held grid steady problem side u i c.requires.inside heads junction c.in-None.ensures (λ passes.
           yes-not c.passes.result not (c.passes.ensures.1 (λ other there.
           subst (λ (j : GridJunction). Passes grid problem side heads i j)
-          (one GridJunction junction other (sym at ∙ there)) passes)))))),
+          (same_item GridJunction junction other (sym at ∙ there)) passes)))))),
       (λ may. not-yes c.passes.result (λ yes. (
           let at = junction-there grid.junctions i within in
           elim (may at.0 at.1) [

@@ -1,10 +1,11 @@
 use Rattle.std.proofs.Common.{◌≤ℤ◌, sym, subst}
 use Rattle.hyd_spec.specs.Tank.{level_bounds}
+use Rattle.hyd_spec_certificates.specs.Spans.{flows_of}
 use Rattle.hyd_spec_certificates.specs.Interval.{Interval}
 use Rattle.hyd_spec_certificates.specs.Stocks.{next_stocks}
 use Rattle.hyd_theorems_on_definitions.specs.TermsOfTheorems.{LiesIn, IsInside, IsWithin}
 use Rattle.hyd_theorems_on_definitions.proofs.Levelling.{next_lies, next_inside, next_within, next_has}
-use Rattle.hyd_tank.specs.StockIntervals.{cylinder, stocks_at, with_levels, level_stock, inflows_of}
+use Rattle.hyd_tank.specs.StockIntervals.{cylinder, stocks_at, with_levels, level_stock}
 use Rattle.hyd_tank.proofs.Tanks.{cylinder_vessel}
 use Rattle.hyd_tank.proofs.Keeping.{level_lies, levels_inside, level_there}
 use Rattle.hyd_tank.proofs.cylinders.next_level.Goals as goal
@@ -13,21 +14,21 @@ pub returns-clause-bounded : goal.returns-clause-bounded
 returns-clause-bounded c =
     let tank = c.args.tank.now in
     subst (IsWithin (level_bounds tank)) (sym c.levels_after.ensures)
-    (next_within (cylinder tank) tank (stocks_at c.args.level) (inflows_of c.args.inflow) c.args.seconds
+    (next_within (cylinder tank) tank (stocks_at c.args.level) (flows_of c.args.inflow) c.args.seconds
     (cylinder_vessel tank c.requires.tank))
 
 pub returns-clause-ordered : goal.returns-clause-ordered
 returns-clause-ordered c = λ order.
     let tank = c.args.tank.now in
     subst (λ (x : Interval). x.lo ≤ℤ x.hi) (sym c.levels_after.ensures)
-    (next_has (cylinder tank) tank (stocks_at c.args.level) (inflows_of c.args.inflow) c.args.seconds (cylinder_vessel
+    (next_has (cylinder tank) tank (stocks_at c.args.level) (flows_of c.args.inflow) c.args.seconds (cylinder_vessel
     tank c.requires.tank) (level_there c.args.level order) c.args.inflow.ordered).level
 
 pub returns-clause-holds : goal.returns-clause-holds
 returns-clause-holds c = λ S z q next some lies flow is.
     let tank = c.args.tank.now in
     subst (λ (x : Interval). LiesIn S x next) (sym c.levels_after.ensures)
-    (next_lies S (cylinder tank) tank (stocks_at c.args.level) (inflows_of c.args.inflow) c.args.seconds (level_stock
+    (next_lies S (cylinder tank) tank (stocks_at c.args.level) (flows_of c.args.inflow) c.args.seconds (level_stock
     z) q (level_stock next) some (cylinder_vessel tank c.requires.tank)
     (level_lies S c.args.level z lies) flow is).level
 
@@ -36,6 +37,6 @@ returns-clause-nests c = λ wider more inside flow.
     let tank = c.args.tank.now in
     subst (λ (x : Interval). IsInside x (next_stocks (cylinder tank) tank (with_levels wider) more
     c.args.seconds).level) (sym c.levels_after.ensures)
-    (next_inside (cylinder tank) tank (stocks_at c.args.level) (with_levels wider) (inflows_of c.args.inflow) more
+    (next_inside (cylinder tank) tank (stocks_at c.args.level) (with_levels wider) (flows_of c.args.inflow) more
     c.args.seconds (cylinder_vessel tank c.requires.tank)
     (levels_inside c.args.level wider inside) flow).level

@@ -1,6 +1,6 @@
 use Rattle.std.proofs.Common.{◌+ℤ◌, ◌-ℤ◌, sym, arith, to_z, of_z, w64, pos}
 use Rattle.std.proofs.lemmas.Int.{ints}
-use Rattle.hyd_theorems_on_definitions.proofs.Outflows.{le-yes, le-no}
+use Rattle.hyd_lemmas.proofs.Trials.{le-yes, le-no}
 use Rattle.hyd_tank.proofs.Filling.{empty_is, between_is}
 use Rattle.hyd_tank.proofs.states.state_at.Goals as goal
 

@@ -2,15 +2,16 @@ use Rattle.std.proofs.Common.{ℤ, List, sym, subst, w64}
 use Rattle.std.proofs.lemmas.Int.{to_z-of_z}
 use Rattle.hyd_spec.specs.ProgramTypes.{VolumePoint}
 use Rattle.hyd_spec.specs.Tank.{Walls, Curve}
+use Rattle.hyd_spec_certificates.specs.Spans.{flows_of}
 use Rattle.hyd_spec_certificates.specs.FirstSeconds.{IsEarliestSecond, IsLatestSecond}
-use Rattle.hyd_tank.specs.StockIntervals.{cylinder, stocks_at, stocks_of, inflows_of}
+use Rattle.hyd_tank.specs.StockIntervals.{cylinder, stocks_at, stocks_of}
 use Rattle.hyd_tank.proofs.Tanks.{walls_without, walls_with, earliest_without, latest_without}
 use Rattle.hyd_tank.proofs.stocks.first_of.Goals as goal
 
 pub returns-in-None-clause-earliest : goal.returns-in-None-clause-earliest
 returns-in-None-clause-earliest c =
     let tank = c.args.tank.now in
-    let flow = inflows_of c.args.inflow in
+    let flow = flows_of c.args.inflow in
     let second = c.first_second.result.0 in
     subst (λ (w : Walls). IsEarliestSecond w tank (stocks_of c.args.stock) flow c.args.target c.args.rising c.args.cap
     second) (sym (walls_without c.args.project.now tank c.in-None.is))
@@ -21,7 +22,7 @@ returns-in-None-clause-earliest c =
 pub returns-in-Some-clause-earliest : goal.returns-in-Some-clause-earliest
 returns-in-Some-clause-earliest c =
     let tank = c.args.tank.now in
-    let flow = inflows_of c.args.inflow in
+    let flow = flows_of c.args.inflow in
     let second = c.first_from.result.0 in
     subst (λ (w : Walls). IsEarliestSecond w tank (stocks_of c.args.stock) flow c.args.target c.args.rising c.args.cap
     second) (sym (walls_with c.args.project.now tank c.in-Some.shape c.in-Some.is))
@@ -33,7 +34,7 @@ returns-in-Some-clause-earliest c =
 pub returns-in-None-clause-latest : goal.returns-in-None-clause-latest
 returns-in-None-clause-latest c =
     let tank = c.args.tank.now in
-    let flow = inflows_of c.args.inflow in
+    let flow = flows_of c.args.inflow in
     let second = c.first_second.result.1 in
     subst (λ (w : Walls). IsLatestSecond w tank (stocks_of c.args.stock) flow c.args.target c.args.rising c.args.cap
     second) (sym (walls_without c.args.project.now tank c.in-None.is))
@@ -44,7 +45,7 @@ returns-in-None-clause-latest c =
 pub returns-in-Some-clause-latest : goal.returns-in-Some-clause-latest
 returns-in-Some-clause-latest c =
     let tank = c.args.tank.now in
-    let flow = inflows_of c.args.inflow in
+    let flow = flows_of c.args.inflow in
     let second = c.first_from.result.1 in
     subst (λ (w : Walls). IsLatestSecond w tank (stocks_of c.args.stock) flow c.args.target c.args.rising c.args.cap
     second) (sym (walls_with c.args.project.now tank c.in-Some.shape c.in-Some.is))

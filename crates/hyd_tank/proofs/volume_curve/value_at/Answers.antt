@@ -2,7 +2,7 @@ use Rattle.std.proofs.Common.{◌≡◌, ◌+◌, ◌-◌, ℤ, pos, ◌*ℤ◌,
 use Rattle.std.specs.Int.{w128}
 use Rattle.std.proofs.lemmas.Int.{ints, to_z-of_z}
 use Rattle.hyd_net.specs.Curves.{Knot}
-use Rattle.hyd_theorems_on_definitions.proofs.RisingLines.{lt-yes, lt-no}
+use Rattle.hyd_lemmas.proofs.Trials.{lt-no, lt-yes}
 use Rattle.hyd_tank.specs.Curve.{place_of, knot_by}
 use Rattle.hyd_tank.proofs.Values.{start_is}
 use Rattle.hyd_tank.proofs.Walking.{nothing, neighbours, neighbours_at, come_on, value_here, value_at_last, line_along}

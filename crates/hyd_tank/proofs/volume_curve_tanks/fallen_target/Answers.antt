@@ -1,8 +1,7 @@
 use Rattle.std.proofs.Common.{◌≡◌, ◌-ℤ◌, ◌*ℤ◌, pos, ℤ, ap, ◌∙◌, arith, to_z, of_z, w64}
 use Rattle.std.specs.Int.{w128, int_min}
 use Rattle.std.proofs.lemmas.Int.{ints, clamps, to_z-of_z}
-use Rattle.hyd_theorems_on_definitions.proofs.Outflows.{le-yes, le-no}
-use Rattle.hyd_theorems_on_definitions.proofs.RisingLines.{lt-yes, lt-no}
+use Rattle.hyd_lemmas.proofs.Trials.{le-yes, lt-no, lt-yes, le-no}
 use Rattle.hyd_net.specs.Curves.{value_at, volume_at, volume_knots}
 use Rattle.hyd_tank.proofs.Values.{start_is}
 use Rattle.hyd_tank.proofs.Aims.{fallen_always, fallen_never, fallen_bound, fallen_parts, fallen_code, most_parts}

@@ -2,9 +2,10 @@ use Rattle.std.proofs.Common.{ℤ, Bool, sym, subst, true, false, arith, rules, 
 use Rattle.std.specs.Int.{w128}
 use Rattle.std.proofs.lemmas.Int.{ints, to_z-of_z}
 use Rattle.hyd_spec.specs.Tank.{Bounds, Curve, has_reached}
+use Rattle.hyd_spec_certificates.specs.Spans.{flows_of}
 use Rattle.hyd_spec_certificates.specs.FirstSeconds.{IsFirstSecond}
 use Rattle.hyd_spec_certificates.specs.Stocks.{least_stock, greatest_stock}
-use Rattle.hyd_tank.specs.StockIntervals.{stocks_of, inflows_of}
+use Rattle.hyd_tank.specs.StockIntervals.{stocks_of}
 use Rattle.hyd_tank.specs.Targets.{StandsFor, IsFirstMet}
 use Rattle.hyd_tank.proofs.Reaching.{earliest_up, latest_up, earliest_down, latest_down}
 use Rattle.hyd_tank.proofs.Aims.{first_stands}
@@ -27,7 +28,7 @@ returns-then-rising-clause-earliest c =
     (to_z-of_z w64 c.args.stock.volume.hi volume-fits)
     (subst (λ (z : ℤ). IsFirstMet (to_z w64 (of_z w64 c.args.stock.volume.hi)) z target true cap second)
     (to_z-of_z w128 c.args.inflow.hi inflow-fits) c.first_of-high.ensures) in
-    earliest_up (Curve points) tank (stocks_of c.args.stock) (inflows_of c.args.inflow) level cap second c.args.rising
+    earliest_up (Curve points) tank (stocks_of c.args.stock) (flows_of c.args.inflow) level cap second c.args.rising
     c.if-rising.true
     (subst (λ (r : Bool). IsFirstSecond (has_reached 1 (Curve points) tank one c.args.inflow.hi r level) cap second)
     (sym c.if-rising.true)
@@ -50,7 +51,7 @@ returns-then-rising-clause-latest c =
     (to_z-of_z w64 c.args.stock.volume.lo volume-fits)
     (subst (λ (z : ℤ). IsFirstMet (to_z w64 (of_z w64 c.args.stock.volume.lo)) z target true cap second)
     (to_z-of_z w128 c.args.inflow.lo inflow-fits) c.first_of-low.ensures) in
-    latest_up (Curve points) tank (stocks_of c.args.stock) (inflows_of c.args.inflow) level cap second c.args.rising
+    latest_up (Curve points) tank (stocks_of c.args.stock) (flows_of c.args.inflow) level cap second c.args.rising
     c.if-rising.true
     (subst (λ (r : Bool). IsFirstSecond (has_reached 1 (Curve points) tank one c.args.inflow.lo r level) cap second)
     (sym c.if-rising.true)
@@ -73,7 +74,7 @@ returns-else-rising-clause-earliest c =
     (to_z-of_z w64 c.args.stock.volume.lo volume-fits)
     (subst (λ (z : ℤ). IsFirstMet (to_z w64 (of_z w64 c.args.stock.volume.lo)) z target false cap second)
     (to_z-of_z w128 c.args.inflow.lo inflow-fits) c.first_of-low-else-rising.ensures) in
-    earliest_down (Curve points) tank (stocks_of c.args.stock) (inflows_of c.args.inflow) level cap second
+    earliest_down (Curve points) tank (stocks_of c.args.stock) (flows_of c.args.inflow) level cap second
     c.args.rising c.if-rising.false
     (subst (λ (r : Bool). IsFirstSecond (has_reached 1 (Curve points) tank one c.args.inflow.lo r level) cap second)
     (sym c.if-rising.false)
@@ -96,7 +97,7 @@ returns-else-rising-clause-latest c =
     (to_z-of_z w64 c.args.stock.volume.hi volume-fits)
     (subst (λ (z : ℤ). IsFirstMet (to_z w64 (of_z w64 c.args.stock.volume.hi)) z target false cap second)
     (to_z-of_z w128 c.args.inflow.hi inflow-fits) c.first_of-high-else-rising.ensures) in
-    latest_down (Curve points) tank (stocks_of c.args.stock) (inflows_of c.args.inflow) level cap second c.args.rising
+    latest_down (Curve points) tank (stocks_of c.args.stock) (flows_of c.args.inflow) level cap second c.args.rising
     c.if-rising.false
     (subst (λ (r : Bool). IsFirstSecond (has_reached 1 (Curve points) tank one c.args.inflow.hi r level) cap second)
     (sym c.if-rising.false)

@@ -3,4 +3,4 @@ use Rattle.hyd_theorems_on_definitions.proofs.RunRecords.{valid_from}
 use Rattle.hyd_theorems_on_definitions.proofs.runs.records.Goals as goal
 
 pub returns : goal.returns
-returns c = λ network founds last is. valid_from network (initial_standing network) founds last is
+returns c = λ project founds last is. valid_from project (initial_standing project) founds last is

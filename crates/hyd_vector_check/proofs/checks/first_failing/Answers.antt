@@ -1,16 +1,13 @@
-use Rattle.std.proofs.Common.{◌≡◌, ◌∙◌, ◌<◌, sym, subst, arith, ℕ, length, Some, inl, inr}
-use Rattle.std.specs.Prelude.{Option}
+use Rattle.std.proofs.Common.{◌∙◌, ◌<◌, sym, subst, arith, ℕ, length, inl, inr}
 use Rattle.std.proofs.lemmas.Bool.{cases_eq, false≢true}
 use Rattle.std.proofs.lemmas.Option.{slice_get_within}
 use Rattle.hyd_spec_certificates.specs.PeriodNetwork.{GridJunction}
 use Rattle.hyd_spec_certificates.specs.Certificate.{Passes, fails}
 use Rattle.hyd_period_network.specs.NetAsPeriodNetwork.{grid_of}
 use Rattle.hyd_vector_check.specs.NetOutflowBySide.{PassesAt}
+use Rattle.hyd_lemmas.proofs.ListsAndOptions.{same_item}
 use Rattle.hyd_vector_check.proofs.Lookups.{junction-there}
 use Rattle.hyd_vector_check.proofs.checks.first_failing.Goals as goal
-
-one : (X : Type 0) (x y : X) → ◌≡◌ {A = Option X} (Some x) (Some y) → x ≡ y
-one X x y e = cc
 
 pub returns-then-not-passes-clause-some : goal.returns-then-not-passes-clause-some
 returns-then-not-passes-clause-some c =
@@ -22,7 +19,7 @@ returns-then-not-passes-clause-some c =
     fails at.0 c.requires.in_box at.1
     (λ suits. false≢true (sym c.if-not-passes.true ∙ c.passes.ensures.1 (λ other there.
     subst (λ (j : GridJunction). Passes grid c.args.problem c.args.side c.args.u.now i j)
-    (one GridJunction at.0 other (sym at.1 ∙ there)) suits)))
+    (same_item GridJunction at.0 other (sym at.1 ∙ there)) suits)))
     (λ k before lt there. c.loop-i.invariant k lt before there)
 
 pub loop-i-preserved : goal.loop-i-preserved

@@ -1,9 +1,9 @@
 use Rattle.std.proofs.Common.{◌≡◌, ◌∙◌, ap, sym, subst, List}
 use Rattle.std.specs.Prelude.{slice_index_or}
 use Rattle.hyd_num.specs.declared.decimals.Span.{Span}
+use Rattle.hyd_spec_certificates.specs.Spans.{flows_of}
 use Rattle.hyd_spec_certificates.specs.Decided.{nowhere}
 use Rattle.hyd_tank.specs.StockIntervals.{IsInflow}
-use Rattle.hyd_period_facts.specs.FactsOfPeriod.{flows_of}
 use Rattle.hyd_watched_levels.proofs.Reaching.{mapped}
 use Rattle.hyd_watched_levels.proofs.facts_of_tanks.inflow_at.Goals as goal
 

@@ -4,7 +4,8 @@ use Rattle.std.proofs.lemmas.Int.{ints}
 use Rattle.hyd_net.specs.NetworkRanges.{IsTank}
 use Rattle.hyd_spec.specs.ProgramTypes.{Tank}
 use Rattle.hyd_watched_levels.specs.Watched.{AreEnds}
-use Rattle.hyd_watched_levels.proofs.Reaching.{each_is, item_is}
+use Rattle.hyd_lemmas.proofs.ListsAndOptions.{item_is}
+use Rattle.hyd_watched_levels.proofs.Reaching.{each_is}
 use Rattle.hyd_watched_levels.proofs.Adding.{no_most, most_so}
 use Rattle.hyd_watched_levels.proofs.tank_bounds.with_most.Goals as goal
 
@@ -15,13 +16,13 @@ returns-then-is_full c = λ watched each state at is are.
 
 pub returns : goal.returns
 returns c = λ watched each state at is are.
-    let network = c.args.project.now in
+    let project = c.args.project.now in
     let k = c.args.tank in
     let here : Tank = c.index-as_slice-tank.result in
     let same : here ≡ each =
-    each_is network.tanks.list c.as_slice.result.now k here each c.index-as_slice-tank.is c.as_slice.ensures at in
-    let sizes : IsTank network.shapes.list each =
-    subst (IsTank network.shapes.list) (item_is network.tanks.list k each each at)
+    each_is project.tanks.list c.as_slice.result.now k here each c.index-as_slice-tank.is c.as_slice.ensures at in
+    let sizes : IsTank project.shapes.list each =
+    subst (IsTank project.shapes.list) (item_is project.tanks.list k each each at)
     (c.requires.sound.quantities.tanks k each c.requires.in_range) in
     let lowest = sizes.lowest in
     let apart = sizes.apart in
@@ -32,8 +33,8 @@ returns c = λ watched each state at is are.
     let also : here.maximum ≡ read.maximum = ap (λ (t : Tank). t.maximum) c.index-as_slice-tank.is in
     let kept : to_z w64 (of_z w64 read.maximum) ≡ here.maximum = omega
     (arith, ints, lowest, apart, bottom, top, e, also) in
-    most_so network c.args.facts.now c.args.cap k here each state watched c.with_watch.result
+    most_so project c.args.facts.now c.args.cap k here each state watched c.with_watch.result
     (sym (c.is_full.ensures state is) ∙ c.if-is_full.false) same
-    (subst (λ (t : ℤ). AreEnds network c.args.facts.now c.args.cap
+    (subst (λ (t : ℤ). AreEnds project c.args.facts.now c.args.cap
     (watched ++ record { tank = k; target = t; rising = true } ∷ []) c.with_watch.result) kept
     (c.with_watch.ensures watched are))

@@ -2,11 +2,13 @@ use Rattle.std.proofs.Common.{◌≡◌, inl, inr, ℤ, refl, sym, subst, to_z, 
 use Rattle.std.specs.Int.{w64}
 use Rattle.std.proofs.lemmas.Int.{ints}
 use Rattle.hyd_spec.specs.Tank.{walls_of}
+use Rattle.hyd_spec_certificates.specs.Spans.{flows_of}
 use Rattle.hyd_spec_certificates.specs.Stocks.{Stocks, may_reach, must_reach}
 use Rattle.hyd_spec_certificates.specs.FirstSeconds.{IsFirstSecond}
-use Rattle.hyd_tank.specs.StockIntervals.{stocks_of, inflows_of, AreHeld}
+use Rattle.hyd_tank.specs.StockIntervals.{stocks_of, AreHeld}
 use Rattle.hyd_watched_levels.specs.Watched.{watch_for}
-use Rattle.hyd_watched_levels.proofs.Reaching.{item_there, reached_first}
+use Rattle.hyd_lemmas.proofs.ListsAndOptions.{item_there}
+use Rattle.hyd_watched_levels.proofs.Reaching.{reached_first}
 use Rattle.hyd_watched_levels.proofs.watch.first_of.Goals as goal
 
 pub first_stock-earliest-requires-clause-held : goal.first_stock-earliest-requires-clause-held
@@ -16,32 +18,32 @@ first_stock-earliest-requires-clause-held c = λ each at.
 
 pub returns-clause-earliest : goal.returns-clause-earliest
 returns-clause-earliest c =
-    let network = c.args.project.now in
+    let project = c.args.project.now in
     let small = c.requires.watch.target in
     let kept : to_z w64 (of_z w64 c.args.watch.target) ≡ c.args.watch.target = omega (arith, ints, small) in
-    let there = item_there network.tanks.list c.args.watch.tank c.requires.watch.tank in
-    reached_first may_reach network c.args.facts.now c.args.cap
+    let there = item_there project.tanks.list c.args.watch.tank c.requires.watch.tank in
+    reached_first may_reach project c.args.facts.now c.args.cap
     (watch_for c.args.watch) c.first_stock-earliest.result.0 there.0
-    (stocks_of c.stock_at-stock.result) (inflows_of c.inflow_at-inflow.result) there.1 c.stock_at-stock.ensures
+    (stocks_of c.stock_at-stock.result) (flows_of c.inflow_at-inflow.result) there.1 c.stock_at-stock.ensures
     c.inflow_at-inflow.ensures.value
-    (subst (λ (target : ℤ). IsFirstSecond (may_reach (walls_of network there.0) there.0
+    (subst (λ (target : ℤ). IsFirstSecond (may_reach (walls_of project there.0) there.0
     (stocks_of c.stock_at-stock.result)
-    (inflows_of c.inflow_at-inflow.result) target c.args.watch.rising) c.args.cap c.first_stock-earliest.result.0) kept
+    (flows_of c.inflow_at-inflow.result) target c.args.watch.rising) c.args.cap c.first_stock-earliest.result.0) kept
     (c.first_stock-earliest.ensures.earliest there.0 there.1))
 
 pub returns-clause-latest : goal.returns-clause-latest
 returns-clause-latest c =
-    let network = c.args.project.now in
+    let project = c.args.project.now in
     let small = c.requires.watch.target in
     let kept : to_z w64 (of_z w64 c.args.watch.target) ≡ c.args.watch.target = omega (arith, ints, small) in
-    let there = item_there network.tanks.list c.args.watch.tank c.requires.watch.tank in
-    reached_first must_reach network c.args.facts.now c.args.cap
+    let there = item_there project.tanks.list c.args.watch.tank c.requires.watch.tank in
+    reached_first must_reach project c.args.facts.now c.args.cap
     (watch_for c.args.watch) c.first_stock-earliest.result.1 there.0
-    (stocks_of c.stock_at-stock.result) (inflows_of c.inflow_at-inflow.result) there.1 c.stock_at-stock.ensures
+    (stocks_of c.stock_at-stock.result) (flows_of c.inflow_at-inflow.result) there.1 c.stock_at-stock.ensures
     c.inflow_at-inflow.ensures.value
-    (subst (λ (target : ℤ). IsFirstSecond (must_reach (walls_of network there.0) there.0
+    (subst (λ (target : ℤ). IsFirstSecond (must_reach (walls_of project there.0) there.0
     (stocks_of c.stock_at-stock.result)
-    (inflows_of c.inflow_at-inflow.result) target c.args.watch.rising) c.args.cap c.first_stock-earliest.result.1) kept
+    (flows_of c.inflow_at-inflow.result) target c.args.watch.rising) c.args.cap c.first_stock-earliest.result.1) kept
     (c.first_stock-earliest.ensures.latest there.0 there.1))
 
 pub returns-clause-within : goal.returns-clause-within

@@ -7,6 +7,7 @@ use Rattle.hyd_spec_certificates.specs.Certificate.{IsInBox}
 use Rattle.hyd_cert.specs.Lines.{IsHeadLine}
 use Rattle.hyd_cert.specs.PlacesOfLines.{front_at, heads_in}
 use Rattle.hyd_cert.specs.Faults.{IsLineFault}
+use Rattle.hyd_io.proofs.KeepingLemmas.{output_kept_then}
 use Rattle.hyd_cert.proofs.HeadLemmas.{stored, text_more, box_more, fault_more, fault_here}
 use Rattle.hyd_cert.proofs.reader.Lines.heads.Goals as goal
 
@@ -57,12 +58,7 @@ loop-i-preserved g c =
           (prepend_known c.head.new.self.source (g.D.Desk.rest c.head.new.desk))) (sym at))
           (c.loop-i.invariant.fault header at (sym same ∙ whole));
       steady = c.in-Ok.ensures.steady ∙ c.loop-i.invariant.steady;
-      files_stay = c.in-Ok.ensures.files_stay ∙ c.loop-i.invariant.files_stay;
-      written_stays = c.in-Ok.ensures.written_stays ∙ c.loop-i.invariant.written_stays;
-      printed_stays = c.in-Ok.ensures.printed_stays ∙ c.loop-i.invariant.printed_stays;
-      target_stays = c.in-Ok.ensures.target_stays ∙ c.loop-i.invariant.target_stays;
-      ready_stays = c.in-Ok.ensures.ready_stays ∙ c.loop-i.invariant.ready_stays;
-      openings_stay = c.in-Ok.ensures.openings_stay ∙ c.loop-i.invariant.openings_stay;
+      stays = output_kept_then _ _ _ c.loop-i.invariant.stays c.in-Ok.ensures.stays;
     }
 
 pub returns-clause-in_box : goal.returns-clause-in_box

@@ -1,5 +1,6 @@
 use Rattle.std.proofs.Common.{◌≡◌, ℕ, ◌+◌, All, take, length}
 use Rattle.hyd_io.specs.DeskBytes.{prepend_known}
+use Rattle.hyd_io.specs.Keeping.{KeepsOutput}
 use Rattle.hyd_spec_certificates.specs.Certificate.{IsInBox}
 use Rattle.hyd_cert.specs.Lines.{Header}
 use Rattle.hyd_cert.specs.PlacesOfLines.{IsFault, place_after, heads_in, head_text}
@@ -19,10 +20,6 @@ invariant-loop-i g l = record {
       → IsFault header (place_after (heads_in header.junctions header.tanks) 0)
       (prepend_known l.fn.self.source (g.D.Desk.rest l.fn.desk)) (l.i + number);
   steady : g.D.Desk.counts l.desk ≡ g.D.Desk.counts l.fn.desk;
-  files_stay : g.D.Desk.files l.desk ≡ g.D.Desk.files l.fn.desk;
-  written_stays : g.D.Desk.written l.desk ≡ g.D.Desk.written l.fn.desk;
-  printed_stays : g.D.Desk.printed l.desk ≡ g.D.Desk.printed l.fn.desk;
-  target_stays : g.D.Desk.target l.desk ≡ g.D.Desk.target l.fn.desk;
-  ready_stays : g.D.Desk.ready l.desk ≡ g.D.Desk.ready l.fn.desk;
-  openings_stay : g.D.Desk.openings l.desk ≡ g.D.Desk.openings l.fn.desk;
+  stays : KeepsOutput g.D.Desk.files g.D.Desk.written g.D.Desk.printed g.D.Desk.target g.D.Desk.ready g.D.Desk.counts
+      g.D.Desk.openings l.fn.desk l.desk;
 }

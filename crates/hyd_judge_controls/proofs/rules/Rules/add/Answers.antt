@@ -3,7 +3,7 @@ use Rattle.std.specs.Prelude.{Bool}
 use Rattle.hyd_spec_lines.specs.Lines.{Row, row_of}
 use Rattle.hyd_spec_lines.specs.declared.line.Line.{Line}
 use Rattle.hyd_spec_lines.specs.declared.section.Section.TheVariants.{Junctions, Rules}
-use Rattle.hyd_spec_input.specs.RuleRows.{is_acting, line_words}
+use Rattle.hyd_spec_input.specs.RuleRows.{is_acting, words_of_rule_line}
 use Rattle.hyd_spec_input.specs.Tables.{is_of}
 use Rattle.hyd_text_rows.specs.FirstWrongRow.{rows_at}
 use Rattle.hyd_text_rows.proofs.FoundLemmas.{row_at}
@@ -32,7 +32,7 @@ read_part-part-requires-clause-right c =
     let at = row_at text lines c.args.place nothing c.requires.within in
     let acting : acting_at rows c.args.place ≡ c.is_acting.result =
     sym (c.is_acting.ensures ∙ ap is_acting c.requires.judged.stage) in
-    let P : Bool → Type 0 = λ b. line_words b here.words ≡ None in
+    let P : Bool → Type 0 = λ b. words_of_rule_line b here.words ≡ None in
     subst P acting (line_is_right rows c.args.place here c.requires.right at
     (sym c.is_rules.ensures ∙ c.if-not-is_rules.false))
 

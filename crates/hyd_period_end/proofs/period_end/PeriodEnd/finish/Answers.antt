@@ -30,17 +30,17 @@ returns-in-Err-follow-clause-open c = λ standing other begun share.
 
 pub returns-clause-closed : goal.returns-clause-closed
 returns-clause-closed c = λ standing begun.
-    let network = c.args.project.now in
+    let project = c.args.project.now in
     let grid = grid_of c.args.net.now in
     let row = row_of c.args.row.now in
     let closed : Record = record row { length = c.in-Ok.seconds } in
     let share : SharesVectors closed row = record { main = refl; pinned = refl } in
-    let started = started-shared network grid standing row closed c.look.new.facts share
+    let started = started-shared project grid standing row closed c.look.new.facts share
     (c.look.ensures.started standing begun) in
-    let read = read-shared network grid standing row closed _ _ _ share c.look.ensures.read in
-    let changed = started-changed network grid standing closed c.look.new.facts c.decide_end.new.facts
+    let read = read-shared project grid standing row closed _ _ _ share c.look.ensures.read in
+    let changed = started-changed project grid standing closed c.look.new.facts c.decide_end.new.facts
     c.decide_end.ensures.keeps started in
-    closed-of network grid standing closed c.in-Ok.seconds c.args.facts.now c.look.new.facts c.decide_end.new.facts
+    closed-of project grid standing closed c.in-Ok.seconds c.args.facts.now c.look.new.facts c.decide_end.new.facts
     c.tell_end.new.facts (record {
       readings = c.look.new.readings;
       carried = c.tell_end.new.carried;

@@ -1,5 +1,5 @@
--- The line of each verdict.
-use Rattle.hyd_cert_check.proofs.last_report_line.put_verdict.Goals as goal
+-- The line of each conclusion.
+use Rattle.hyd_cert_check.proofs.last_report_line.put_conclusion.Goals as goal
 
 pub returns-in-Refused : goal.returns-in-Refused
 returns-in-Refused g c = rw c.in-Refused.is c.put_refused.ensures

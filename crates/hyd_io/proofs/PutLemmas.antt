@@ -1,28 +1,17 @@
 -- How texts that are put in follow one another.
 use Rattle.std.proofs.Common.{◌≡◌, ℕ, Bool, List, [], ◌++◌, Option, Some, None, refl, sym, subst, ◌∙◌, append-nil}
-use Rattle.std.proofs.Common.{append_assoc, arith}
+use Rattle.std.proofs.Common.{append_assoc}
 use Rattle.std.specs.Prelude.{Result, Ok, Err, IfSome, IsSome, IsTrue}
 use Rattle.hyd_io.specs.declared.desk.Faults.{Faults}
 use Rattle.hyd_io.specs.declared.desk.Openings.{Openings}
 use Rattle.hyd_io.specs.declared.output.OutFault.{OutFault}
 use Rattle.hyd_io.specs.declared.output.Channel.{Channel}
-use Rattle.hyd_io.specs.declared.output.Channel.TheVariants.{Cert, Report}
 use Rattle.hyd_io.specs.DeskBytes.{Files, Moves, PutOut}
 use Rattle.hyd_io.specs.FailureCounts.{NeverFall}
-use Rattle.hyd_io.specs.Output.{by_channel, OnCert, OnReport, HasOutCause, PenState}
+use Rattle.hyd_io.specs.Output.{by_channel, OnCert, HasOutCause, PenState}
 use Rattle.hyd_io.proofs.ToldLemmas.{moves_then, put_out_then, put_out_more, moves_nothing}
-use Rattle.hyd_report.specs.Putting.{Puts}
-
-never_fall_stays : (f : Faults) → NeverFall f f
-never_fall_stays f = record { read = omega arith; write = omega arith; print = omega arith; stall = omega arith }
-
-on_report_stays : {A : Type 0} (to : Channel) (a : A) → OnReport to (a ≡ a)
-on_report_stays Cert a = tt
-on_report_stays Report a = refl
-
-on_cert_stays : {A : Type 0} (to : Channel) (a : A) → OnCert to (a ≡ a)
-on_cert_stays Cert a = refl
-on_cert_stays Report a = tt
+use Rattle.hyd_io.proofs.KeepingLemmas.{on_report_then, on_cert_then, never_fall_stays, on_report_stays, on_cert_stays}
+use Rattle.hyd_io.specs.Putting.{Puts}
 
 no_such : (o : Option OutFault) → IfSome o (λ fault. Ok (tt {0}) ≡ Err fault) → o ≡ None
 no_such None again = refl
@@ -35,18 +24,6 @@ again_then o result none = subst (λ (f : Option OutFault). IfSome f (λ fault. 
 nothing_then : {P : Type 0} (o : Option OutFault) → o ≡ None → IsSome o → P
 nothing_then None none some = absurd (cc)
 nothing_then (Some why) none some = absurd (cc)
-
-on_report_then : {A : Type 0} (to pen : Channel) (a b d : A) → pen ≡ to → OnReport to (b ≡ a) → OnReport pen (d ≡ b)
-    → OnReport to (d ≡ a)
-on_report_then Cert pen a b d same so_far step = tt
-on_report_then Report Cert a b d same so_far step = absurd (cc)
-on_report_then Report Report a b d same so_far step = step ∙ so_far
-
-on_cert_then : {A : Type 0} (to pen : Channel) (a b d : A) → pen ≡ to → OnCert to (b ≡ a) → OnCert pen (d ≡ b)
-    → OnCert to (d ≡ a)
-on_cert_then Report pen a b d same so_far step = tt
-on_cert_then Cert Report a b d same so_far step = absurd (cc)
-on_cert_then Cert Cert a b d same so_far step = step ∙ so_far
 
 cause_on : (why : OutFault) (p q : Channel) (a b d : Faults) → q ≡ p → b ≡ a → HasOutCause q why b d
     → HasOutCause p why a d
@@ -65,7 +42,7 @@ module _ {S : Type 0} {files : S → Option Files} {rest written printed target 
     moves = subst (λ (all : List ℕ). Moves (by_channel pen.to (written desk) (printed desk)) (by_channel pen.to
         (written desk) (printed desk)) all pen.held)
         (sym (append-nil pen.held)) (moves_nothing (by_channel pen.to (written desk) (printed desk)) pen.held);
-    prefix = tt;
+    front = tt;
     to_stays = refl;
     no_fault = unbroken;
     keeps_fault = tt;
@@ -120,7 +97,7 @@ module _ {S : Type 0} {files : S → Option Files} {rest written printed target 
       → Puts files rest written printed target ready counts openings (a ++ b) result p r d f
   puts_then a b (Ok done) p q r d e f first second = record {
     moves = moves_on a b p q r d e f first second.moves;
-    prefix = tt;
+    front = tt;
     to_stays = second.to_stays ∙ first.to_stays;
     no_fault = second.no_fault;
     keeps_fault = tt;
@@ -145,7 +122,7 @@ module _ {S : Type 0} {files : S → Option Files} {rest written printed target 
   }
   puts_then a b (Err why) p q r d e f first second = record {
     moves = tt;
-    prefix = cut_on a b p q d e f first second.prefix;
+    front = cut_on a b p q d e f first second.front;
     to_stays = second.to_stays ∙ first.to_stays;
     no_fault = tt;
     keeps_fault = second.keeps_fault;
@@ -176,10 +153,10 @@ module _ {S : Type 0} {files : S → Option Files} {rest written printed target 
       → Puts files rest written printed target ready counts openings (a ++ b) (Err why) p q d e
   puts_cut a b why p q d e first = record {
     moves = tt;
-    prefix = subst (PutOut (by_channel p.to (written d) (printed d)) (by_channel p.to (written e) (printed e)))
+    front = subst (PutOut (by_channel p.to (written d) (printed d)) (by_channel p.to (written e) (printed e)))
         (append_assoc p.held a b)
         (put_out_more (by_channel p.to (written d) (printed d)) (by_channel p.to (written e) (printed e))
-        (p.held ++ a) b first.prefix);
+        (p.held ++ a) b first.front);
     no_fault = tt;
     steady = tt;
     to_stays = first.to_stays;

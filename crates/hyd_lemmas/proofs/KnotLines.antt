@@ -1,0 +1,23 @@
+-- The line through two knots, as a fraction.
+use Rattle.std.proofs.Common.{◌≡◌, ℤ, ◌<ℤ◌, refl, sym, ◌*◌, pos, ◌+ℤ◌, ◌-ℤ◌, ◌*ℤ◌, unsigned_abs, ap, ◌∙◌, arith}
+use Rattle.hyd_net.specs.Curves.{Knot, on_line, between}
+use Rattle.std.proofs.lemmas.Int.{ints}
+use Rattle.hyd_num.proofs.Integers.{one_times}
+use Rattle.hyd_lemmas.proofs.Trials.{lt-from}
+
+pub on_line_is : (a b : Knot) (d : ℤ) → a.place <ℤ b.place → on_line 1 a b d ≡ between 1 a b d
+on_line_is a b d less = sym (rw (lt-from a.place b.place less) refl)
+
+pub line_is : (a b : Knot) (d p q : ℤ) → a.place <ℤ b.place → p ≡ (b.place -ℤ a.place) *ℤ a.value
+    → q ≡ (b.value -ℤ a.value) *ℤ (d -ℤ a.place)
+    → p +ℤ q ≡ (on_line 1 a b d).num
+line_is a b d p q less e f =
+    let w : b.place -ℤ a.place ≡ pos (1 * unsigned_abs (b.place -ℤ a.place)) = omega (arith, ints) in
+    let x : d -ℤ a.place ≡ d -ℤ (pos 1 *ℤ a.place) = ap (λ (z : ℤ). d -ℤ z) (sym (one_times a.place)) in
+    let l : p ≡ pos (1 * unsigned_abs (b.place -ℤ a.place)) *ℤ a.value = e ∙ ap (λ (z : ℤ). z *ℤ a.value) w in
+    let r : q ≡ (b.value -ℤ a.value) *ℤ (d -ℤ (pos 1 *ℤ a.place)) =
+    f ∙ ap (λ (z : ℤ). (b.value -ℤ a.value) *ℤ z) x in
+    rw (l, r) refl
+
+pub product_is : (r x y a b : ℤ) → r ≡ x *ℤ y → x ≡ a → y ≡ b → r ≡ a *ℤ b
+product_is r x y a b e f g = e ∙ (rw (f, g) refl)
