@@ -7,7 +7,7 @@ use Rattle.hyd_cert_check.specs.Checks.{CheckEnds, CheckBreaksOff}
 use Rattle.hyd_cert_check.specs.RecordByRecord.{IsPrinted}
 use Rattle.hyd_cert_check.specs.declared.outcome.CheckEnd.{CheckEnd}
 use Rattle.hyd_as_library.specs.AtDesk.{NothingPut, IsCheckAt, IsCheckCutShort}
-use Rattle.hyd_lemmas.proofs.ListsAndOptions.{same_item}
+use Rattle.hyd_lemmas.proofs.ListsOptionsAndResults.{same_item}
 
 -- what was printed behind what a call left as it was
 printed_since : (before between now report : List ℕ) → Some between ≡ Some before

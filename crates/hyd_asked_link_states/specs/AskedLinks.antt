@@ -6,6 +6,7 @@ use Rattle.hyd_num.specs.FileQuantity.{is_us_unit}
 use Rattle.hyd_num.specs.declared.flow_units.FlowUnit.{FlowUnit}
 use Rattle.hyd_spec_lines.specs.Lines.{Row}
 use Rattle.hyd_spec_lines.specs.declared.section.Section.TheVariants.{Pipes, Pumps, Valves}
+use Rattle.hyd_spec_lines.specs.declared.section.Section.{Section}
 use Rattle.hyd_option_and_rule_lines.specs.declared.controls.Asked.{Asked}
 use Rattle.hyd_option_and_rule_lines.specs.declared.controls.Asked.TheVariants.{Number}
 use Rattle.hyd_spec_input.specs.SingleRows.{section_fault}
@@ -114,3 +115,10 @@ pub record IsSettable (unit : FlowUnit) (row : Row) (asked : Asked) : Type 0 whe
   pub type_is : IsType row link
   pub right : type_fault unit link asked None ≡ None
   pub free : IsRefusedAsked unit row link asked → ⊥
+
+-- a section of links
+abbrev pub is_link_section : Section → Bool
+is_link_section Pipes = true
+is_link_section Pumps = true
+is_link_section Valves = true
+is_link_section _ = false

@@ -5,6 +5,7 @@ use Rattle.std.specs.Prelude.{Option, slice_get, slice_set, Some}
 use Rattle.std.specs.Option.{IfSome}
 use Rattle.hyd_num.specs.declared.decimals.Span.{Span}
 use Rattle.hyd_spec.specs.Assignment.{head_at}
+use Rattle.hyd_spec.specs.Scale.{missed_flow_ticks}
 use Rattle.hyd_spec_certificates.specs.EnclosingFunctions.{low, high}
 use Rattle.hyd_spec_certificates.specs.PeriodNetwork.{GridLink}
 use Rattle.hyd_spec_certificates.specs.FlowIntervals.{flow_box}
@@ -28,15 +29,18 @@ pub flow-box-is : (links : List GridLink) (k : ℕ) (law : LinkLaw) (ends : Ends
     → StandsFor links k law → IfSome (slice_get links k) (HasTheseEnds ends)
     → least ≡ (head_at below ends.from -ℤ head_at above ends.to)
     → greatest ≡ (head_at above ends.from -ℤ head_at below ends.to)
-    → span.lo ≡ (link_low law least -ℤ pos 10) → span.hi ≡ (link_high law greatest +ℤ pos 10)
+    → span.lo ≡ (link_low law least -ℤ pos missed_flow_ticks)
+    → span.hi ≡ (link_high law greatest +ℤ pos missed_flow_ticks)
     → IfSome (slice_get links k) (λ (l : GridLink). IsSpan span (flow_box l below above))
 flow-box-is links k law ends below above least greatest span there ends_are least_is greatest_is lo_is hi_is =
     let e = ends-of links k law ends there ends_are in
     let d : least ≡ (head_at below there.link.from -ℤ head_at above there.link.to) = rw (e.0, e.1) least_is in
     let g : greatest ≡ (head_at above there.link.from -ℤ head_at below there.link.to) = rw (e.0, e.1) greatest_is in
     rw there.is_link (record {
-      lo_is = lo_is ∙ ap (λ (q : ℤ). q -ℤ pos 10) (there.stands.low_is least ∙ ap (low there.link.law) d);
-      hi_is = hi_is ∙ ap (λ (q : ℤ). q +ℤ pos 10) (there.stands.high_is greatest ∙ ap (high there.link.law) g);
+      lo_is = lo_is
+          ∙ ap (λ (q : ℤ). q -ℤ pos missed_flow_ticks) (there.stands.low_is least ∙ ap (low there.link.law) d);
+      hi_is = hi_is
+          ∙ ap (λ (q : ℤ). q +ℤ pos missed_flow_ticks) (there.stands.high_is greatest ∙ ap (high there.link.law) g);
     })
 
 -- a number put in the place of none changes nothing

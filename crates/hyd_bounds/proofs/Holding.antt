@@ -25,11 +25,11 @@ use Rattle.hyd_spec_reports.specs.Claims.{StatusHolds}
 use Rattle.hyd_theorems_on_definitions.specs.TermsOfTheorems.{LiesIn, LieBetween}
 use Rattle.hyd_theorems_on_definitions.proofs.Boxed.{heads_between, flow_lies, outflow_lies}
 use Rattle.hyd_theorems_on_definitions.proofs.Comparison.{one_each}
-use Rattle.hyd_theorems_on_definitions.proofs.NetRising.{item-at}
 use Rattle.hyd_theorems_on_definitions.proofs.Pinning.{inflow_lies}
 use Rattle.hyd_theorems_on_definitions.proofs.StatusWords.{status_holds}
 use Rattle.hyd_bounds.specs.VectorsInOrder.{IsSpan}
 use Rattle.hyd_bounds.specs.Enclosed.{HoldsFlow, HoldsOutflow, HoldsInflow, HoldsStatus}
+use Rattle.hyd_lemmas.proofs.ListsOptionsAndResults.{item_there}
 
 -- what lies in an interval lies in its span
 in-span : (S : ℕ) (span : Span) (interval : Interval) (z : ℤ) → IsSpan span interval → LiesIn S interval z
@@ -63,7 +63,7 @@ module _ (grid : Grid) where
       → HoldsOutflow grid j low high span
   holds-outflow j low high span lt box project S time intervals levels tanks links assignment below above compared
       under over low_is high_is =
-      let at = item-at grid.junctions j lt in
+      let at = item_there grid.junctions j lt in
       let is = subst (λ (o : Option GridJunction). IfSome o (λ (junction : GridJunction). IsSpan span (out_box junction
       low high))) at.1 box in
       let here : IsSpan span (out_box at.0 (head_at below j) (head_at above j)) = rw (low_is, high_is) is in

@@ -1,21 +1,23 @@
 -- The outflow box of a junction from its outflows at both heads.
-use Rattle.std.proofs.Common.{◌≡◌, ℕ, ◌<◌, ℤ, pos, ◌+ℤ◌, ◌-ℤ◌, ◌≤ℤ◌, subst, arith, List, length}
+use Rattle.std.proofs.Common.{◌≡◌, ℕ, ◌*◌, ◌<◌, ℤ, pos, ◌+ℤ◌, ◌-ℤ◌, ◌≤ℤ◌, subst, arith, List, length}
 use Rattle.std.specs.Prelude.{Option, Some, None, is_some, slice_get, if◌then◌else◌}
 use Rattle.std.specs.Option.{IfSome}
 use Rattle.std.proofs.lemmas.Int.{ints}
 use Rattle.hyd_num.specs.declared.decimals.Span.{Span}
 use Rattle.hyd_spec.specs.ProgramTypes.{Capacity}
+use Rattle.hyd_spec.specs.Scale.{missed_flow_ticks}
 use Rattle.hyd_spec_certificates.specs.EnclosingFunctions.{DemandLaw}
 use Rattle.hyd_spec_certificates.specs.PeriodNetwork.{Grid, GridJunction}
 use Rattle.hyd_spec_certificates.specs.NetOutflow.{outflow_low, outflow_high}
 use Rattle.hyd_spec_certificates.specs.FlowIntervals.{out_box}
 use Rattle.hyd_theorems_on_definitions.specs.TermsOfTheorems.{IsSteady}
-use Rattle.hyd_theorems_on_definitions.proofs.NetRising.{item-at, demand-at, outflow-rises}
+use Rattle.hyd_theorems_on_definitions.proofs.NetRising.{demand-at, outflow-rises}
 use Rattle.hyd_bounds.specs.VectorsInOrder.{IsSpan}
+use Rattle.hyd_lemmas.proofs.ListsOptionsAndResults.{item_there}
 
 -- by how much outflows may miss
 abbrev pub miss : Option Capacity → ℤ
-miss emitter = if is_some emitter then pos 20 else pos 10
+miss emitter = if is_some emitter then pos (2 * missed_flow_ticks) else pos missed_flow_ticks
 
 box-is : (elevation : ℤ) (demand : DemandLaw) (emitter : Option Capacity) (h k m : ℤ) (span : Span) → m ≡ miss emitter
     → let junction : GridJunction = record { elevation = elevation; demand = demand; emitter = emitter } in
@@ -34,7 +36,7 @@ pub out-box-at : (junctions : List GridJunction) (i : ℕ) (emitter : Option Cap
     → ((j : GridJunction) → slice_get junctions i ≡ Some j → span.hi ≡ (outflow_high j k +ℤ m))
     → IfSome (slice_get junctions i) (λ (j : GridJunction). IsSpan span (out_box j h k))
 out-box-at junctions i emitter h k m span lt is_emitter is lo hi =
-    let at = item-at junctions i lt in
+    let at = item_there junctions i lt in
     let junction = at.0 in
     let e : junction.emitter ≡ emitter = subst (λ (o : Option GridJunction). IfSome o (λ (j : GridJunction). j.emitter
     ≡ emitter)) at.1 is_emitter in
@@ -47,7 +49,7 @@ pub outflows-in-order : (grid : Grid) → IsSteady grid → (i : ℕ) (h k a b :
     → ((j : GridJunction) → slice_get grid.junctions i ≡ Some j → a ≡ outflow_low j h)
     → ((j : GridJunction) → slice_get grid.junctions i ≡ Some j → b ≡ outflow_high j k) → a ≤ℤ b
 outflows-in-order grid steady i h k a b lt le low high =
-    let at = item-at grid.junctions i lt in
+    let at = item_there grid.junctions i lt in
     let rises = outflow-rises at.0 h k (demand-at grid.junctions i at.0 steady.demands at.1) le in
     let l = low at.0 at.1 in
     let g = high at.0 at.1 in

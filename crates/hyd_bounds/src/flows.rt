@@ -13,12 +13,13 @@ ghost use Rattle.hyd_law.specs.LinkLaws.{link_low, link_high, IsSoundLink, LinkA
 ghost use Rattle.hyd_bounds.specs.VectorsInOrder.{IsSpan, IsVector, AreInOrder};
 ghost use Rattle.hyd_bounds.specs.Enclosed.{HoldsFlow};
 
-use crate::heads::{difference, node_head};
+use crate::heads::node_head;
 use hyd_law::{Law, LinkLaw};
 use hyd_num::Span;
 use hyd_period_network::Net;
 use hyd_spec::MISSED_FLOW_TICKS;
 use hyd_spec_certificates::{Problem, Side};
+use hyd_vector_check::difference;
 
 /// By how much every flow may miss its law, in flow ticks.
 pub(crate) const TOLERANCE: i128 = MISSED_FLOW_TICKS as i128;

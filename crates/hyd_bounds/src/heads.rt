@@ -1,9 +1,10 @@
 //! Heads of nodes.
 #![tactic(auto)]
 
-ghost use Rattle.std.specs.Prelude.{◌≡◌, ◌<◌, ◌≤◌, ◌*◌, ◌^◌, ◌-ℤ◌, unsigned_abs};
+ghost use Rattle.std.specs.Prelude.{◌≡◌, ◌<◌, ◌≤◌, unsigned_abs};
 ghost use Rattle.hyd_spec.specs.Assignment.{head_at};
 ghost use Rattle.hyd_spec_certificates.specs.PeriodNetwork.{all_heads};
+ghost use Rattle.hyd_spec_certificates.specs.Certificate.{box_limit};
 ghost use Rattle.hyd_period_network.specs.NetAsPeriodNetwork.{grid_of, node_count};
 ghost use Rattle.hyd_period_network.specs.NetInvariant.{HasProblem};
 ghost use Rattle.hyd_bounds.specs.VectorsInOrder.{IsVector};
@@ -17,20 +18,10 @@ pub(crate) fn node_head(net: &Net, problem: Problem, side: Side, u: &[i64], node
     requires pinned { HasProblem net.now problem }
     requires in_range { node < node_count net.now }
     ensures value { result ≡ head_at (all_heads (grid_of net.now) problem side u.now) node }
-    ensures small { unsigned_abs result ≤ 10 ^ 18 }
+    ensures small { unsigned_abs result ≤ box_limit }
 {
     if (node as usize) < u.len() {
         return u[node as usize];
     }
     net.fixed(problem, side, node)
-}
-
-/// The difference of two heads.
-pub(crate) fn difference(a: i64, b: i64) -> i64
-    requires a { unsigned_abs a ≤ 10 ^ 18 }
-    requires b { unsigned_abs b ≤ 10 ^ 18 }
-    ensures value { result ≡ a -ℤ b }
-    ensures small { unsigned_abs result ≤ 2 * 10 ^ 18 }
-{
-    a - b
 }

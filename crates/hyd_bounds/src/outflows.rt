@@ -24,7 +24,7 @@ fn missed(emitter: Option<&Quad>) -> i128
         then pos (2 * missed_flow_ticks)
         else pos missed_flow_ticks) }
     ensures least { pos 0 ≤ℤ result }
-    ensures small { unsigned_abs result ≤ 20 }
+    ensures small { unsigned_abs result ≤ 2 * missed_flow_ticks }
 {
     match emitter {
         Some(_) => 2 * TOLERANCE,

@@ -25,12 +25,13 @@ ghost use Rattle.hyd_bounds.specs.VectorsInOrder.{IsVector};
 ghost use Rattle.hyd_bounds.specs.Enclosed.{HoldsStatus};
 ghost use Rattle.hyd_bounds.specs.StatusWords.{open_word, running_word, limited_word, word_of};
 
-use crate::heads::{difference, node_head};
+use crate::heads::node_head;
 use hyd_law::{Bent, Held, Law, Lifted, LinkLaw, OneWay, Quad};
 use hyd_net::LinkState;
 use hyd_period_network::Net;
 use hyd_spec_certificates::{Problem, Side};
 use hyd_spec_reports::StatusWord;
+use hyd_vector_check::difference;
 
 // The word of a link that passes where its driving difference is above 0.
 fn by_drive(least: i128, greatest: i128) -> StatusWord

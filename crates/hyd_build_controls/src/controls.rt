@@ -1,7 +1,7 @@
 //! Simple controls.
 #![tactic(auto)]
 
-ghost use Rattle.std.specs.Prelude.{◌≡◌, ◌<◌, ◌+◌, ◌==◌, List as ListOf, Some, true, length, slice_get, IfOk, OnOk};
+ghost use Rattle.std.specs.Prelude.{◌≡◌, ◌<◌, ◌+◌, List as ListOf, Some, true, length, slice_get, IfOk, OnOk};
 ghost use Rattle.std.specs.List.{All};
 ghost use Rattle.hyd_spec_lines.specs.Lines.{LiesIn, Row};
 ghost use Rattle.hyd_spec_lines.specs.declared.section.Section.TheVariants.{Controls};
@@ -12,19 +12,19 @@ ghost use Rattle.hyd_spec_input.specs.Faults.{NoneIs, IsWrongWithOthers};
 ghost use Rattle.hyd_spec_input.specs.InForce as force;
 ghost use Rattle.hyd_spec_input.specs.MeaningsAcrossRows.{tank_ids, link_ids};
 ghost use Rattle.hyd_spec_input.specs.Project.{Match, IsControl, IsWhen};
-ghost use Rattle.hyd_spec_input.specs.Tables.{place as section_place, is_of, words_of, link_rows};
+ghost use Rattle.hyd_spec_input.specs.Tables.{is_of, words_of, link_rows};
 ghost use Rattle.hyd_text_rows.specs.FirstWrongRow.{rows_at};
 ghost use Rattle.hyd_text_rows.specs.IdTables.{IsTable};
 ghost use Rattle.hyd_build_controls.specs.Controls.{IsRightWhen, AreControls};
 
 use crate::numbering::{level_ticks, number_of};
 use hyd_asked_link_states::link_state;
-use hyd_lex::{Line, Lines, Section};
+use hyd_lex::{Line, Lines};
 use hyd_net::{Control, LinkState, List, Names, OutOfMemory, When};
 use hyd_num::FlowUnit;
 use hyd_option_and_rule_lines::{WhenLine, read_control};
 use hyd_row_words::or_empty;
-use hyd_text_rows::Table;
+use hyd_text_rows::{Table, is_controls};
 use std::alloc::Global;
 
 // What stands for a control of a file with a fault.
@@ -33,15 +33,6 @@ const NO_CONTROL: Control = Control {
     to: LinkState::Open,
     when: When::Time(0),
 };
-
-fn is_controls(section: Section) -> bool
-    ensures { result ≡ (section_place section == 11) }
-{
-    match section {
-        Section::Controls => true,
-        _ => false,
-    }
-}
 
 // When a control acts.
 fn when_of(text: &Lines<'_>, line: &Line, tanks: &Names, when: WhenLine, unit: FlowUnit) -> When

@@ -3,7 +3,6 @@ use Rattle.std.proofs.Common.{◌≡◌, ◌+◌, ◌≤◌, ℕ, Bool, true, fa
 use Rattle.std.proofs.Common.{slice_get, Some, Contains, refl, sym, ap, ◌∙◌, subst, arith, inl, inr, true≢false}
 use Rattle.std.proofs.Common.{append_assoc}
 use Rattle.std.specs.Prelude.{◌↔◌, if◌then◌else◌}
-use Rattle.std.specs.List.{list_any}
 use Rattle.std.specs.Str.{bytes_eq}
 use Rattle.std.specs.Cmp.Lexicographic.{bytes_decides, nat_list_eq_equiv}
 use Rattle.std.proofs.lemmas.Bool.{cases_Bool}
@@ -19,7 +18,7 @@ use Rattle.hyd_text_rows.proofs.FoundLemmas.{filter_more, filter_same}
 use Rattle.hyd_lemmas.proofs.Trials.{or-turned}
 use Rattle.hyd_theorems_on_input.proofs.Occurs.{itself, when, occurs, occurs_append, Once}
 use Rattle.hyd_theorems_on_input.proofs.Faultless.{AreRight}
-use Rattle.hyd_theorems_on_input.proofs.Names.{own_ids, node_ids_are, link_ids_are, tank_ids_are, nodes_once}
+use Rattle.hyd_theorems_on_input.proofs.Names.{own_ids, node_ids_are, link_ids_are, tank_ids_are, nodes_once, among_is}
 use Rattle.hyd_theorems_on_input.proofs.Names.{links_once}
 
 -- ---- one name more
@@ -49,10 +48,6 @@ one_more name seen (id ∷ ids) = elim (cases_Bool (is_among id seen)) [
       ∙ ap (λ b. with_name b (id ∷ new_names (id ∷ seen) ids) name)
       (or-turned (bytes_eq name id) (is_among name seen) (is_among name (new_names (id ∷ seen) ids))))
 ]
-
-among_is : (name : List ℕ) (ids : List (List ℕ)) → is_among name ids ≡ list_any (bytes_eq name) ids
-among_is name [] = refl
-among_is name (id ∷ ids) = ap (λ b. bytes_eq name id || b) (among_is name ids)
 
 both_in_turn : (a b c : Bool) → (a || (b || c)) ≡ ((a || b) || c)
 both_in_turn true b c = refl

@@ -11,7 +11,7 @@ use Rattle.hyd_spec_input.specs.Faults.{NoneIs, IsWrongWithOthers}
 use Rattle.hyd_text_rows.specs.FirstWrongRow.{rows_at}
 use Rattle.hyd_theorems_on_input.proofs.Faultless.{AreRight, none_from}
 use Rattle.hyd_theorems_on_input.proofs.Places.{source}
-use Rattle.hyd_theorems_on_input.proofs.NotEmpty.{no_empty_word}
+use Rattle.hyd_theorems_on_input.proofs.NoEmptyWords.{no_empty_word}
 
 words_of_line : (text : List ℕ) (lines : List Line) (k : ℕ) (row : Row) → slice_get (rows_at text lines) k ≡ Some row
     → All (λ w. 1 ≤ length w) row.words

@@ -1,16 +1,10 @@
 -- Lines in force.
 use Rattle.std.specs.Prelude.{◌≡◌, ℕ, Bool, true, List, Option, Some, None}
-use Rattle.std.specs.Option.{option_map}
-use Rattle.hyd_spec_lines.specs.Lines.{Row, row_of}
-use Rattle.hyd_spec_lines.specs.declared.line.Line.{Line}
+use Rattle.hyd_spec_lines.specs.Lines.{Row}
 use Rattle.hyd_spec_input.specs.Columns.{word_is}
 use Rattle.hyd_spec_input.specs.InForce.{begins, begins_both}
 use Rattle.hyd_spec_input.specs.Moments.{time}
 use Rattle.hyd_spec_input.specs.OptionRows.{time_line}
-
--- the row of a line that may be there
-abbrev pub row_in : List ℕ → Option Line → Option Row
-row_in text line = option_map (row_of text) line
 
 -- a row begins with one word, or with two
 abbrev pub begins_with : List ℕ → Option (List ℕ) → Row → Bool

@@ -7,9 +7,8 @@ ghost use Rattle.hyd_spec_lines.specs.WordsOfLines.{text_of};
 ghost use Rattle.hyd_spec_lines.specs.Lines.{LiesIn, row_of};
 ghost use Rattle.hyd_spec_input.specs.InForce.{last_where};
 ghost use Rattle.hyd_spec_input.specs.Tables.{rows_of};
-ghost use Rattle.hyd_text_rows.specs.FirstWrongRow.{rows_at};
+ghost use Rattle.hyd_text_rows.specs.FirstWrongRow.{rows_at, row_in};
 ghost use Rattle.hyd_build_ids_and_options.specs.InForce as force;
-ghost use Rattle.hyd_build_ids_and_options.specs.InForce.{row_in};
 
 use crate::ids::is_of;
 use hyd_lex::{Line, Lines, Section};

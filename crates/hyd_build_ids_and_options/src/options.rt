@@ -11,18 +11,16 @@ ghost use Rattle.hyd_spec_input.specs.Columns as column;
 ghost use Rattle.hyd_spec_input.specs.InForce as force;
 ghost use Rattle.hyd_spec_input.specs.MeaningsAcrossRows as across;
 ghost use Rattle.hyd_spec_input.specs.Project.{IsOptions};
-ghost use Rattle.hyd_text_rows.specs.FirstWrongRow.{rows_at};
-ghost use Rattle.hyd_build_ids_and_options.specs.InForce.{row_in};
+ghost use Rattle.hyd_text_rows.specs.FirstWrongRow.{rows_at, row_in};
 
 use crate::in_force::last_line;
 use hyd_lex::{Line, Lines, Section};
+use hyd_net::ranges::TENTH;
 use hyd_net::{Names, Options};
 use hyd_num::{Decimal, FlowUnit};
 use hyd_row_words::{number, or_empty, word_is};
 
 const ZERO: i128 = 0;
-
-const TENTH: i128 = 100_000_000;
 
 const ONE: i128 = 1_000_000_000;
 

@@ -12,8 +12,9 @@ use Rattle.hyd_spec_input.specs.Tables.{place, is_of, is_link, rows_of}
 use Rattle.hyd_text_rows.specs.FirstWrongRow.{rows_at}
 use Rattle.hyd_text_rows.proofs.FoundLemmas.{filter_more, filter_same}
 use Rattle.hyd_text_rows.proofs.SectionLemmas.{all_rows}
-use Rattle.hyd_build_links.specs.Built.{AreBuilt, is_link_section}
+use Rattle.hyd_build_links.specs.Built.{AreBuilt}
 use Rattle.hyd_theorems_on_input.proofs.Matching.{match_push}
+use Rattle.hyd_asked_link_states.specs.AskedLinks.{is_link_section}
 
 -- ---- sections
 

@@ -1,8 +1,8 @@
 -- What a right source says of its pipes, pumps and valves.
-use Rattle.std.proofs.Common.{◌≡◌, ◌^◌, ◌<◌, ◌≤◌, ℕ, Bool, true, false, List, length, Option, Some, None, sym, ap, ◌∙◌}
+use Rattle.std.proofs.Common.{◌≡◌, ◌^◌, ◌<◌, ℕ, Bool, true, false, List, length, Option, Some, None, sym, ap, ◌∙◌}
 use Rattle.std.proofs.Common.{subst, arith, inl, inr}
 use Rattle.std.specs.Prelude.{nat_le}
-use Rattle.std.proofs.lemmas.Bool.{cases_Bool, leb-true, leb-false}
+use Rattle.std.proofs.lemmas.Bool.{cases_Bool, leb-true}
 use Rattle.std.proofs.lemmas.List.{length-map}
 use Rattle.hyd_num.specs.FileQuantity.{is_us_unit}
 use Rattle.hyd_num.specs.declared.decimals.Decimal.{Decimal}
@@ -107,15 +107,6 @@ few_points points l = elim (cases_Bool (nat_le 4 (length points))) [
   | inl t ↦ absurd (omega (arith, l, leb-true 4 (length points) t))
   | inr f ↦ f
 ]
-
-pub many_points : (ps : List CurvePoint) (points : List Point) → points_in ps ≡ points → 4 ≤ length ps
-    → is_bent points ≡ true
-many_points ps points e l =
-    let n : length points ≡ length ps = ap length (sym e) ∙ length-map ps _ in
-    elim (cases_Bool (nat_le 4 (length points))) [
-      | inl t ↦ t
-      | inr f ↦ absurd (omega (arith, l, n, leb-false 4 (length points) f))
-    ]
 
 pub record PumpFacts (text : List ℕ) (from : LinkSource) (line : Line) : Type 0 where
   pub own : alone.pump (row_of text line).words ≡ None

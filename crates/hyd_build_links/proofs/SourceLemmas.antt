@@ -12,7 +12,7 @@ use Rattle.hyd_theorems_on_input.proofs.Faultless.{AreRight, section_is, none_fr
 use Rattle.hyd_theorems_on_input.proofs.Places.{source}
 use Rattle.hyd_build_links.specs.CheckedRows.{IsRightSource, rows_from}
 use Rattle.hyd_build_links.specs.declared.link_source.LinkSource.{LinkSource}
-use Rattle.hyd_theorems_on_input.proofs.NotEmpty.{no_empty_word}
+use Rattle.hyd_theorems_on_input.proofs.NoEmptyWords.{no_empty_word}
 
 pub right_source : (text : List ℕ) (from : LinkSource) → IsRightSource text from → AreRight (rows_from text from)
 right_source text from right =

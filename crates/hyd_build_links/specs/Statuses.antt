@@ -1,16 +1,12 @@
 -- The last rows of [STATUS] that name each link.
 use Rattle.std.specs.Prelude.{◌≡◌, ℕ, List, Option, Some, None, length, take, slice_index_or, IfSome}
 use Rattle.std.specs.List.{All}
-use Rattle.std.specs.Option.{option_map}
-use Rattle.hyd_spec_lines.specs.Lines.{Row, LiesIn, row_of}
+use Rattle.hyd_spec_lines.specs.Lines.{Row, LiesIn}
 use Rattle.hyd_spec_lines.specs.declared.line.Line.{Line}
 use Rattle.hyd_spec_lines.specs.declared.section.Section.TheVariants.{Status}
 use Rattle.hyd_spec_input.specs.MeaningsAcrossRows.{number_in, last_naming}
 use Rattle.hyd_spec_input.specs.Tables.{rows_of}
-
--- the row of a line that may be there
-abbrev pub row_in : List ℕ → Option Line → Option Row
-row_in text line = option_map (row_of text) line
+use Rattle.hyd_text_rows.specs.FirstWrongRow.{row_in}
 
 -- so many, all without a line
 pub record AreNone (last : List (Option Line)) (count : ℕ) : Type 0 where

@@ -7,7 +7,8 @@ ghost use Rattle.hyd_spec_input.specs.Project.{IsKind, IsLink, Match, numbered_l
 ghost use Rattle.hyd_spec_input.specs.Tables.{place as section_place, is_link, rows_of};
 ghost use Rattle.hyd_build_links.specs.CheckedRows.{IsRightSource, IsRowOf, rows_from};
 ghost use Rattle.hyd_build_links.specs.Statuses.{AreStatuses};
-ghost use Rattle.hyd_build_links.specs.Built.{AreBuilt, is_link_section};
+ghost use Rattle.hyd_asked_link_states.specs.AskedLinks.{is_link_section};
+ghost use Rattle.hyd_build_links.specs.Built.{AreBuilt};
 
 use crate::link_source::LinkSource;
 use crate::numbering::number;

@@ -1,30 +1,21 @@
 //! The last rows of [STATUS] that name each link.
 #![tactic(auto)]
 
-ghost use Rattle.std.specs.Prelude.{◌≡◌, ◌<◌, ◌+◌, ◌==◌, ℕ, List, Option, length, take, IfOk, IfSome};
+ghost use Rattle.std.specs.Prelude.{◌≡◌, ◌<◌, ◌+◌, ℕ, List, Option, length, take, IfOk, IfSome};
 ghost use Rattle.std.specs.List.{All};
 ghost use Rattle.hyd_spec_lines.specs.Lines.{LiesIn, Row};
 ghost use Rattle.hyd_spec_input.specs.MeaningsAcrossRows.{last_naming};
 ghost use Rattle.hyd_spec_lines.specs.declared.section.Section.TheVariants.{Status};
-ghost use Rattle.hyd_spec_input.specs.Tables.{place as section_place, rows_of};
-ghost use Rattle.hyd_text_rows.specs.FirstWrongRow.{rows_at};
+ghost use Rattle.hyd_spec_input.specs.Tables.{rows_of};
+ghost use Rattle.hyd_text_rows.specs.FirstWrongRow.{rows_at, row_in};
 ghost use Rattle.hyd_text_rows.specs.IdTables.{IsEven};
 ghost use Rattle.hyd_build_links.specs.CheckedRows.{HasNumber};
-ghost use Rattle.hyd_build_links.specs.Statuses.{AreNone, AreStatuses, row_in};
+ghost use Rattle.hyd_build_links.specs.Statuses.{AreNone, AreStatuses};
 
-use hyd_lex::{Line, Lines, Section};
+use hyd_lex::{Line, Lines};
 use hyd_net::OutOfMemory;
-use hyd_text_rows::{Table, own_id};
+use hyd_text_rows::{Table, is_status, own_id};
 use std::alloc::Global;
-
-fn is_status(section: Section) -> bool
-    ensures { result ≡ (section_place section == 10) }
-{
-    match section {
-        Section::Status => true,
-        _ => false,
-    }
-}
 
 // So many without a line.
 fn none_each(alloc: Global, count: usize) -> Result<Vec<Option<Line>>, OutOfMemory>

@@ -3,6 +3,7 @@ use Rattle.std.specs.Prelude.{◌≡◌, ℕ, ◌≤◌, ◌*◌, ◌^◌, List,
 use Rattle.std.specs.Prelude.{unsigned_abs}
 use Rattle.hyd_num.specs.FileQuantity.{is_us_unit, head_ticks}
 use Rattle.hyd_num.specs.declared.flow_units.FlowUnit.{FlowUnit}
+use Rattle.hyd_net.specs.NumberRanges.{head_limit}
 use Rattle.hyd_net.specs.RoundedFileNumbers.{IsAreaMade}
 use Rattle.hyd_net.specs.declared.nodes.Reservoir.{Reservoir}
 use Rattle.hyd_net.specs.declared.nodes.Tank.{Tank}
@@ -26,7 +27,7 @@ pub record IsReservoirOf (unit : FlowUnit) (patterns : List (List ℕ)) (words :
 
 -- a head or level whose ticks fit
 abbrev pub IsSmall : FlowUnit → ℤ → Type 0
-IsSmall unit nano = unsigned_abs (head_ticks (is_us_unit unit) nano) ≤ 2 * 10 ^ 17
+IsSmall unit nano = unsigned_abs (head_ticks (is_us_unit unit) nano) ≤ 2 * head_limit
 
 -- the quantities of a row of tanks fit
 pub record AreSmall (unit : FlowUnit) (words : List (List ℕ)) : Type 0 where

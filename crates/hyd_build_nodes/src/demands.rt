@@ -1,37 +1,29 @@
 //! The demands of junctions, gathered.
 #![tactic(auto)]
 
-ghost use Rattle.std.specs.Prelude.{◌≡◌, ◌<◌, ◌≤◌, ◌+◌, ◌^◌, ◌==◌, ◌++◌, [], ◌∷◌, length, slice_index_or, unsigned_abs};
+ghost use Rattle.std.specs.Prelude.{◌≡◌, ◌<◌, ◌≤◌, ◌+◌, ◌++◌, [], ◌∷◌, length, slice_index_or, unsigned_abs};
 ghost use Rattle.std.specs.Prelude.{IfOk, OnOk};
 ghost use Rattle.std.specs.List.{All};
 ghost use Rattle.hyd_num.specs.FileQuantity as quantity;
+ghost use Rattle.hyd_net.specs.NumberRanges.{flow_limit};
 ghost use Rattle.hyd_spec_lines.specs.Lines.{LiesIn};
 ghost use Rattle.hyd_spec_input.specs.SingleRows.{IsWrongByItself};
 ghost use Rattle.hyd_spec_input.specs.Faults.{NoneIs, IsWrongWithOthers};
 ghost use Rattle.hyd_spec_input.specs.InForce as force;
 ghost use Rattle.hyd_spec_input.specs.MeaningsAcrossRows.{pattern_ids};
-ghost use Rattle.hyd_spec_input.specs.Tables.{place as section_place, node_rows};
+ghost use Rattle.hyd_spec_input.specs.Tables.{node_rows};
 ghost use Rattle.hyd_text_rows.specs.FirstWrongRow.{rows_at};
 ghost use Rattle.hyd_text_rows.specs.IdTables.{IsTable};
 ghost use Rattle.hyd_build_nodes.specs.DemandsAndEmitters.{AreDemands, AreEmpty, each, IsSetAt, demand_by as demand_as};
 ghost use Rattle.hyd_spec_lines.specs.WordsOfLines.{text_of};
 
 use crate::quantities::{flow_of, number_named};
-use hyd_lex::{Line, Lines, Section};
+use hyd_lex::{Line, Lines};
 use hyd_net::{Demand, List, Names, OutOfMemory};
 use hyd_network_rows::read_demand;
 use hyd_num::{Decimal, FlowUnit};
-use hyd_text_rows::Table;
+use hyd_text_rows::{Table, is_demands};
 use std::alloc::Global;
-
-fn is_demands(section: Section) -> bool
-    ensures { result ≡ (section_place section == 6) }
-{
-    match section {
-        Section::Demands => true,
-        _ => false,
-    }
-}
 
 // So many empty lists.
 fn empty_lists(alloc: Global, count: usize) -> Result<Vec<List<Demand>>, OutOfMemory>
@@ -62,7 +54,7 @@ pub(crate) fn demand_by(
     patterns: &Names,
     unit: FlowUnit,
 ) -> Demand
-    requires { unsigned_abs (quantity.flow_ticks unit base.nano) ≤ 10 ^ 15 }
+    requires { unsigned_abs (quantity.flow_ticks unit base.nano) ≤ flow_limit }
     ensures { result ≡ demand_as unit patterns.now base.nano (text_of pattern.entry) }
 {
     Demand {

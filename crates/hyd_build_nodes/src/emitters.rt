@@ -1,7 +1,7 @@
 //! The emitters of junctions, gathered.
 #![tactic(auto)]
 
-ghost use Rattle.std.specs.Prelude.{◌≡◌, ◌<◌, ◌≤◌, ◌+◌, ◌*◌, ◌^◌, ◌==◌, pos, ◌≤ℤ◌, length, IfOk};
+ghost use Rattle.std.specs.Prelude.{◌≡◌, ◌<◌, ◌≤◌, ◌+◌, ◌*◌, ◌^◌, pos, ◌≤ℤ◌, length, IfOk};
 ghost use Rattle.std.specs.List.{All};
 ghost use Rattle.hyd_spec_lines.specs.Lines.{LiesIn};
 ghost use Rattle.hyd_spec_input.specs.SingleRows.{IsWrongByItself};
@@ -9,27 +9,18 @@ ghost use Rattle.hyd_spec_input.specs.CapacitiesOutOfRange.{IsRefusedEmitter};
 ghost use Rattle.hyd_spec_input.specs.Faults.{NoneIs, IsWrongWithOthers};
 ghost use Rattle.hyd_spec_input.specs.InForce as force;
 ghost use Rattle.hyd_spec_input.specs.Project.{IsEmitter};
-ghost use Rattle.hyd_spec_input.specs.Tables.{place as section_place, node_rows};
+ghost use Rattle.hyd_spec_input.specs.Tables.{node_rows};
 ghost use Rattle.hyd_text_rows.specs.FirstWrongRow.{rows_at};
 ghost use Rattle.hyd_text_rows.specs.IdTables.{IsTable};
 ghost use Rattle.hyd_build_nodes.specs.DemandsAndEmitters.{AreEmitters, AreNone};
 
 use hyd_capacities::emitter_capacity;
-use hyd_lex::{Line, Lines, Section};
+use hyd_lex::{Line, Lines};
 use hyd_net::OutOfMemory;
 use hyd_network_rows::read_emitter;
 use hyd_num::{Capacity, Decimal, FlowUnit};
-use hyd_text_rows::Table;
+use hyd_text_rows::{Table, is_emitters};
 use std::alloc::Global;
-
-fn is_emitters(section: Section) -> bool
-    ensures { result ≡ (section_place section == 7) }
-{
-    match section {
-        Section::Emitters => true,
-        _ => false,
-    }
-}
 
 // The emitter of a coefficient, none where it is 0.
 fn emitter_of(coefficient: Decimal, unit: FlowUnit) -> Option<Capacity>

@@ -1,10 +1,11 @@
 //! Junctions.
 #![tactic(auto)]
 
-ghost use Rattle.std.specs.Prelude.{◌≡◌, ◌<◌, ◌≤◌, ◌+◌, ◌*◌, ◌^◌, ◌==◌, length, take, unsigned_abs, IfOk, OnOk};
+ghost use Rattle.std.specs.Prelude.{◌≡◌, ◌<◌, ◌≤◌, ◌+◌, ◌*◌, length, take, unsigned_abs, IfOk, OnOk};
 ghost use Rattle.std.specs.List.{All};
 ghost use Rattle.hyd_num.specs.FileQuantity as quantity;
 ghost use Rattle.hyd_num.specs.FileQuantity.{is_us_unit};
+ghost use Rattle.hyd_net.specs.NumberRanges.{flow_limit};
 ghost use Rattle.hyd_spec_lines.specs.WordsOfLines.{text_of};
 ghost use Rattle.hyd_spec_lines.specs.Lines.{LiesIn};
 ghost use Rattle.hyd_spec_lines.specs.declared.section.Section.TheVariants.{Junctions};
@@ -14,7 +15,7 @@ ghost use Rattle.hyd_spec_input.specs.InForce as force;
 ghost use Rattle.hyd_spec_input.specs.MeaningsAcrossRows as across;
 ghost use Rattle.hyd_spec_input.specs.MeaningsAcrossRows.{pattern_ids};
 ghost use Rattle.hyd_spec_input.specs.Project.{Match, IsJunction};
-ghost use Rattle.hyd_spec_input.specs.Tables.{place as section_place, rows_of, node_rows};
+ghost use Rattle.hyd_spec_input.specs.Tables.{rows_of, node_rows};
 ghost use Rattle.hyd_text_rows.specs.FirstWrongRow.{rows_at};
 ghost use Rattle.hyd_text_rows.specs.IdTables.{IsTable};
 ghost use Rattle.hyd_build_nodes.specs.ReservoirsAndTanks.{IsSmall};
@@ -24,11 +25,11 @@ ghost use Rattle.hyd_build_nodes.specs.WholeJunctions.{AreParts, IsJunctionBy};
 use crate::demands::{demand_by, gather_demands};
 use crate::emitters::gather_emitters;
 use crate::quantities::head_of;
-use hyd_lex::{Line, Lines, Section};
+use hyd_lex::{Line, Lines};
 use hyd_net::{Demand, Junction, List, Names, OutOfMemory};
 use hyd_network_rows::{JunctionRow, read_junction};
 use hyd_num::{Capacity, FlowUnit};
-use hyd_text_rows::Table;
+use hyd_text_rows::{Table, is_junctions};
 use std::alloc::Global;
 
 /// What junctions are made of besides their rows: the table of nodes and, by the numbers of their IDs, demands and
@@ -40,15 +41,6 @@ pub(crate) struct Parts<'a> {
     emitters: &'a [Option<Capacity>],
     patterns: &'a Names,
     unit: FlowUnit,
-}
-
-fn is_junctions(section: Section) -> bool
-    ensures { result ≡ (section_place section == 0) }
-{
-    match section {
-        Section::Junctions => true,
-        _ => false,
-    }
 }
 
 // A list of the same demands.
@@ -90,7 +82,7 @@ fn junction_by(
     unit: FlowUnit,
 ) -> Result<Junction, OutOfMemory>
     requires elevation { IsSmall unit row.now.elevation.nano }
-    requires base { unsigned_abs (quantity.flow_ticks unit row.now.base.nano) ≤ 10 ^ 15 }
+    requires base { unsigned_abs (quantity.flow_ticks unit row.now.base.nano) ≤ flow_limit }
     ensures { IfOk result (IsJunctionBy unit patterns.now row.now demands.now.list emitter) }
 {
     let own = demand_by(row.base, row.pattern, patterns, unit);

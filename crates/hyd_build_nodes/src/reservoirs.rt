@@ -1,10 +1,11 @@
 //! Reservoirs.
 #![tactic(auto)]
 
-ghost use Rattle.std.specs.Prelude.{◌≡◌, ◌<◌, ◌≤◌, ◌+◌, ◌*◌, ◌^◌, ◌==◌, None, length, take, unsigned_abs, IfOk, OnOk};
+ghost use Rattle.std.specs.Prelude.{◌≡◌, ◌<◌, ◌≤◌, ◌+◌, ◌*◌, ◌==◌, None, length, take, unsigned_abs, IfOk, OnOk};
 ghost use Rattle.std.specs.List.{All};
 ghost use Rattle.hyd_num.specs.FileQuantity as quantity;
 ghost use Rattle.hyd_num.specs.FileQuantity.{is_us_unit};
+ghost use Rattle.hyd_net.specs.NumberRanges.{head_limit};
 ghost use Rattle.hyd_spec_lines.specs.Lines.{LiesIn, row_of};
 ghost use Rattle.hyd_spec_lines.specs.declared.section.Section.TheVariants.{Reservoirs};
 ghost use Rattle.hyd_row_words.specs.FaultOrValue.{words_at};
@@ -40,7 +41,7 @@ fn reservoir_of(text: &Lines<'_>, line: &Line, patterns: &Names, unit: FlowUnit)
     requires lies { LiesIn text.now.text line.now }
     requires right { row.reservoir (words_at text.now line.now) ≡ None }
     requires head { unsigned_abs (quantity.head_ticks (is_us_unit unit) (amount 1 (words_at text.now line.now)))
-        ≤ 2 * 10 ^ 17 }
+        ≤ 2 * head_limit }
     ensures { IsReservoirOf unit patterns.now (words_at text.now line.now) result }
 {
     let Ok(row) = read_reservoir(text, line) else {

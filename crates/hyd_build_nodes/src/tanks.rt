@@ -1,7 +1,7 @@
 //! Tanks.
 #![tactic(auto)]
 
-ghost use Rattle.std.specs.Prelude.{◌≡◌, ◌<◌, ◌≤◌, ◌+◌, ◌*◌, ◌/◌, ◌^◌, ◌==◌, ◌≤ℤ◌, pos, ◌*ℤ◌, None, length, take};
+ghost use Rattle.std.specs.Prelude.{◌≡◌, ◌<◌, ◌≤◌, ◌+◌, ◌*◌, ◌/◌, ◌^◌, ◌≤ℤ◌, pos, ◌*ℤ◌, None, length, take};
 ghost use Rattle.std.specs.Prelude.{unsigned_abs, IfOk, OnOk};
 ghost use Rattle.std.specs.List.{All};
 ghost use Rattle.hyd_num.specs.FileQuantity.{is_us_unit, head_ticks};
@@ -15,25 +15,17 @@ ghost use Rattle.hyd_spec_input.specs.InForce as force;
 ghost use Rattle.hyd_spec_input.specs.MeaningsAcrossRows.{shape_names};
 ghost use Rattle.hyd_spec_input.specs.NetworkRows as row;
 ghost use Rattle.hyd_spec_input.specs.Project.{Match, IsTank};
-ghost use Rattle.hyd_spec_input.specs.Tables.{place as section_place, rows_of};
+ghost use Rattle.hyd_spec_input.specs.Tables.{rows_of};
 ghost use Rattle.hyd_text_rows.specs.FirstWrongRow.{rows_at};
 ghost use Rattle.hyd_build_nodes.specs.ReservoirsAndTanks.{AreSmall, HasTankMore, IsSmall, IsTankBy};
 
 use crate::quantities::{head_of, number_named};
-use hyd_lex::{Line, Lines, Section};
+use hyd_lex::{Line, Lines};
 use hyd_net::{List, Names, OutOfMemory, Tank};
 use hyd_network_rows::{TankRow, read_tank};
 use hyd_num::{Decimal, FlowUnit};
+use hyd_text_rows::is_tanks;
 use std::alloc::Global;
-
-fn is_tanks(section: Section) -> bool
-    ensures { result ≡ (section_place section == 2) }
-{
-    match section {
-        Section::Tanks => true,
-        _ => false,
-    }
-}
 
 // The square of a diameter's billionths, times and over a number, cut.
 fn square_times(diameter: Decimal, factor: u128, divisor: u128) -> u128

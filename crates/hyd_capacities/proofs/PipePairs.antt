@@ -8,10 +8,10 @@ use Rattle.hyd_num.specs.declared.decimals.Decimal.{Decimal}
 use Rattle.hyd_num.specs.Pairs.{IsSum}
 use Rattle.hyd_num.specs.CapacityPairs.{IsPipePairWith, IsFrictionPair, IsMinorPair, IsUnitOver}
 
-pub plain_pipe : (v : ℕ) (length diameter roughness minor : Decimal) (us : Bool) (friction r : Pair) → v ≡ 0
+pub pipe_without_minor : (v : ℕ) (length diameter roughness minor : Decimal) (us : Bool) (friction r : Pair) → v ≡ 0
     → IsFrictionPair length diameter roughness us friction → IsUnitOver friction r
     → IsPipePairWith v length diameter roughness minor us r
-plain_pipe v length diameter roughness minor us friction r none rubs over =
+pipe_without_minor v length diameter roughness minor us friction r none rubs over =
     subst (λ (x : ℕ). IsPipePairWith x length diameter roughness minor us r) (sym none)
     (record { friction = friction; friction_is = rubs; capacity_is = over })
 

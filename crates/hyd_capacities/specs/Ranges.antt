@@ -2,6 +2,7 @@
 use Rattle.std.specs.Prelude.{ℕ, ◌*◌, ◌^◌, pos, ◌+ℤ◌, ◌≤ℤ◌, ◌<ℤ◌, Bool}
 use Rattle.hyd_num.specs.declared.decimals.Decimal.{Decimal}
 use Rattle.hyd_num.specs.declared.flow_units.FlowUnit.{FlowUnit}
+use Rattle.hyd_net.specs.NumberRanges.{head_limit, flow_limit}
 use Rattle.hyd_num.specs.FileQuantity.{billionths, flow_ticks, pressure_fraction}
 use Rattle.hyd_num.specs.Fraction.{AtMost, whole}
 
@@ -31,14 +32,14 @@ pub record IsMinorCoefficient (minor : Decimal) : Type 0 where
   pub not_negative : pos 0 ≤ℤ minor.nano
   pub at_most : minor.nano ≤ℤ pos (10 ^ 6 * 10 ^ 9)
 
--- A flow of a pump's curve: above 0, at most 10^15 flow ticks after the cut to whole ticks.
+-- A flow of a pump's curve: above 0, at most the greatest flow after the cut to whole ticks.
 pub record IsCurveFlow (unit : FlowUnit) (flow : Decimal) : Type 0 where
   pub positive : pos 0 <ℤ flow.nano
-  pub at_most : flow_ticks unit flow.nano ≤ℤ pos (10 ^ 15)
+  pub at_most : flow_ticks unit flow.nano ≤ℤ pos flow_limit
 
--- The minimum and the required pressure of pressure-driven demands: not negative, at most 10^17 head ticks,
+-- The minimum and the required pressure of pressure-driven demands: not negative, at most the limit of heads,
 -- the required one at least a tenth of a pound a square inch or of a metre above the minimum one.
 pub record ArePressures (us : Bool) (minimum required : Decimal) : Type 0 where
   pub not_negative : pos 0 ≤ℤ minimum.nano
   pub apart : (minimum.nano +ℤ pos (10 ^ 8)) ≤ℤ required.nano
-  pub at_most : AtMost (pressure_fraction us (billionths required)) (whole (10 ^ 17))
+  pub at_most : AtMost (pressure_fraction us (billionths required)) (whole head_limit)

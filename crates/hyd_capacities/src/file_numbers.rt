@@ -24,7 +24,7 @@ pub fn nano(number: Decimal) -> u128
 }
 
 /// A number as it is.
-pub fn plain(number: Decimal) -> Pair
+pub fn as_pair(number: Decimal) -> Pair
     requires { pos 0 <ℤ number.nano }
     ensures value { IsPairOf (ordinary (billionths number)) result }
     ensures near { pair_reach result ≤ 2 ^ 10 }

@@ -9,7 +9,7 @@ ghost use Rattle.hyd_spec.specs.CapacityEnclosure.{IsEnclosure, IsSharp};
 ghost use Rattle.hyd_capacities.specs.Ranges.{IsLength, IsDiameter, IsRoughness, IsMinorCoefficient, IsCoefficient};
 ghost use Rattle.hyd_num.specs.CapacityRange.{IsRefused};
 
-use crate::file_numbers::{diameter_in_feet, length_in_feet, plain, unit_over};
+use crate::file_numbers::{as_pair, diameter_in_feet, length_in_feet, unit_over};
 use crate::range::{CapRange, capacity};
 use hyd_num::{Capacity, Decimal, Origin, Pair, add, div, mul, pow, ratio, root533};
 
@@ -79,7 +79,7 @@ fn friction(length: Decimal, diameter: Decimal, roughness: Decimal, us: bool) ->
     ensures value { IsFrictionPair length diameter roughness us result }
     ensures near { pair_reach result ≤ 2 ^ 20 }
 {
-    let rough = plain(roughness);
+    let rough = as_pair(roughness);
     let squared = mul(mul(ratio(466, 100), rough), rough);
     div(
         mul(squared, length_in_feet(length, us)),
@@ -94,6 +94,6 @@ fn minor_loss(diameter: Decimal, k: Decimal, us: bool) -> Pair
     ensures value { IsMinorPair diameter k us result }
     ensures near { pair_reach result ≤ 2 ^ 13 }
 {
-    let scaled = mul(ratio(2517, 100_000), plain(k));
+    let scaled = mul(ratio(2517, 100_000), as_pair(k));
     div(scaled, pow(diameter_in_feet(diameter, us), 4))
 }

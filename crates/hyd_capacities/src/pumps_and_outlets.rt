@@ -6,6 +6,7 @@ ghost use Rattle.std.specs.Prelude.{◌≡◌, ◌≤◌, ◌<◌, ◌*◌, ◌^
 ghost use Rattle.hyd_num.specs.Pairs.{pair_reach};
 ghost use Rattle.hyd_num.specs.FileQuantity.{billionths, flow_fraction, pressure_fraction};
 ghost use Rattle.hyd_num.specs.CapacityPairs.{IsPairOf, IsSquareOver, IsMade};
+ghost use Rattle.hyd_net.specs.NumberRanges.{flow_limit};
 ghost use Rattle.hyd_spec.specs.CapacityEnclosure.{IsEnclosure, IsSharp};
 ghost use Rattle.hyd_capacities.specs.Ranges.{IsCoefficient, IsCurveFlow, ArePressures};
 ghost use Rattle.hyd_num.specs.CapacityRange.{IsRefused};
@@ -77,7 +78,7 @@ pub fn emitter_capacity(c: Decimal, unit: FlowUnit) -> Result<Capacity, CapRange
 /// many flow ticks, at `pf`. `us` says that pressures are in pounds a square inch, against metres.
 pub fn pda_capacity(demand: i64, p0: Decimal, pf: Decimal, us: bool) -> Capacity
     requires demanded { pos 1 ≤ℤ demand }
-    requires demand { demand ≤ℤ pos (10 ^ 15) }
+    requires demand { demand ≤ℤ pos flow_limit }
     requires pressures { ArePressures us p0 pf }
     ensures origin { result.origin ≡ Origin.PressureDemand demand p0 pf us }
     ensures made { IsMade result }

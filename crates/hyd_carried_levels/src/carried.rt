@@ -1,7 +1,7 @@
 //! Carried levels of all tanks.
 #![tactic(auto)]
 
-ghost use Rattle.std.specs.Prelude.{◌≡◌, ◌<◌, ◌≤◌, ◌+◌, ◌^◌, ◌++◌, ◌∷◌, [], Some, length, map, slice_get};
+ghost use Rattle.std.specs.Prelude.{◌≡◌, ◌<◌, ◌≤◌, ◌+◌, ◌^◌, Some, length, map, slice_get};
 ghost use Rattle.hyd_net.specs.Sound.{Sound};
 ghost use Rattle.hyd_spec.specs.ProgramTypes.{Tank};
 ghost use Rattle.hyd_spec.specs.NodeNumbers.{tank_count};
@@ -13,7 +13,7 @@ ghost use Rattle.hyd_watched_levels.specs.FactsBeforeEnd.{HaveTanks, AreStarted}
 ghost use Rattle.hyd_carried_levels.specs.Carried.{carried_in};
 
 use hyd_net::{List, Project};
-use hyd_period_facts::Facts;
+use hyd_period_facts::{Facts, add_level};
 use hyd_spec_certificates::LevelSpan;
 use hyd_watched_levels::{inflow_at, stock_at};
 
@@ -30,15 +30,6 @@ fn carried_of(project: &Project, facts: &Facts, tank: u32, seconds: u32) -> Leve
     let inflow = inflow_at(facts, tank);
     let carried = hyd_tank::stock_at(project, tank, stock, inflow, seconds);
     carried.level
-}
-
-// Appends levels, for which there is room.
-fn add_level(levels: &mut List<LevelSpan>, level: LevelSpan)
-    requires { 0 < levels.old.spare }
-    ensures list { levels.new.list ≡ levels.old.list ++ level ∷ [] }
-    ensures spare { levels.old.spare ≤ levels.new.spare + 1 }
-{
-    levels.push(level).unwrap();
 }
 
 /// Puts the levels of tanks carried to so many seconds after the start of a period. The facts hold the stocks at its

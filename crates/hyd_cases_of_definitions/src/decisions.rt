@@ -6,7 +6,7 @@ ghost use Rattle.hyd_num.specs.declared.decimals.Span.{Span};
 ghost use Rattle.hyd_spec.specs.ProgramTypes.{Project, Decimal, Rule, And, Or, Less, NotMore, More, NotLess, Head};
 ghost use Rattle.hyd_spec.specs.ProgramTypes.{Level};
 ghost use Rattle.hyd_spec.specs.ProgramTypes.{Flow, Amount};
-ghost use Rattle.hyd_spec_certificates.specs.ThreeValuedLogic.{Yes, No, Unknown};
+ghost use Rattle.hyd_spec_certificates.specs.declared.Verdict.TheVariants.{Yes, No, Unknown};
 ghost use Rattle.hyd_spec_certificates.specs.Decided.{flow_boxes, inflow_boxes, carried_at, clause_truth, rule_truth};
 ghost use Rattle.hyd_spec_certificates.specs.Decided.{heads_below, heads_above};
 ghost use Rattle.hyd_cases_of_definitions.specs.Cylinders.{cylinder};

@@ -10,7 +10,8 @@ ghost use Rattle.hyd_spec.specs.ProgramTypes.{Unequal, Time, Clock, Amount, Valu
 ghost use Rattle.hyd_spec.specs.ProgramTypes.{Linear, Open};
 ghost use Rattle.hyd_spec.specs.ProgramTypes.{Closed, Speed, Throttle, Limit};
 ghost use Rattle.hyd_spec.specs.declared.Source.TheVariants.{Rule as ByRule};
-ghost use Rattle.hyd_spec_certificates.specs.ThreeValuedLogic.{Yes, No, Unknown, at_both_ends, some_holds, all_hold};
+ghost use Rattle.hyd_spec_certificates.specs.declared.Verdict.TheVariants.{Yes, No, Unknown};
+ghost use Rattle.hyd_spec_certificates.specs.ThreeValuedLogic.{at_both_ends, some_holds, all_hold};
 ghost use Rattle.hyd_spec.specs.Rules.{IsOpen, IsClosed, IsActive, state_word, setting_of, is_same_state, compares};
 ghost use Rattle.hyd_spec.specs.Rules.{status_holds, holds_on, Readings, parts_of, groups_in, is_above, rule_changes};
 ghost use Rattle.hyd_spec.specs.Rules.{acted};

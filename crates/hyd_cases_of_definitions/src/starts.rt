@@ -9,7 +9,7 @@ ghost use Rattle.hyd_spec.specs.DemandsReservoirHeadsAndCurves.{multipliers_of};
 ghost use Rattle.hyd_spec.specs.PumpPatternsAndSimpleControls.{clock_at, speed_state, is_pattern_boundary, patterned};
 ghost use Rattle.hyd_spec.specs.PumpPatternsAndSimpleControls.{controlled};
 ghost use Rattle.hyd_spec.specs.declared.Source.TheVariants.{Control as ByControl};
-ghost use Rattle.hyd_spec_certificates.specs.ThreeValuedLogic.{Yes, No, Unknown};
+ghost use Rattle.hyd_spec_certificates.specs.declared.Verdict.TheVariants.{Yes, No, Unknown};
 ghost use Rattle.hyd_spec_certificates.specs.Decided.{control_truth, acts_on};
 ghost use Rattle.hyd_spec_reports.specs.Report.{control_changes, is_report_time};
 ghost use Rattle.hyd_num.specs.declared.decimals.Span.{Span};

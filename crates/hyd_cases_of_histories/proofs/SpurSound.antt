@@ -16,7 +16,7 @@ use Rattle.hyd_net.specs.RoundedFileNumbers.{IsAreaMade, IsKindMade, IsStateMade
 use Rattle.hyd_net.specs.RoundedFileNumbers.{IsStateAcross, IsAcross, IsAllMade}
 use Rattle.hyd_net.specs.declared.rules.Rule.{Rule}
 use Rattle.hyd_cases_of_histories.specs.OneLink.{Spur, network_of, junction_of}
-use Rattle.hyd_lemmas.proofs.ListsAndOptions.{differ}
+use Rattle.hyd_lemmas.proofs.ListsOptionsAndResults.{differ}
 
 -- ---- IDs
 

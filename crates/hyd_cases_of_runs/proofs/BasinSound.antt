@@ -20,7 +20,7 @@ use Rattle.hyd_num.specs.CapacityPairs.{IsMade}
 use Rattle.std.specs.Option.{IfSome}
 use Rattle.hyd_lemmas.proofs.Trials.{le-yes}
 use Rattle.hyd_cases_of_runs.specs.Basin.{Basin, basin_network, feed, open_to, curved, spilling}
-use Rattle.hyd_lemmas.proofs.ListsAndOptions.{differ}
+use Rattle.hyd_lemmas.proofs.ListsOptionsAndResults.{differ}
 use Rattle.hyd_cases_of_runs.proofs.VillageSound.{nothing}
 
 module _ (basin : Basin) where

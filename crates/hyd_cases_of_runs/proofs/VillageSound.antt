@@ -17,7 +17,7 @@ use Rattle.hyd_cases_of_runs.specs.Village.{usual, village, mill, farm, refill_r
 use Rattle.hyd_spec.specs.ProgramTypes.{Cmd, Rule}
 use Rattle.hyd_num.specs.CapacityPairs.{IsMade}
 use Rattle.std.specs.Option.{IfSome}
-use Rattle.hyd_lemmas.proofs.ListsAndOptions.{differ}
+use Rattle.hyd_lemmas.proofs.ListsOptionsAndResults.{differ}
 
 abbrev the_rule : Rule
 the_rule = refill_rule usual.clauses

@@ -3,7 +3,7 @@
 use Rattle.std.specs.Prelude.{ℕ, pos, List, [], ◌∷◌}
 use Rattle.std.proofs.Common.{lit≤}
 use Rattle.hyd_spec.specs.ProgramTypes.{Project, What, Relation, Value, Amount}
-use Rattle.hyd_spec_certificates.specs.ThreeValuedLogic.{Verdict}
+use Rattle.hyd_spec_certificates.specs.declared.Verdict.{Verdict}
 use Rattle.hyd_spec_certificates.specs.Decided.{clause_truth}
 use Rattle.hyd_spec_certificates.specs.Interval.{Interval}
 use Rattle.hyd_spec_certificates.specs.RecordAndStanding.{Record, Standing}

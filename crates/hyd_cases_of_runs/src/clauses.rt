@@ -4,7 +4,7 @@
 ghost use Rattle.std.specs.Prelude.{◌≡◌, pos, neg_ℤ, [], ◌∷◌, map};
 ghost use Rattle.hyd_spec.specs.ProgramTypes.{Project, Less, NotMore, More, NotLess, Equal, Unequal, Pressure, Setting};
 ghost use Rattle.hyd_spec.specs.ProgramTypes.{Status, Time, Clock, ValueOpen, ValueClosed, ValueActive};
-ghost use Rattle.hyd_spec_certificates.specs.ThreeValuedLogic.{Yes, No, Unknown};
+ghost use Rattle.hyd_spec_certificates.specs.declared.Verdict.TheVariants.{Yes, No, Unknown};
 ghost use Rattle.hyd_spec_certificates.specs.PeriodNetwork.{grid_links};
 ghost use Rattle.hyd_spec_certificates.specs.Decided.{links_at, flow_boxes, inflow_boxes, rule_truths};
 ghost use Rattle.hyd_cases_of_runs.specs.Town.{IsTown, numbers, amount};

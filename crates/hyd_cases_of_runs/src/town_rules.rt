@@ -5,7 +5,8 @@ ghost use Rattle.std.specs.Prelude.{◌≡◌, pos, neg_ℤ, true, false, [], �
 ghost use Rattle.hyd_num.specs.Rational.{whole};
 ghost use Rattle.hyd_spec.specs.declared.Source.TheVariants.{Rule as ByRule};
 ghost use Rattle.hyd_spec.specs.ProgramTypes.{Project, Open, Closed, Speed};
-ghost use Rattle.hyd_spec_certificates.specs.ThreeValuedLogic.{Yes, No, Unknown, is_yes};
+ghost use Rattle.hyd_spec_certificates.specs.declared.Verdict.TheVariants.{Yes, No, Unknown};
+ghost use Rattle.hyd_spec_certificates.specs.ThreeValuedLogic.{is_yes};
 ghost use Rattle.hyd_spec.specs.Rules.{head_of, pressure_of, state_of_link, rule_values, offers_from, best_offer};
 ghost use Rattle.hyd_spec.specs.Rules.{higher, change_of, rule_changes, acted};
 ghost use Rattle.hyd_spec_certificates.specs.Decided.{links_at, readings_below, readings_above, rule_truths};

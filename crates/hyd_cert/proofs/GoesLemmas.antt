@@ -11,9 +11,9 @@ use Rattle.hyd_io.specs.DeskBytes.{prepend_known}
 use Rattle.hyd_cert.specs.TextsWithoutLine.{HasNo}
 use Rattle.hyd_cert.specs.PlacesOfLines.{Place, First, Between, Head, Over, CanStand, MayStand, IsFault, here, later}
 use Rattle.hyd_cert.specs.PlacesOfLines.{front_at, heads_in, place_after, Goes, ends, goes}
-use Rattle.hyd_lemmas.proofs.ListsAndOptions.{same_item}
+use Rattle.hyd_lemmas.proofs.ListsOptionsAndResults.{same_item}
 use Rattle.hyd_theorems_on_definitions.proofs.CertificateLines.{decimal-same}
-use Rattle.hyd_cert.proofs.Pieces.{cut-same}
+use Rattle.hyd_cert.proofs.Pieces.{split-same}
 use Rattle.std.proofs.lemmas.Bool.{eqb-true}
 use Rattle.std.proofs.lemmas.List.{append_cancel_left}
 use Rattle.hyd_cert.specs.PlacesOfLines.{Lacks}
@@ -97,7 +97,7 @@ no_certificate header _ _ _ text (later line can fault) told goes_on =
     let k = opened header _ text goes_on (λ at empty. none_over header _ _ line at can) in
     let whole : k.line ++ (10 ∷ k.rest) ≡ line ++ (10 ∷ h.left) = sym k.is
     ∙ (h.whole ∙ append_assoc line (10 ∷ []) h.left) in
-    let same = cut-same 10 k.line line k.rest h.left (stands_alone header _ k.next k.line k.can)
+    let same = split-same 10 k.line line k.rest h.left (stands_alone header _ k.next k.line k.can)
     (stands_alone header _ _ line can) whole in
     let place = next_same header _ k.next _ k.line line same.0 k.can can in
     no_certificate header _ _ _ h.left fault h.told
@@ -163,9 +163,9 @@ header_same header other l m p q e =
     let rest' = decimal other.junctions ++ (32 ∷ decimal other.tanks) in
     let whole = append_cancel_left (codes "HYDCERT ") (decimal header.version ++ (32 ∷ rest))
     (decimal other.version ++ (32 ∷ rest')) (sym p.is ∙ (e ∙ q.is)) in
-    let first = cut-same 32 (decimal header.version) (decimal other.version) rest rest'
+    let first = split-same 32 (decimal header.version) (decimal other.version) rest rest'
     (wide_free 32 header.version (omega arith) version) (wide_free 32 other.version (omega arith) version') whole in
-    let second = cut-same 32 (decimal header.junctions) (decimal other.junctions) (decimal header.tanks)
+    let second = split-same 32 (decimal header.junctions) (decimal other.junctions) (decimal header.tanks)
     (decimal other.tanks) (wide_free 32 header.junctions (omega arith) p.junctions_fit)
     (wide_free 32 other.junctions (omega arith) q.junctions_fit) first.1 in
     ap (λ v. record header { version = v }) (decimal-same header.version other.version version version' first.0)
@@ -194,7 +194,7 @@ stops_here : (header : Header) (place : Place) (text : List ℕ)
     → (after : List ℕ) → HasFirstLine text after → Goes header place after → ⊥
 stops_here header place text lacks over _ (ended line rest after free e) goes_on =
     let k = opened header place (line ++ (10 ∷ after)) goes_on (λ at. not_nothing line after) in
-    let same = cut-same 10 k.line line k.rest after (stands_alone header place k.next k.line k.can) free (sym k.is) in
+    let same = split-same 10 k.line line k.rest after (stands_alone header place k.next k.line k.can) free (sym k.is) in
     lacks k.next k.line rest (may_stand header place k.next k.line k.can)
     (ap Some (e ∙ ap (λ l. l ++ (10 ∷ rest)) (sym same.0)))
   where
@@ -228,7 +228,7 @@ pub goes_behind : (header : Header) (place next : Place) (line rest : List ℕ) 
     → Goes header place (line ++ (10 ∷ rest)) → Goes header next rest
 goes_behind header place next line rest can goes_on =
     let k = opened header place (line ++ (10 ∷ rest)) goes_on (λ at empty. none_over header place next line at can) in
-    let same = cut-same 10 k.line line k.rest rest (stands_alone header place k.next k.line k.can)
+    let same = split-same 10 k.line line k.rest rest (stands_alone header place k.next k.line k.can)
     (stands_alone header place next line can) (sym k.is) in
     let after = next_same header place k.next next k.line line same.0 k.can can in
     subst (λ (p : Place). Goes header p rest) after (subst (λ (r : List ℕ). Goes header k.next r) same.1 k.goes_on)

@@ -207,14 +207,14 @@ pub has_other : (header other : Header) (held first more : List ℕ) (old new : 
     → first ≢ words (codes "HYDCERT" ∷ (decimal header.version
     ∷ (decimal header.junctions ∷ (decimal header.tanks ∷ []))))
     → held ≡ first ++ (10 ∷ more) → prepend_known held new ≡ old → HasOtherHeader header old
-has_other header other held first more old new is apart cut same = record {
+has_other header other held first more old new is apart split same = record {
   other = other;
   line = first;
   rest = prepend_known more new;
   is_header = is;
   apart = λ e. apart (is.is ∙ ap (λ (h : Header). words (codes "HYDCERT"
       ∷ (decimal h.version ∷ (decimal h.junctions ∷ (decimal h.tanks ∷ []))))) e);
-  begins = sym same ∙ (ap (λ h. prepend_known h new) (cut ∙ sym (append_assoc first (10 ∷ []) more))
+  begins = sym same ∙ (ap (λ h. prepend_known h new) (split ∙ sym (append_assoc first (10 ∷ []) more))
       ∙ sym (prepend_known-prepend_known new (first ++ (10 ∷ [])) more));
 }
 
@@ -222,8 +222,8 @@ has_other header other held first more old new is apart cut same = record {
 pub line_read : (held first more text : List ℕ) (old new : Option (List ℕ)) → prepend_known held new ≡ old
     → held ≡ first ++ (10 ∷ more) → first ++ (10 ∷ []) ≡ text
     → old ≡ prepend_known text (prepend_known more new)
-line_read held first more text old new same cut is =
-    sym same ∙ (ap (λ h. prepend_known h new) (cut ∙ (sym (append_assoc first (10 ∷ []) more) ∙ ap (λ t. t ++ more)
+line_read held first more text old new same split is =
+    sym same ∙ (ap (λ h. prepend_known h new) (split ∙ (sym (append_assoc first (10 ∷ []) more) ∙ ap (λ t. t ++ more)
     is)) ∙ sym (prepend_known-prepend_known new text more))
 
 -- the same fault, in other words for its values

@@ -1,4 +1,4 @@
--- Lines and the words that they are cut into.
+-- Lines and the words into which they are split.
 use Rattle.std.proofs.Common.{◌≡◌, ◌≢◌, ℕ, suc, ◌+◌, ◌<◌, ◌≤◌, ◌^◌, ℤ, pos, negsuc, Option, Some, None, IfNone, Bool}
 use Rattle.std.proofs.Common.{true, false, List, [], ◌∷◌, ◌++◌, length, refl, sym, ap, ap₂, subst, ◌⊎◌, ◌∙◌, codes}
 use Rattle.std.proofs.Common.{append_assoc, length-append, arith, rules, inl, inr}
@@ -19,9 +19,9 @@ use Rattle.hyd_cert.specs.PlacesOfLines.{Lacks}
 use Rattle.hyd_cert.specs.Faults.{IsFront, IsLineFault}
 use Rattle.hyd_cert.specs.NextLine.{IsPeriodOrEnd}
 use Rattle.hyd_cert.specs.Lines.{Header, IsHeadLine, IsPeriodLine, IsEndLine, IsHeaderLine, end_word}
-use Rattle.hyd_lemmas.proofs.ListsAndOptions.{same_item}
+use Rattle.hyd_lemmas.proofs.ListsOptionsAndResults.{same_item}
 use Rattle.hyd_cert.proofs.Numerals.{short_numeral}
-use Rattle.hyd_cert.proofs.Pieces.{cut-same, has_none}
+use Rattle.hyd_cert.proofs.Pieces.{split-same, has_none}
 
 -- ---- numerals have digits alone
 
@@ -52,8 +52,8 @@ head_free byte (negsuc n) low box = (
 pub first_number : (text word rest more : List ℕ) (n : ℕ) → n < 2 ^ 32 → HasNo 32 word → text ≡ word ++ (32 ∷ rest)
     → text ≡ decimal n ++ (32 ∷ more)
     → (word ≡ decimal n) × (rest ≡ more)
-first_number text word rest more n fits free cut e =
-    cut-same 32 word (decimal n) rest more free (decimal_free 32 n (omega arith) (omega arith)) (sym cut ∙ e)
+first_number text word rest more n fits free split e =
+    split-same 32 word (decimal n) rest more free (decimal_free 32 n (omega arith) (omega arith)) (sym split ∙ e)
 
 pub no_space : (text more : List ℕ) (n : ℕ) → HasNo 32 text → text ≡ decimal n ++ (32 ∷ more) → ⊥
 no_space text more n free e = has_none 32 (decimal n) more (subst (HasNo 32) e free)
@@ -62,21 +62,21 @@ no_space text more n free e = has_none 32 (decimal n) more (subst (HasNo 32) e f
 
 pub period_parts : (line rest l : List ℕ) → line ≡ codes "PERIOD " ++ rest → (p : IsPeriodLine l) → line ≡ l
     → rest ≡ decimal p.number ++ (32 ∷ (decimal p.time ++ (32 ∷ decimal p.length)))
-period_parts line rest l cut p e =
+period_parts line rest l split p e =
     append_cancel_left (codes "PERIOD ") rest (decimal p.number ++ (32 ∷ (decimal p.time ++ (32 ∷ decimal p.length))))
-    (sym cut ∙ (e ∙ p.is))
+    (sym split ∙ (e ∙ p.is))
 
 pub header_parts : (line rest l : List ℕ) (header : Header) → line ≡ codes "HYDCERT " ++ rest
     → (p : IsHeaderLine header l) → line ≡ l
     → rest ≡ decimal header.version ++ (32 ∷ (decimal header.junctions ++ (32 ∷ decimal header.tanks)))
-header_parts line rest l header cut p e =
+header_parts line rest l header split p e =
     append_cancel_left (codes "HYDCERT ") rest (decimal header.version
-    ++ (32 ∷ (decimal header.junctions ++ (32 ∷ decimal header.tanks)))) (sym cut ∙ (e ∙ p.is))
+    ++ (32 ∷ (decimal header.junctions ++ (32 ∷ decimal header.tanks)))) (sym split ∙ (e ∙ p.is))
 
 pub end_parts : (line rest l : List ℕ) → line ≡ codes "END " ++ rest → (p : IsEndLine l) → line ≡ l
     → rest ≡ decimal p.periods ++ (32 ∷ end_word p.finished)
-end_parts line rest l cut p e = append_cancel_left (codes "END ") rest
-    (decimal p.periods ++ (32 ∷ end_word p.finished)) (sym cut ∙ (e ∙ p.is))
+end_parts line rest l split p e = append_cancel_left (codes "END ") rest
+    (decimal p.periods ++ (32 ∷ end_word p.finished)) (sym split ∙ (e ∙ p.is))
 
 pub end_word_known : (word : List ℕ) (finished : Bool) → word ≢ codes "FINISHED" → word ≢ codes "STOPPED"
     → word ≡ end_word finished → ⊥
@@ -86,9 +86,9 @@ end_word_known word false a b e = b e
 pub head_rest : (line front word : List ℕ) (o : Option ℤ) → line ≡ front ++ word
     → IfNone o ((h : ℤ) → IsInBox h → word ≢ signed_decimal h)
     → IfNone o ((l : List ℕ) → IsHeadLine front l → line ≢ l)
-head_rest line front word (Some h) cut other = tt
-head_rest line front word None cut other = λ l p e. other p.head p.in_box
-    (append_cancel_left front word (signed_decimal p.head) (sym cut ∙ (e ∙ p.is)))
+head_rest line front word (Some h) split other = tt
+head_rest line front word None split other = λ l p e. other p.head p.in_box
+    (append_cancel_left front word (signed_decimal p.head) (sym split ∙ (e ∙ p.is)))
 
 -- ---- header lines
 
@@ -101,10 +101,10 @@ pub first_counts : (line rest version counts l : List ℕ) (header : Header) →
     → HasNo 32 version → rest ≡ version ++ (32 ∷ counts)
     → (p : IsHeaderLine header l) → line ≡ l → (version ≡ decimal header.version)
     × (counts ≡ decimal header.junctions ++ (32 ∷ decimal header.tanks))
-first_counts line rest version counts l header cut free parted p e =
-    cut-same 32 version (decimal header.version) counts (decimal header.junctions ++ (32 ∷ decimal header.tanks)) free
+first_counts line rest version counts l header split free parted p e =
+    split-same 32 version (decimal header.version) counts (decimal header.junctions ++ (32 ∷ decimal header.tanks)) free
     (wide_free 32 header.version (omega arith) (known_short header p.known))
-    (sym parted ∙ header_parts line rest l header cut p e)
+    (sym parted ∙ header_parts line rest l header split p e)
 
 -- and then those two
 pub two_counts : (counts junctions tanks l : List ℕ) (header : Header) → HasNo 32 junctions
@@ -112,14 +112,14 @@ pub two_counts : (counts junctions tanks l : List ℕ) (header : Header) → Has
     → counts ≡ decimal header.junctions ++ (32 ∷ decimal header.tanks) → (junctions ≡ decimal header.junctions)
     × (tanks ≡ decimal header.tanks)
 two_counts counts junctions tanks l header free parted p e =
-    cut-same 32 junctions (decimal header.junctions) tanks (decimal header.tanks) free
+    split-same 32 junctions (decimal header.junctions) tanks (decimal header.tanks) free
     (wide_free 32 header.junctions (omega arith) p.junctions_fit) (sym parted ∙ e)
 
 pub no_first_space : (line rest l : List ℕ) (header : Header) → line ≡ codes "HYDCERT " ++ rest → HasNo 32 rest
     → IsHeaderLine header l → line ≡ l → ⊥
-no_first_space line rest l header cut free p e =
+no_first_space line rest l header split free p e =
     has_none 32 (decimal header.version) (decimal header.junctions ++ (32 ∷ decimal header.tanks))
-    (subst (HasNo 32) (header_parts line rest l header cut p e) free)
+    (subst (HasNo 32) (header_parts line rest l header split p e) free)
 
 pub no_second_space : (counts : List ℕ) (header : Header) → HasNo 32 counts → counts ≡ decimal header.junctions
     ++ (32 ∷ decimal header.tanks) → ⊥
@@ -144,25 +144,25 @@ pub header_made : (line rest version counts junctions tanks : List ℕ) → line
     → (n : ℕ) × ((n < 10 ^ 64) × (junctions ≡ decimal n)) → (n : ℕ) × ((n < 10 ^ 64) × (tanks ≡ decimal n))
     → length line < 64
     → (header : Header) × IsHeaderLine header line
-header_made line rest version counts junctions tanks cut parted (inl is) two n k short = (
+header_made line rest version counts junctions tanks split parted (inl is) two n k short = (
   record { version = 1; junctions = n.0; tanks = k.0 },
   record {
     known = inl refl;
     junctions_fit = n.1.0;
     tanks_fit = k.1.0;
     short = short;
-    is = cut ∙ ap (λ t. codes "HYDCERT " ++ t) (parted ∙ ap₂ (λ v c. v ++ (32 ∷ c)) (is ∙ sym one_known)
+    is = split ∙ ap (λ t. codes "HYDCERT " ++ t) (parted ∙ ap₂ (λ v c. v ++ (32 ∷ c)) (is ∙ sym one_known)
         (two ∙ ap₂ (λ a b. a ++ (32 ∷ b)) n.1.1 k.1.1));
   },
 )
-header_made line rest version counts junctions tanks cut parted (inr is) two n k short = (
+header_made line rest version counts junctions tanks split parted (inr is) two n k short = (
   record { version = 2; junctions = n.0; tanks = k.0 },
   record {
     known = inr refl;
     junctions_fit = n.1.0;
     tanks_fit = k.1.0;
     short = short;
-    is = cut ∙ ap (λ t. codes "HYDCERT " ++ t) (parted ∙ ap₂ (λ v c. v ++ (32 ∷ c)) (is ∙ sym two_known)
+    is = split ∙ ap (λ t. codes "HYDCERT " ++ t) (parted ∙ ap₂ (λ v c. v ++ (32 ∷ c)) (is ∙ sym two_known)
         (two ∙ ap₂ (λ a b. a ++ (32 ∷ b)) n.1.1 k.1.1));
   },
 )
@@ -202,12 +202,12 @@ pub other_lacks : (IsSuch : List ℕ → Type 0) (held first more : List ℕ) (o
     → ((l : List ℕ) → IsSuch l → HasNo 10 l × (length l < 64))
     → held ≡ first ++ (10 ∷ more) → HasNo 10 first → ((l : List ℕ) → IsSuch l → first ≢ l)
     → prepend_known held new ≡ old → Lacks IsSuch old
-other_lacks IsSuch held first more old None lines cut free apart same l after is e = absurd (cc (same, e))
-other_lacks IsSuch held first more old (Some known) lines cut free apart same l after is e =
+other_lacks IsSuch held first more old None lines split free apart same l after is e = absurd (cc (same, e))
+other_lacks IsSuch held first more old (Some known) lines split free apart same l after is e =
     let whole : held ++ known ≡ l ++ (10 ∷ after) = same_item _ (held ++ known) (l ++ (10 ∷ after)) (same ∙ e) in
     let text : first ++ (10 ∷ (more ++ known)) ≡ l ++ (10 ∷ after) = sym (append_assoc first (10 ∷ more) known)
-    ∙ (ap (λ h. h ++ known) (sym cut) ∙ whole) in
-    apart l is (cut-same 10 first l (more ++ known) after free (lines l is).0 text).0
+    ∙ (ap (λ h. h ++ known) (sym split) ∙ whole) in
+    apart l is (split-same 10 first l (more ++ known) after free (lines l is).0 text).0
 
 -- ---- lines of numbers
 

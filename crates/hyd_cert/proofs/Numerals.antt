@@ -12,7 +12,7 @@ use Rattle.std.proofs.lemmas.Int.Digits.{digits_value_more}
 use Rattle.std.proofs.lemmas.Str.Parse.{IsNumeralModel, numerals_by_value, tells_digits, digits_value_short, digit_at}
 use Rattle.std.proofs.lemmas.Int.{ints}
 use Rattle.hyd_spec_certificates.specs.Certificate.{IsInBox}
-use Rattle.hyd_cert.proofs.Pieces.{slice_from}
+use Rattle.hyd_io.proofs.ToldLemmas.{take-drop}
 use Rattle.std.proofs.lemmas.List.{take_more, take_all, length-take-le}
 
 pub own : IsNumeralModel (AllDigits 10) (digits_value 10)
@@ -185,7 +185,7 @@ zero_spells (c ∷ d ∷ word) first one = absurd (omega (arith, one))
 
 -- ---- heads
 
-pub record IsPlain (word : List ℕ) (h : ℤ) : Type 0 where
+pub record IsUnsigned (word : List ℕ) (h : ℤ) : Type 0 where
   pub magnitude : ℕ
   pub is : h ≡ pos magnitude
   pub fits : magnitude ≤ 10 ^ 18
@@ -200,15 +200,15 @@ pub record IsNegative (word : List ℕ) (h : ℤ) : Type 0 where
 first_digit : (n : ℕ) → n < 10 ^ 19 → 48 ≤ get_or (decimal n) 0 0
 first_digit n fits = let k = short_numeral (decimal n) n fits refl in (digit_at (decimal n) 0 k.digits k.some).0
 
-pub plain : (word : List ℕ) (h : ℤ) → IsInBox h → word ≡ signed_decimal h → get_or word 0 0 ≢ 45 → IsPlain word h
-plain word (pos n) box e first = record {
+pub unsigned : (word : List ℕ) (h : ℤ) → IsInBox h → word ≡ signed_decimal h → get_or word 0 0 ≢ 45 → IsUnsigned word h
+unsigned word (pos n) box e first = record {
   magnitude = n;
   is = refl;
   fits = let b = box.below_ceiling in
       omega (arith, ints, b);
   spelled = e;
 }
-plain word (negsuc n) box e first = absurd (first (ap (λ w. get_or w 0 0) e))
+unsigned word (negsuc n) box e first = absurd (first (ap (λ w. get_or w 0 0) e))
 
 pub negative : (word : List ℕ) (h : ℤ) → IsInBox h → word ≡ signed_decimal h → get_or word 0 0 ≡ 45 → IsNegative word h
 negative word (pos n) box e first =
@@ -231,7 +231,7 @@ head_some word (negsuc n) box e = subst (λ (w : List ℕ). 0 < length w) (sym e
 -- the digits of a negative head, as the slice behind the sign is seen
 pub after_sign : (word : List ℕ) (before : ℕ) → word ≡ 45 ∷ decimal (suc before)
     → take (length word - 1) (drop 1 word) ≡ decimal (suc before)
-after_sign word before e = slice_from word 1 ∙ ap (drop 1) e
+after_sign word before e = take-drop word 1 ∙ ap (drop 1) e
 
 -- ---- what the parts of `number` give
 

@@ -11,7 +11,7 @@ use Rattle.hyd_io.specs.DeskBytes.{prepend_known}
 use Rattle.hyd_io.proofs.ToldLemmas.{prepend_known-prepend_known}
 use Rattle.hyd_spec_certificates.specs.Certificate.{IsInBox}
 use Rattle.hyd_spec_certificates.specs.RecordAndStanding.{Record as Row, Vectors}
-use Rattle.hyd_spec_reports.specs.CertificateText.{words, period_line, record_text, end_line, IsVector, IsRow}
+use Rattle.hyd_spec_reports.specs.CertificateText.{words, period_line, record_text, end_line, IsRow}
 use Rattle.hyd_spec_reports.specs.CertificateText.{IsCertificateText, certificate_text}
 use Rattle.hyd_cert.specs.Lines.{Header, header_text, IsHeaderLine, IsPeriodLine, IsHeadLine, IsEndLine, end_word}
 use Rattle.hyd_cert.specs.Lines.{header_words}
@@ -22,6 +22,7 @@ use Rattle.hyd_cert.specs.FaultyLine.{IsCertificate, lines_of, BeginsWith}
 use Rattle.hyd_lemmas.proofs.Trials.{nat-lt-no}
 use Rattle.hyd_cert.proofs.HeadLemmas.{place_head, period_is, end_is}
 use Rattle.hyd_cert.proofs.VectorLemmas.{row_with, row_text, row_is}
+use Rattle.hyd_theorems_on_definitions.proofs.CertificateLines.{IsPair}
 
 -- ---- a record by its heads
 
@@ -31,9 +32,6 @@ pair_heads vectors = vectors.upper ++ vectors.lower
 
 abbrev pub flat : Row → List ℤ
 flat row = pair_heads row.main ++ joined (map pair_heads row.pinned)
-
-abbrev IsPair : ℕ → Vectors → Type 0
-IsPair n vectors = IsVector n vectors.upper × IsVector n vectors.lower
 
 take_front : (n : ℕ) (us ws : List ℤ) → length us ≡ n → take n (us ++ ws) ≡ us
 take_front n us ws e = ap (λ k. take k (us ++ ws)) (sym e) ∙ grind (arith, common_steps)

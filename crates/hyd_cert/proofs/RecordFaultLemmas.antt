@@ -21,7 +21,7 @@ use Rattle.hyd_cert.specs.declared.answers.CertFault.TheVariants.{Read, Grammar,
 use Rattle.hyd_cert.specs.declared.answers.CertNext.{CertNext}
 use Rattle.hyd_cert.specs.declared.answers.Stand.{Stand}
 use Rattle.hyd_cert.specs.declared.answers.Stand.TheVariants as stand
-use Rattle.hyd_cert.proofs.Pieces.{cut-same}
+use Rattle.hyd_cert.proofs.Pieces.{split-same}
 use Rattle.hyd_cert.proofs.HeadLemmas.{place_head, period_is}
 use Rattle.hyd_cert.proofs.GoesLemmas.{stands_alone, may_stand, next_same, has_rest}
 use Rattle.hyd_cert.proofs.VectorLemmas.{row_text}
@@ -49,14 +49,14 @@ behind_later : (header : Header) (at next other : Place) (first line rest : List
 behind_later header at next other first line rest left fewer can stands fault told =
     let h = has_rest (first ++ (10 ∷ [])) left (line ++ (10 ∷ rest)) told in
     let whole : line ++ (10 ∷ rest) ≡ first ++ (10 ∷ h.left) = h.whole ∙ append_assoc first (10 ∷ []) h.left in
-    let cut = cut-same 10 line first rest h.left (stands_alone header at next line can)
+    let split = split-same 10 line first rest h.left (stands_alone header at next line can)
     (stands_alone header at other first stands) whole in
-    let place = next_same header at next other line first cut.0 can stands in
+    let place = next_same header at next other line first split.0 can stands in
     record {
       fewer = fewer;
       one_more = refl;
       fault = subst (λ (p : Place). IsFault header p (Some rest) fewer) (sym place)
-          (subst (λ (t : Option (List ℕ)). IsFault header other t fewer) (h.told ∙ ap Some (sym cut.1)) fault);
+          (subst (λ (t : Option (List ℕ)). IsFault header other t fewer) (h.told ∙ ap Some (sym split.1)) fault);
     }
 
 -- where the first line can stand, the fault comes behind it
@@ -163,11 +163,11 @@ none_at_end header l first rest is text row left fits told =
     let whole = told ∙ ap Some (record_parts header.junctions header.tanks row left fits) in
     let h = has_rest (l ++ (10 ∷ [])) rest (period_of row ++ (10 ∷ more)) (sym text ∙ whole) in
     let period = is_period header.junctions header.tanks row fits in
-    let cut = cut-same 10 (period_of row) l more h.left
+    let split = split-same 10 (period_of row) l more h.left
     (stands_alone header Between (place_after (heads_in header.junctions header.tanks) 0) (period_of row)
     (inl (period, refl))) (stands_alone header Between _ l (inr (is, refl)))
     (h.whole ∙ append_assoc l (10 ∷ []) h.left) in
-    let first : 80 ≡ 69 = ap (λ (t : List ℕ). get_or t 0 0) (sym period.is ∙ (cut.0 ∙ is.is)) in
+    let first : 80 ≡ 69 = ap (λ (t : List ℕ). get_or t 0 0) (sym period.is ∙ (split.0 ∙ is.is)) in
     absurd (omega (arith, first))
 
 -- no header line is next, or another one

@@ -10,7 +10,7 @@ use Rattle.hyd_cert.specs.PlacesOfLines.{goes}
 use Rattle.hyd_cert.specs.Faults.{HasOtherHeader}
 use Rattle.hyd_cert.specs.FaultyLine.{IsCertificate, IsLines, HasFirstLine, ended, unended, IsFirstFault}
 use Rattle.hyd_lemmas.proofs.Trials.{equal_by_order}
-use Rattle.hyd_cert.proofs.Pieces.{cut-same, has_none}
+use Rattle.hyd_cert.proofs.Pieces.{split-same, has_none}
 use Rattle.hyd_cert.proofs.LineLemmas.{header_is_line}
 use Rattle.hyd_cert.proofs.GoesLemmas.{HasRest, between_goes, can_go_on, FaultFrom, fault_from, later_fault}
 use Rattle.hyd_cert.proofs.GoesLemmas.{no_certificate, GoesOn, opened, has_rest, header_same, goes_behind}
@@ -28,7 +28,7 @@ with_header : (header other : Header) (line rest : List ℕ) → IsHeaderLine he
     → IsCertificate other (line ++ (10 ∷ rest)) → Goes header First (line ++ (10 ∷ rest))
 with_header header other line rest is certificate =
     let k = first_line other (line ++ (10 ∷ rest)) certificate in
-    let same = cut-same 10 line k.line rest k.rest (header_free header line is) (header_free other k.line k.can.0)
+    let same = split-same 10 line k.line rest k.rest (header_free header line is) (header_free other k.line k.can.0)
     k.is in
     subst (λ (h : Header). Goes h First (line ++ (10 ∷ rest))) (header_same other header k.line line k.can.0 is
     (sym same.0)) (certificate_goes other (line ++ (10 ∷ rest)) certificate)
@@ -40,7 +40,7 @@ stops_first : (header : Header) (text : List ℕ) → ((next : Place)
     → IsCertificate other after → ⊥
 stops_first header text lacks other _ (ended line rest after free e) certificate =
     let k = first_line other (line ++ (10 ∷ after)) certificate in
-    let same = cut-same 10 k.line line k.rest after (header_free other k.line k.can.0) free (sym k.is) in
+    let same = split-same 10 k.line line k.rest after (header_free other k.line k.can.0) free (sym k.is) in
     lacks Between k.line rest (other, k.can.0) (ap Some (e ∙ ap (λ l. l ++ (10 ∷ rest)) (sym same.0)))
 stops_first header text lacks other _ (unended free) certificate =
     let k = first_line other text certificate in
@@ -126,7 +126,7 @@ no_certificate_of_others header text is certificate =
     let k = first_line header text certificate in
     let whole : is.line ++ (10 ∷ h.left) ≡ k.line ++ (10 ∷ k.rest) = sym (append_assoc is.line (10 ∷ []) h.left)
     ∙ (sym h.whole ∙ k.is) in
-    let same = cut-same 10 is.line k.line h.left k.rest (header_free is.other is.line is.is_header)
+    let same = split-same 10 is.line k.line h.left k.rest (header_free is.other is.line is.is_header)
     (header_free header k.line k.can.0) whole in
     is.apart (header_same is.other header is.line k.line is.is_header k.can.0 same.0)
 
@@ -268,10 +268,10 @@ fault_or_header header text number k is = go k.lines
     apart : HasLine k.front → ⊥
     apart l =
         let first = first_line header (k.front ++ k.more) k.goes_on in
-        let one = cut-same 10 l.line first.line (l.rest ++ k.more) first.rest l.free
+        let one = split-same 10 l.line first.line (l.rest ++ k.more) first.rest l.free
         (header_free header first.line first.can.0)
         (sym (append_assoc l.line (10 ∷ l.rest) k.more) ∙ (ap (λ f. f ++ k.more) (sym l.is) ∙ first.is)) in
-        let other = cut-same 10 l.line is.line (l.rest ++ k.rest) h.left l.free
+        let other = split-same 10 l.line is.line (l.rest ++ k.rest) h.left l.free
         (header_free is.other is.line is.is_header)
         (sym (append_assoc l.line (10 ∷ l.rest) k.rest) ∙ (ap (λ f. f ++ k.rest) (sym l.is) ∙ (sym k.parts ∙ whole))) in
         is.apart (header_same is.other header is.line first.line is.is_header first.can.0 (sym other.0 ∙ one.0))

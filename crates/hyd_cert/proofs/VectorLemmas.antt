@@ -1,6 +1,6 @@
 -- The vectors of a record in one list of heads.
 use Rattle.std.proofs.Common.{◌≡◌, ◌≢◌, ◌⊎◌, inl, inr, nat_lt, rules, ℕ, zero, suc, ◌+◌, ◌*◌, ◌-◌, ◌/◌, ◌%◌, ◌==◌, ◌^◌}
-use Rattle.std.proofs.Common.{◌<◌, ◌≤◌, ℤ, Bool, true, false, List, [], ◌∷◌, ◌++◌, length, map, take, drop, All}
+use Rattle.std.proofs.Common.{◌<◌, ◌≤◌, ℤ, Bool, true, false, List, [], ◌∷◌, ◌++◌, length, take, drop, All}
 use Rattle.std.proofs.Common.{if◌then◌else◌, codes, Option, refl, sym, ap, ap₂, subst, ◌∙◌, append_assoc, arith}
 use Rattle.std.specs.Prelude.{slice_index_or}
 use Rattle.std.specs.Fmt.{signed_decimal}
@@ -14,7 +14,6 @@ use borrow.Rule.Slice.PartMut.{put_mid}
 use Rattle.std.specs.List.{refill}
 use Rattle.hyd_io.specs.DeskBytes.{prepend_known}
 use Rattle.hyd_io.proofs.ToldLemmas.{prepend_known-prepend_known}
-use Rattle.hyd_spec.specs.Lists.{joined}
 use Rattle.hyd_spec_certificates.specs.Certificate.{IsInBox}
 use Rattle.hyd_spec_certificates.specs.declared.Problem.{Problem}
 use Rattle.hyd_spec_certificates.specs.declared.Problem.TheVariants.{Main, Pinned}
@@ -26,6 +25,7 @@ use Rattle.hyd_spec_reports.specs.CertificateText.{IsRow}
 use Rattle.hyd_cert.specs.PlacesOfLines.{front_of, front_at, heads_in, head_text}
 use Rattle.hyd_cert.specs.Vectors.{AreVectors, two_vectors, behind_two, problems_in, place_in}
 use Rattle.hyd_cert.specs.RecordView.{IsProblemOf}
+use Rattle.hyd_theorems_on_definitions.proofs.CertificateLines.{IsPair, pinned_lines}
 
 -- ---- keys
 
@@ -129,9 +129,6 @@ behind_length n us = length-drop n (drop n us) ∙ ap (λ k. k - n) (length-drop
 
 -- ---- of all
 
-abbrev pinned_lines : List Vectors → List ℕ
-pinned_lines vectors = joined (map (vectors_text (codes "PU") (codes "PL")) vectors)
-
 none_left : (n i : ℕ) (us : List ℤ) → length us ≡ 0 → head_text n i us ≡ []
 none_left n i [] e = refl
 none_left n i (u ∷ us) e = absurd (omega (arith, e))
@@ -220,16 +217,13 @@ problems_length : (n more : ℕ) (us : List ℤ) → length (problems_in n more 
 problems_length n zero us = refl
 problems_length n (suc more) us = let k = problems_length n more (behind_two n us) in omega (arith, k)
 
-abbrev AreBoth : ℕ → Vectors → Type 0
-AreBoth n vectors = IsVector n vectors.upper × IsVector n vectors.lower
-
 problems_are : (n more : ℕ) (us : List ℤ) → length us ≡ n * (2 * more) → All IsInBox us
-    → All (AreBoth n) (problems_in n more us)
-problems_are n zero us e box = All-nil (AreBoth n)
+    → All (IsPair n) (problems_in n more us)
+problems_are n zero us e box = All-nil (IsPair n)
 problems_are n (suc more) us e box =
     let several : n * (2 * suc more) ≡ n + n + n * (2 * more) = omega arith in
     let left = behind_length n us in
-    All-cons (AreBoth n) (two_vectors n us) (problems_in n more (behind_two n us))
+    All-cons (IsPair n) (two_vectors n us) (problems_in n more (behind_two n us))
     (two_are n us (omega (arith, e, several)) box)
     (problems_are n more (behind_two n us) (omega (arith, e, several, left)) (behind_box n us box))
 

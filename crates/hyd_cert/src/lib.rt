@@ -14,7 +14,7 @@ mod writing;
 pub use answers::{CertFault, CertNext, End, Stand};
 pub use certificate_version::version_of;
 pub use reader::CertReader;
-pub use record::Record;
+pub use record::{Record, has_small_numbers};
 pub use theorems::{
     certificates_by_lines, fault_behind_records, fault_is_first, first_fault_is_one,
     reading_is_whole, record_has_a_header, refused_is_no_certificate,

@@ -12,7 +12,7 @@ use hyd_io::{BUFFER_BYTES, Desk, Failed};
 use std::marker::Model;
 
 /// How many bytes a line has at most, with its line feed.
-const LINE: usize = 64;
+pub(crate) const LINE: usize = 64;
 
 /// Bytes that were read ahead.
 #[derive(Drop)]

@@ -8,7 +8,7 @@ ghost use Rattle.hyd_cert.specs.NextLine.{next_text, NextFits, IsPeriodOrEnd};
 ghost use Rattle.hyd_cert.specs.Lines.{Header, IsHeadLine, IsPeriodLine, IsEndLine, IsHeaderLine, end_word};
 
 use crate::answers::End;
-use crate::words::{after, cut_word, head, is_number, small_number};
+use crate::words::{after, head, is_number, small_number, split_word};
 
 /// What a PERIOD line says.
 #[derive(Clone, Copy, Drop)]
@@ -60,10 +60,10 @@ fn three_numbers(text: &[u8]) -> Option<(u32, u32, u32)>
     ensures none { IfNone result ((a b c : ℕ) → a < 2 ^ 32 → b < 2 ^ 32 → c < 2 ^ 32
         → text.now ≢ decimal a ++ (32 ∷ (decimal b ++ (32 ∷ decimal c)))) }
 {
-    let Some((first, rest)) = cut_word(text) else {
+    let Some((first, rest)) = split_word(text) else {
         return None;
     };
-    let Some((second, third)) = cut_word(rest) else {
+    let Some((second, third)) = split_word(rest) else {
         return None;
     };
     let Some(a) = small_number(first) else {
@@ -108,7 +108,7 @@ pub(crate) fn end_line(line: &[u8]) -> Option<End>
     let Some(rest) = after(line, b"END ") else {
         return None;
     };
-    let Some((number, word)) = cut_word(rest) else {
+    let Some((number, word)) = split_word(rest) else {
         return None;
     };
     let Some(periods) = small_number(number) else {
@@ -144,13 +144,13 @@ pub(crate) fn is_header_line(line: &[u8]) -> bool
     let Some(rest) = after(line, b"HYDCERT ") else {
         return false;
     };
-    let Some((version, counts)) = cut_word(rest) else {
+    let Some((version, counts)) = split_word(rest) else {
         return false;
     };
     if !is_version(version) {
         return false;
     }
-    let Some((junctions, tanks)) = cut_word(counts) else {
+    let Some((junctions, tanks)) = split_word(counts) else {
         return false;
     };
     if !is_number(junctions) {

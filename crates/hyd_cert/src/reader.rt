@@ -22,7 +22,7 @@ ghost use Rattle.hyd_cert.specs.declared.answers.Stand.TheVariants as stand;
 use crate::answers::{CertFault, CertNext, End, Stand};
 use crate::line_reader::Source;
 use crate::lines::{Next, head_line, is_header_line, period_or_end};
-use crate::record::Record;
+use crate::record::{Record, has_small_counts};
 use crate::writing::{front_of, is_header_of};
 use hyd_io::Desk;
 use std::marker::Model;
@@ -297,22 +297,6 @@ fn stand_after(read: &Result<CertNext, CertFault>) -> Stand
         Ok(CertNext::End { periods, finished }) => Stand::Over(End { periods, finished }),
         Err(fault) => Stand::Stuck(fault),
     }
-}
-
-// A number is below 2^32.
-fn is_small(number: u32)
-    ensures { number < 2 ^ 32 }
-{
-    let _ = number;
-}
-
-// The counts of a record are below 2^32.
-fn has_small_counts(row: &Record)
-    ensures junctions { row.now.junctions < 2 ^ 32 }
-    ensures tanks { row.now.tanks < 2 ^ 32 }
-{
-    is_small(row.junctions);
-    is_small(row.tanks);
 }
 
 /// Reads the header line, and then a record or the end.

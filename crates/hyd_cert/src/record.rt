@@ -1,6 +1,6 @@
 //! A record of a certificate.
 
-ghost use Rattle.std.specs.Prelude.{◌≡◌, ◌≢◌, ◌+◌, ◌*◌, ◌<◌, ◌≤◌, ℤ, pos, All, length, IfOk, OnOk};
+ghost use Rattle.std.specs.Prelude.{◌≡◌, ◌≢◌, ◌+◌, ◌*◌, ◌^◌, ◌<◌, ◌≤◌, ℤ, pos, All, length, IfOk, OnOk};
 ghost use Rattle.hyd_cert.specs.Vectors.{AreVectors, place_in};
 
 use hyd_net::List;
@@ -127,4 +127,31 @@ fn place_of(problem: Problem, side: Side) -> usize
         Side::Upper => 2 * number,
         Side::Lower => 2 * number + 1,
     }
+}
+
+// A number is below 2^32.
+fn is_small(number: u32)
+    ensures { number < 2 ^ 32 }
+{
+    let _ = number;
+}
+
+/// The counts of a record are below 2^32.
+pub(crate) fn has_small_counts(row: &Record)
+    ensures junctions { row.now.junctions < 2 ^ 32 }
+    ensures tanks { row.now.tanks < 2 ^ 32 }
+{
+    is_small(row.junctions);
+    is_small(row.tanks);
+}
+
+/// The numbers of a record are below 2^32.
+pub fn has_small_numbers(row: &Record)
+    ensures number { row.now.number < 2 ^ 32 }
+    ensures time { row.now.time < 2 ^ 32 }
+    ensures length { row.now.length < 2 ^ 32 }
+{
+    is_small(row.number);
+    is_small(row.time);
+    is_small(row.length);
 }

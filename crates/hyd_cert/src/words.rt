@@ -21,7 +21,7 @@ pub(crate) fn after<'a>(line: &'a [u8], front: &[u8]) -> Option<&'a [u8]>
 }
 
 /// The front of the text before its first space, and what follows that space.
-pub(crate) fn cut_word(text: &[u8]) -> Option<(&[u8], &[u8])>
+pub(crate) fn split_word(text: &[u8]) -> Option<(&[u8], &[u8])>
     ensures some { IfSome result (λ parts. text.now ≡ parts.0.now ++ (32 ∷ parts.1.now)) }
     ensures word { IfSome result (λ parts. HasNo 32 parts.0.now) }
     ensures none { IfNone result (HasNo 32 text.now) }

@@ -10,12 +10,10 @@ ghost use Rattle.hyd_cert.specs.RecordView.{header_of, row_of};
 ghost use Rattle.hyd_io.specs.Output.{OnCert};
 ghost use Rattle.hyd_io.specs.Putting.{Puts};
 
+use crate::line_reader::LINE;
 use crate::record::Record;
 use hyd_io::{Desk, OutFault, Pen};
 use itoa::Buffer;
-
-/// How many bytes a line has at most, with its line feed.
-const LINE: usize = 64;
 
 // ---- lines
 

@@ -14,7 +14,7 @@ use Rattle.hyd_spec_reports.specs.ReportLine.{report_text, refused_line, refused
 use Rattle.hyd_spec_reports.specs.declared.CertRefused.{CertRefused}
 use Rattle.hyd_spec_reports.specs.PromisesOfRunsAndChecks.{Found, rows_of, lines_of, accepted_line, CheckAccepts}
 use Rattle.hyd_spec_reports.specs.PromisesOfRunsAndChecks.{CheckRefuses, CheckRefusesEnd}
-use Rattle.hyd_lemmas.proofs.ListsAndOptions.{join-more}
+use Rattle.hyd_lemmas.proofs.ListsOptionsAndResults.{join-more}
 use Rattle.hyd_theorems_on_histories.proofs.Running.{every_history}
 use Rattle.hyd_cert.specs.Lines.{Header, header_text, header_words}
 use Rattle.hyd_cert.specs.PlacesOfLines.{First, IsFault, heads_in}

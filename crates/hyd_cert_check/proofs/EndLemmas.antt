@@ -23,7 +23,7 @@ use Rattle.hyd_cert_check.specs.declared.outcome.CheckEnd.{CheckEnd}
 use Rattle.hyd_cert_check.specs.declared.outcome.CheckFault.{CheckFault}
 use Rattle.hyd_cert_check.specs.declared.outcome.Conclusion.{Conclusion}
 use Rattle.hyd_run.proofs.RunLemmas.{rows-with, moved-whole, report-more}
-use Rattle.hyd_cert_check.proofs.PenLemmas.{put-then, cut-then, put-as, cut-as}
+use Rattle.hyd_cert_check.proofs.PenLemmas.{put-then, cut-off-then, put-as, cut-off-as}
 use Rattle.hyd_cert_check.proofs.TextLemmas.{rows-more, report-last}
 use Rattle.hyd_cert_check.proofs.ReadLemmas.{read-more, begins-so}
 use Rattle.hyd_cert_check.proofs.ConclusionLemmas.{holds-whole, finds}
@@ -81,9 +81,9 @@ so-far-more project left next start before now found step read put so_far = reco
 -- ---- faults
 
 -- the first line was cut off
-pub first-cut : (project : Project) (why : CheckFault) (start now : Moment) → Sound project
+pub first-cut-short : (project : Project) (why : CheckFault) (start now : Moment) → Sound project
     → IsCutOff why first_line start now → IsCutShort project why start now
-first-cut project why start now sound cut = record {
+first-cut-short project why start now sound cut_off = record {
   report = report_text project [] [];
   holds = λ text told. inr (record {
     founds = [];
@@ -94,26 +94,26 @@ first-cut project why start now sound cut = record {
     report_so_far = refl;
     every_history = every_history project sound [] (initial_standing project) IsRunFrom.none;
   });
-  cut = cut-as why first_line (report_text project [] []) start now (sym (append-nil first_line)) cut;
+  cut_off = cut-off-as why first_line (report_text project [] []) start now (sym (append-nil first_line)) cut_off;
 }
 
 -- what was found so far is what was put in, where a fault came behind it
-pub so-far-cut : (project : Project) (why : CheckFault) (left : Standing) (start before now : Moment) → Sound project
-    → IsCutOff why [] before now → IsSoFar project left start before → IsCutShort project why start now
-so-far-cut project why left start before now sound cut so_far = record {
+pub so-far-cut-off : (project : Project) (why : CheckFault) (left : Standing) (start before now : Moment) → Sound
+    project → IsCutOff why [] before now → IsSoFar project left start before → IsCutShort project why start now
+so-far-cut-off project why left start before now sound cut_off so_far = record {
   report = report_text project (lines_of so_far.founds) [];
   holds = λ text told. inr (finds project sound left start before so_far text told);
-  cut = cut-as why (report_so_far project left so_far.founds None ++ [])
+  cut_off = cut-off-as why (report_so_far project left so_far.founds None ++ [])
       (report_text project (lines_of so_far.founds) []) start now (report-last project left so_far.founds [])
-      (cut-then why (report_so_far project left so_far.founds None) [] start before now so_far.put cut);
+      (cut-off-then why (report_so_far project left so_far.founds None) [] start before now so_far.put cut_off);
 }
 
 -- the report of a record that was accepted was cut off
-pub record-cut : (project : Project) (why : CheckFault) (left next : Standing) (start before now : Moment)
+pub record-cut-off : (project : Project) (why : CheckFault) (left next : Standing) (start before now : Moment)
     (found : Found) → Sound project → IsStep project left next found → IsRead (header_for project) found.row before now
     → IsCutOff why (texts project found.lines) before now → IsSoFar project left start before
     → IsCutShort project why start now
-record-cut project why left next start before now found sound step read cut so_far =
+record-cut-off project why left next start before now found sound step read cut_off so_far =
     let founds = so_far.founds ++ (found ∷ []) in
     let run = run-with project so_far.founds left next found step so_far.is_run in
     let fit = rows-with project so_far.founds found so_far.fit read.fits in
@@ -130,11 +130,11 @@ record-cut project why left next start before now found sound step read cut so_f
         report_so_far = refl;
         every_history = every_history project sound founds next run;
       });
-      cut = cut-as why (report_so_far project left so_far.founds None ++ texts project found.lines)
+      cut_off = cut-off-as why (report_so_far project left so_far.founds None ++ texts project found.lines)
           (report_text project (lines_of founds) []) start now
           (report-more project left next so_far.founds found)
-          (cut-then why (report_so_far project left so_far.founds None) (texts project found.lines) start before now
-          so_far.put cut);
+          (cut-off-then why (report_so_far project left so_far.founds None) (texts project found.lines) start before now
+          so_far.put cut_off);
     }
 
 -- ---- the last line
@@ -163,13 +163,14 @@ module _ (project : Project) (conclusion : Conclusion) (left : Standing) (start 
         read.so_far.put (put-then [] last read.at_last now after read.put put));
   }
 
-  pub last-cut : (why : CheckFault) → IsCutOff why last now after → IsCutShort project why start after
-  last-cut why cut = record {
+  pub last-cut-short : (why : CheckFault) → IsCutOff why last now after → IsCutShort project why start after
+  last-cut-short why cut_off = record {
     report = report-whole;
     holds = λ text told. inl (end_of conclusion, whole-so text told);
-    cut = cut-as why (report_so_far project left read.so_far.founds None ++ ([] ++ last)) report-whole start after
-        text-so (cut-then why (report_so_far project left read.so_far.founds None) ([] ++ last) start read.at_last after
-        read.so_far.put (cut-then why [] last read.at_last now after read.put cut));
+    cut_off = cut-off-as why (report_so_far project left read.so_far.founds None ++ ([] ++ last)) report-whole start
+        after
+        text-so (cut-off-then why (report_so_far project left read.so_far.founds None) ([] ++ last) start read.at_last
+        after read.so_far.put (cut-off-then why [] last read.at_last now after read.put cut_off));
   }
 
 -- ---- the pen is emptied
@@ -183,13 +184,13 @@ whole-emptied project end start before now whole put = record {
       before now whole.put put);
 }
 
-pub whole-cut : (project : Project) (end : CheckEnd) (why : CheckFault) (start before now : Moment)
+pub whole-cut-off : (project : Project) (end : CheckEnd) (why : CheckFault) (start before now : Moment)
     → IsWhole project end start before → IsCutOff why [] before now → IsCutShort project why start now
-whole-cut project end why start before now whole cut = record {
+whole-cut-off project end why start before now whole cut_off = record {
   report = whole.report;
   holds = λ text told. inl (end, whole.holds text told);
-  cut = cut-as why (whole.report ++ []) whole.report start now (append-nil whole.report) (cut-then why whole.report []
-      start before now whole.put cut);
+  cut_off = cut-off-as why (whole.report ++ []) whole.report start now (append-nil whole.report) (cut-off-then why
+      whole.report [] start before now whole.put cut_off);
 }
 
 -- ---- what is printed
@@ -223,7 +224,7 @@ module _ (project : Project) (start now : Moment) (text : List ℕ) (told : comi
   prints-front (Ok end) puts = tt
   prints-front (Err why) puts =
       let out = subst (λ (x : List ℕ). PutOut start.told.printed now.told.printed (x ++ puts.report)) empty-first
-      puts.cut.printed in
+      puts.cut_off.printed in
       record {
         report = out.1.front;
         holds = front-of out.1.front out.0 puts.report out.1.whole (puts.holds text told);
@@ -243,13 +244,13 @@ module _ (project : Project) (start now : Moment) where
   }
   says-printed (Err why) pen puts empty =
       let out = subst (λ (x : List ℕ). PutOut start.told.printed now.told.printed (x ++ puts.report)) (ap (λ (p :
-      PenState). p.held) pen) puts.cut.printed in
+      PenState). p.held) pen) puts.cut_off.printed in
       record { report = out.1.front; holds = tt; printed = out.1.out }
 
   pub says-rose : (result : Result CheckEnd CheckFault) → CheckPuts result project start now
       → IfErr result (λ why. Rose why start.told.counts now.told.counts)
   says-rose (Ok end) puts = tt
-  says-rose (Err why) puts = puts.cut.rose
+  says-rose (Err why) puts = puts.cut_off.rose
 
   pub says-steady : (result : Result CheckEnd CheckFault) → CheckPuts result project start now
       → OnOk result (now.told.counts ≡ start.told.counts)
@@ -259,7 +260,7 @@ module _ (project : Project) (start now : Moment) where
   pub says-leaves : (result : Result CheckEnd CheckFault) → CheckPuts result project start now
       → LeavesFiles start.told now.told
   says-leaves (Ok end) puts = puts.put.leaves
-  says-leaves (Err why) puts = puts.cut.leaves
+  says-leaves (Err why) puts = puts.cut_off.leaves
 
 -- ---- the parts of a check
 

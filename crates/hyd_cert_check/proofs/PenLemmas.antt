@@ -50,11 +50,11 @@ module _ {S : Type 0} {files : S → Option Files} {rest written printed target 
     leaves = leaves-puts text (Ok (tt {0})) p q d e is puts;
   }
 
-  pub put-cut : (text : List ℕ) (why : OutFault) (r r' : ReaderView) (p q : PenState) (d e : S) → IsOpen p
+  pub put-cut-off : (text : List ℕ) (why : OutFault) (r r' : ReaderView) (p q : PenState) (d e : S) → IsOpen p
       → Puts files rest written printed target ready counts openings text (Err why) p q d e
       → IsCutOff (Output why) text (moment r p (told files rest written printed target ready counts openings d))
       (moment r' q (told files rest written printed target ready counts openings e))
-  put-cut text why r r' p q d e is puts = record {
+  put-cut-off text why r r' p q d e is puts = record {
     printed = second-out p.to (written d) (printed d) (written e) (printed e) (p.held ++ text) is.to puts.front;
     rose = subst (λ (k : Channel). HasOutCause k why (counts d) (counts e)) is.to (puts.cause is.no_fault);
     leaves = leaves-puts text (Err why) p q d e is puts;
@@ -83,9 +83,9 @@ put-then a b m n o first second = record {
 }
 
 -- the second text was cut off
-pub cut-then : (why : CheckFault) (a b : List ℕ) (m n o : Moment) → PutIn a m n → IsCutOff why b n o
+pub cut-off-then : (why : CheckFault) (a b : List ℕ) (m n o : Moment) → PutIn a m n → IsCutOff why b n o
     → IsCutOff why (a ++ b) m o
-cut-then why a b m n o first second = record {
+cut-off-then why a b m n o first second = record {
   printed = subst (PutOut m.told.printed o.told.printed) (append_assoc m.pen.held a b)
       (put_out_then m.told.printed n.told.printed o.told.printed (m.pen.held ++ a) n.pen.held b
       first.printed second.printed);
@@ -96,8 +96,8 @@ cut-then why a b m n o first second = record {
 pub put-as : (a b : List ℕ) (m n : Moment) → a ≡ b → PutIn a m n → PutIn b m n
 put-as a b m n e put = subst (λ (x : List ℕ). PutIn x m n) e put
 
-pub cut-as : (why : CheckFault) (a b : List ℕ) (m n : Moment) → a ≡ b → IsCutOff why a m n → IsCutOff why b m n
-cut-as why a b m n e cut = subst (λ (x : List ℕ). IsCutOff why x m n) e cut
+pub cut-off-as : (why : CheckFault) (a b : List ℕ) (m n : Moment) → a ≡ b → IsCutOff why a m n → IsCutOff why b m n
+cut-off-as why a b m n e cut_off = subst (λ (x : List ℕ). IsCutOff why x m n) e cut_off
 
 -- ---- nothing is put in
 
@@ -116,9 +116,9 @@ read-puts m n is pen printed steady leaves = record {
 }
 
 -- a read that fails too
-pub read-cut : (why : CheckFault) (m n : Moment) → n.told.printed ≡ m.told.printed
+pub read-cut-off : (why : CheckFault) (m n : Moment) → n.told.printed ≡ m.told.printed
     → Rose why m.told.counts n.told.counts → LeavesFiles m.told n.told → IsCutOff why [] m n
-read-cut why m n printed rose leaves = record {
+read-cut-off why m n printed rose leaves = record {
   printed = subst (λ (o : Option (List ℕ)). PutOut m.told.printed o (m.pen.held ++ [])) (sym printed)
       (put_out_nothing m.told.printed (m.pen.held ++ []));
   rose = rose;

@@ -15,7 +15,7 @@ use Rattle.hyd_cert.specs.FaultyLine.{lines_of}
 use Rattle.hyd_cert.specs.ReaderView.{lead, lead_lines}
 use Rattle.hyd_cert.specs.declared.answers.Stand.{Stand}
 use Rattle.hyd_cert.specs.declared.answers.Stand.TheVariants as stand
-use Rattle.hyd_lemmas.proofs.ListsAndOptions.{join-more}
+use Rattle.hyd_lemmas.proofs.ListsOptionsAndResults.{join-more}
 use Rattle.hyd_cert.proofs.GoesLemmas.{has_rest}
 use Rattle.hyd_sim.specs.View.{header_for}
 use Rattle.hyd_cert_check.specs.Checks.{BeginsWithFound}

@@ -38,7 +38,7 @@ use Rattle.hyd_cert_check.specs.RecordByRecord.{IsEnd, IsGrammarFault, IsCountsF
 use Rattle.hyd_cert_check.specs.declared.outcome.CheckFault.{CheckFault}
 use Rattle.hyd_cert_check.specs.declared.outcome.Conclusion.{Conclusion}
 use Rattle.hyd_cert_check.specs.declared.outcome.Conclusion.TheVariants.{Refused}
-use Rattle.hyd_cert_check.proofs.PenLemmas.{put-then, cut-then}
+use Rattle.hyd_cert_check.proofs.PenLemmas.{put-then, cut-off-then}
 
 -- ---- what was read
 
@@ -162,11 +162,11 @@ module _ (before now : SimView) (is : IsSim now) (accepted : IsAccepted before n
 
     pub lost-there : (why : CheckFault) → IsCutOff why (texts now.project found.lines) n o
         → LostRecord why before now m o
-    lost-there why cut = record {
+    lost-there why cut_off = record {
       found = found;
       step = is-step;
       read = found-there;
-      cut = cut-then why [] (texts now.project found.lines) m n o none cut;
+      cut_off = cut-off-then why [] (texts now.project found.lines) m n o none cut_off;
     }
 
 -- ---- a record that is refused

@@ -11,7 +11,7 @@ use Rattle.hyd_spec_reports.specs.ReportLine.{line_text, report_text}
 use Rattle.hyd_spec_reports.specs.PromisesOfRunsAndChecks.{Found, lines_of, rows_of, report_so_far}
 use Rattle.hyd_cert.specs.Lines.{IsHeaderLine, header_words}
 use Rattle.std.proofs.lemmas.List.{map-append}
-use Rattle.hyd_lemmas.proofs.ListsAndOptions.{same_item}
+use Rattle.hyd_lemmas.proofs.ListsOptionsAndResults.{same_item}
 use Rattle.hyd_cert.proofs.HeadLemmas.{header_is}
 use Rattle.hyd_run.specs.Runs.{first_line}
 use Rattle.hyd_sim.specs.View.{header_for}

@@ -13,7 +13,7 @@ use Rattle.hyd_cert_check.specs.RecordByRecord.{AllRead}
 use Rattle.hyd_cert_check.specs.RecordByRecord.{IsCutShort}
 use Rattle.hyd_cert_check.specs.declared.outcome.CheckFault.{CheckFault}
 use Rattle.hyd_cert_check.specs.declared.outcome.Conclusion.{Conclusion}
-use Rattle.hyd_cert_check.proofs.EndLemmas.{so-far-more, so-far-cut, record-cut}
+use Rattle.hyd_cert_check.proofs.EndLemmas.{so-far-more, so-far-cut-off, record-cut-off}
 
 -- the reader goes on behind a record
 pub goes-on : (before now : SimView) (m n : Moment) → DidRecord before now m n → CanGoOn n
@@ -42,9 +42,9 @@ turn-over project conclusion before now start m n p over so_far = record {
 pub turn-lost : (project : Project) (fault : CheckFault) (before now : SimView) (start m n : Moment)
     → now.project ≡ project → Sound project → IsLost fault before now m n
     → IsSoFar project (standing_of before) start m → IsCutShort project fault start n
-turn-lost project fault before now start m n p sound (in_reading cut) so_far =
-    so-far-cut project fault (standing_of before) start m n sound cut so_far
+turn-lost project fault before now start m n p sound (in_reading cut_off) so_far =
+    so-far-cut-off project fault (standing_of before) start m n sound cut_off so_far
 turn-lost project fault before now start m n p sound (in_report lost) so_far =
     subst (λ (q : Project). Sound q → IsSoFar q (standing_of before) start m → IsCutShort q fault start n) p
-    (λ s far. record-cut now.project fault (standing_of before) (standing_of now) start m n lost.found s lost.step
-    lost.read lost.cut far) sound so_far
+    (λ s far. record-cut-off now.project fault (standing_of before) (standing_of now) start m n lost.found s lost.step
+    lost.read lost.cut_off far) sound so_far

@@ -76,7 +76,7 @@ pub record LostRecord (fault : CheckFault) (sim now : SimView) (before after : M
   pub found : Found
   pub step : IsStep now.project (standing_of sim) (standing_of now) found
   pub read : IsRead (header_for now.project) found.row before after
-  pub cut : IsCutOff fault (texts now.project found.lines) before after
+  pub cut_off : IsCutOff fault (texts now.project found.lines) before after
 
 -- A fault cut the reading or the printing off.
 pub data IsLost (fault : CheckFault) (sim now : SimView) (before after : Moment) : Type 0 where
@@ -205,7 +205,7 @@ pub record IsCutShort (project : Project) (fault : CheckFault) (before now : Mom
   pub report : List ℕ
   pub holds : (text : List ℕ) → coming before ≡ Some text
       → ((end : CheckEnd) × CheckEnds project text report end) ⊎ CheckFinds project text report
-  pub cut : IsCutOff fault report before now
+  pub cut_off : IsCutOff fault report before now
 
 -- Where the records end: what was put in before as a check so far is one still, and this is found.
 pub record AllRead (conclusion : Conclusion) (project : Project) (left : Standing) (start now : Moment) : Type 0 where

@@ -8,8 +8,8 @@ ghost use Rattle.hyd_io.specs.Putting.{Puts};
 ghost use Rattle.hyd_spec_reports.specs.PromisesOfRunsAndChecks.{accepted_line};
 ghost use Rattle.hyd_cert_check.specs.RecordByRecord.{conclusion_line};
 
-use crate::first_and_refusing_report_lines::{put_counts, put_grammar};
 use crate::outcome::Conclusion;
+use crate::refusing_report_line::{put_counts, put_grammar};
 use hyd_io::{Desk, OutFault, Pen};
 use hyd_net::Project;
 use hyd_report::{put_done, put_partial, put_refused, put_refused_end};

@@ -2,10 +2,10 @@
 //! report put out through a pen.
 #![tactic(auto)]
 
-mod first_and_refusing_report_lines;
 mod last_report_line;
 mod outcome;
 mod records;
+mod refusing_report_line;
 mod whole_check;
 
 pub use outcome::{CheckEnd, CheckFault};

@@ -12,12 +12,12 @@ ghost use Rattle.hyd_cert_check.specs.Checks.{CheckEnds, CheckBreaksOff};
 ghost use Rattle.hyd_cert_check.specs.ReaderAndPen.{Moment, moment, new_pen, IsOpen, Rose};
 ghost use Rattle.hyd_cert_check.specs.RecordByRecord.{AllRead, CheckPuts, IsPrinted, IsWhole, end_of};
 
-use crate::first_and_refusing_report_lines::{empty, put_first};
 use crate::last_report_line::put_conclusion;
 use crate::outcome::{CheckEnd, CheckFault, Conclusion};
 use crate::records::take_records;
 use hyd_cert::{CertReader, Record};
 use hyd_io::{Desk, Pen};
+use hyd_run::{empty, put_first};
 use hyd_sim::Sim;
 
 // How a check ends with what is found.

@@ -103,11 +103,11 @@ text_written text net before created after made leaves content printed out =
       still_told = leaves.still_told ∙ made.still_told;
     }
 
-pub text_cut_short : (text net : List ℕ) (before : Seen) (created after : Told) → Created net before created
+pub text_cut_off : (text net : List ℕ) (before : Seen) (created after : Told) → Created net before created
     → LeavesRest created after → after.written ≡ content_of after.files after.target
     → after.printed ≡ created.printed → PutOut created.written after.written text
     → TextCutShort text net before (seen_of after)
-text_cut_short text net before created after made leaves content printed out = record {
+text_cut_off text net before created after made leaves content printed out = record {
   front = out.1.front;
   unwritten = out.0;
   is_front = sym out.1.whole;

@@ -60,7 +60,7 @@ fn write_text<D: Desk>(net: &str, text: &[u8], desk: &mut D) -> Result<(), OutFa
     requires { IsTrue (D.may_create net.now) }
     ensures whole { OnOk result (TextWritten text.now net.now
         (seen D.files D.written D.printed desk.old) (seen D.files D.written D.printed desk.new)) }
-    ensures cut_short { OnErr result ((NothingPut
+    ensures cut_off { OnErr result ((NothingPut
         (seen D.files D.written D.printed desk.old) (seen D.files D.written D.printed desk.new)
         × (D.ready desk.new ≡ false))
         ⊎ TextCutShort text.now net.now

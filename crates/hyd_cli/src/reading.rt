@@ -13,13 +13,10 @@ ghost use Rattle.hyd_cli.specs.Reading.{IfFault, IfEnded, HasReadCause};
 ghost use Rattle.hyd_cli.specs.declared.status.Status.TheVariants.{ReadFault, OutOfMemory};
 
 use crate::status::Status;
-use hyd_inp::{InpFault, InpRefused, read_project};
+use hyd_inp::{InpFault, InpRefused, LONGEST_TEXT, read_project};
 use hyd_io::{Desk, InFault, read_all};
 use hyd_net::{Cause, Project};
 use std::alloc::Global;
-
-/// The longest text that is read, in bytes: 64 MiB.
-const LONGEST: usize = 64 * 1024 * 1024;
 
 /// Why there is no network.
 #[derive(Debug, Clone, Copy, PartialEq, Eq, Drop)]
@@ -37,7 +34,7 @@ fn read_text<D: Desk>(alloc: Global, net: &str, desk: &mut D) -> Result<Option<V
     ensures text { (text : List ℕ) → IsTold (D.files desk.old) net.now text
         → IfOk result (λ got. IfSome got (λ bytes. bytes.items ≡ text)) }
     ensures long { (text : List ℕ) → IsTold (D.files desk.old) net.now text
-        → IfOk result (λ got. IfNone got (LONGEST < length text)) }
+        → IfOk result (λ got. IfNone got (LONGEST_TEXT < length text)) }
     ensures cause { IfErr result (λ status. HasCause status (D.counts desk.old) (D.counts desk.new)) }
     ensures steady { OnOk result (D.counts desk.new ≡ D.counts desk.old) }
     ensures why { IfErr result (λ status. (status ≡ ReadFault) ⊎ (status ≡ OutOfMemory)) }
@@ -48,7 +45,7 @@ fn read_text<D: Desk>(alloc: Global, net: &str, desk: &mut D) -> Result<Option<V
     if desk.open(net).is_err() {
         return Err(Status::ReadFault);
     }
-    match read_all(alloc, desk, LONGEST) {
+    match read_all(alloc, desk, LONGEST_TEXT) {
         Ok(text) => Ok(Some(text)),
         Err(InFault::TooLong) => Ok(None),
         Err(InFault::Fault) => Err(Status::ReadFault),

@@ -1,12 +1,11 @@
 //! The numbers among the words.
 
 ghost use Rattle.std.specs.Prelude.{◌≡◌, ◌≤◌, ◌<◌, ◌^◌, ◌*◌, ◌+◌, ◌-◌, min, fold, length, pos};
-ghost use Rattle.std.specs.List.{list_all};
-ghost use Rattle.hyd_num.specs.Numeral.{is_digit, number};
+ghost use Rattle.hyd_num.specs.Numeral.{number};
 ghost use Rattle.hyd_command_words.specs.CommandGrammar as orders;
 ghost use Rattle.hyd_command_words.specs.CommandView.{texts_seen};
 
-use hyd_num::{HEAD_TICKS_IN_BILLIONTH_OF_METRE, NumFault, read_decimal};
+use hyd_num::{HEAD_TICKS_IN_BILLIONTH_OF_METRE, NumFault, all_digits, read_decimal};
 
 // More than ten digits write.
 const BEYOND: u64 = 10_000_000_000;
@@ -77,13 +76,7 @@ pub(crate) fn number_within(text: &[u8], most: usize, least: u32, greatest: u32)
 fn is_short_number(text: &[u8], most: usize) -> bool
     ensures { result ≡ orders.is_short_number most text.now }
 {
-    are_digits(text) && text.len() >= 1 && text.len() <= most
-}
-
-fn are_digits(text: &[u8]) -> bool
-    ensures { result ≡ list_all is_digit text.now }
-{
-    text.iter().all(|c| b'0' <= *c && *c <= b'9')
+    all_digits(text) && text.len() >= 1 && text.len() <= most
 }
 
 // The number that digits write, and no more than `BEYOND`.

@@ -9,7 +9,9 @@ use Rattle.hyd_lemmas.proofs.Integers.{ceiling_whole, floor_whole}
 use Rattle.hyd_net.specs.Sound.{Sound, part_count}
 use Rattle.hyd_spec.specs.ProgramTypes.{Project, Rule, RuleClause, Joined, And, Or, Clause}
 use Rattle.hyd_spec.specs.Rules.{Parts, parts_of, put_before, groups_in}
-use Rattle.hyd_spec_certificates.specs.ThreeValuedLogic.{Verdict, Yes, No, Unknown, is_unknown, either, both}
+use Rattle.hyd_spec_certificates.specs.declared.Verdict.{Verdict}
+use Rattle.hyd_spec_certificates.specs.declared.Verdict.TheVariants.{Unknown}
+use Rattle.hyd_spec_certificates.specs.ThreeValuedLogic.{is_unknown, either}
 use Rattle.hyd_spec_certificates.specs.ThreeValuedLogic.{some_holds, all_hold}
 use Rattle.hyd_spec_certificates.specs.Decided.{IsOpenClause}
 use Rattle.hyd_controls_and_rules.specs.declared.clauses.Instant.{Instant}
@@ -17,18 +19,7 @@ use Rattle.hyd_controls_and_rules.specs.declared.clauses.Ends.{Ends}
 use Rattle.hyd_controls_and_rules.specs.RuleReadings.{below, above, AreEnds}
 use Rattle.hyd_controls_and_rules.specs.KnownOfRules.{IsSoundRule, is_open}
 use Rattle.hyd_controls_and_rules.proofs.Positions.{fails}
-
--- ---- three-valued logic
-
-either_known : (a b : Verdict) → is_unknown a ≡ false → is_unknown b ≡ false → is_unknown (either a b) ≡ false
-either_known Yes b h i = refl
-either_known No b h i = i
-either_known Unknown b h i = absurd (cc)
-
-both_known : (a b : Verdict) → is_unknown a ≡ false → is_unknown b ≡ false → is_unknown (both a b) ≡ false
-both_known No b h i = refl
-both_known Yes b h i = i
-both_known Unknown b h i = absurd (cc)
+use Rattle.hyd_theorems_on_nesting.proofs.Ending.{either_known, both_known}
 
 -- ---- premises
 

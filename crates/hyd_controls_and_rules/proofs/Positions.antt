@@ -3,7 +3,7 @@ use Rattle.std.proofs.Common.{◌≡◌, ◌⊎◌, inl, inr, ℕ, zero, suc, �
 use Rattle.std.proofs.Common.{Some, None, nat_lt, slice_index_or, position, if◌then◌else◌, refl, ap, sym, ◌∙◌, arith}
 use Rattle.std.specs.List.{position_or_len}
 use Rattle.std.proofs.lemmas.List.Sums.{position_or_len_is, fails_before_first}
-use Rattle.hyd_lemmas.proofs.ListsAndOptions.{any_default}
+use Rattle.hyd_lemmas.proofs.ListsOptionsAndResults.{any_default}
 use Rattle.hyd_lemmas.proofs.Trials.{nat-lt-from}
 
 nat_le_or : (k i : ℕ) → k ≤ i → (k < i) ⊎ (k ≡ i)

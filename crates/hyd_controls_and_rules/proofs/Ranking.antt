@@ -12,7 +12,7 @@ use Rattle.hyd_spec.specs.Rules.{Offer, is_above, higher, best_offer, offer_of, 
 use Rattle.hyd_controls_and_rules.specs.declared.actions_by_priority.Offer as program
 use Rattle.hyd_controls_and_rules.specs.ActionsByPriority.{offer_for, is_higher, best_of, AreBest}
 use Rattle.hyd_lemmas.proofs.Trials.{lt-from, lt-not, lt-no, lt-yes}
-use Rattle.hyd_lemmas.proofs.ListsAndOptions.{any_default}
+use Rattle.hyd_lemmas.proofs.ListsOptionsAndResults.{any_default}
 
 -- ---- priorities
 

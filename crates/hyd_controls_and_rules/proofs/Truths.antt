@@ -6,7 +6,7 @@ use Rattle.hyd_net.specs.ControlsAndRules.{IsRule}
 use Rattle.hyd_net.specs.Sound.{Sound}
 use Rattle.hyd_spec.specs.ProgramTypes.{Project, Rule, RuleClause}
 use Rattle.hyd_spec.specs.Rules.{Readings, groups_of, clause_holds, rule_holds}
-use Rattle.hyd_spec_certificates.specs.ThreeValuedLogic.{Verdict}
+use Rattle.hyd_spec_certificates.specs.declared.Verdict.{Verdict}
 use Rattle.hyd_spec_certificates.specs.Decided.{clause_between, rule_between, IsTruthBetween}
 use Rattle.hyd_spec_certificates.specs.declared.Truth.{Truth}
 use Rattle.hyd_spec_certificates.specs.declared.Truth.TheVariants.{True, False, Open}

@@ -15,7 +15,8 @@ use Rattle.hyd_spec.specs.Rules.{status_holds, state_word, state_of_link, settin
 use Rattle.hyd_spec.specs.Rules.{groups_in}
 use Rattle.hyd_spec_certificates.specs.declared.Truth.{Truth}
 use Rattle.hyd_spec_certificates.specs.declared.Truth.TheVariants.{True, False, Open}
-use Rattle.hyd_spec_certificates.specs.ThreeValuedLogic.{Verdict, is_unknown, at_both_ends, either, both, some_holds}
+use Rattle.hyd_spec_certificates.specs.declared.Verdict.{Verdict}
+use Rattle.hyd_spec_certificates.specs.ThreeValuedLogic.{is_unknown, at_both_ends, either, both, some_holds}
 use Rattle.hyd_spec_certificates.specs.ThreeValuedLogic.{all_hold}
 use Rattle.hyd_spec_certificates.specs.Decided.{clause_between, rule_between, IsOpenClause, IsTruthBetween}
 use Rattle.hyd_theorems_on_histories.specs.Agreement.{IsValueBetween, AreBetween}

@@ -1,17 +1,16 @@
 -- Rules of a sound network, and what is known of them at an instant.
 -- Source: EPANET 2.2 User Manual, chapter 3 (rule-based controls).
 use Rattle.std.specs.Prelude.{◌^◌, ◌≤◌, Bool, List, length, map, Option, Some, None}
-use Rattle.std.specs.Option.{option_map}
 use Rattle.hyd_net.specs.ControlsAndRules.{IsRule}
 use Rattle.hyd_net.specs.RoundedFileNumbers.{IsRuleMade}
 use Rattle.hyd_spec.specs.ProgramTypes.{Project, Rule, RuleClause, Clause}
 use Rattle.hyd_spec.specs.Rules.{parts_of, groups_in}
-use Rattle.hyd_spec_certificates.specs.ThreeValuedLogic.{Verdict, is_unknown, either, both, some_holds, all_hold}
+use Rattle.hyd_spec_certificates.specs.declared.Verdict.{Verdict}
+use Rattle.hyd_spec_certificates.specs.ThreeValuedLogic.{is_unknown, either, both, some_holds, all_hold}
 use Rattle.hyd_spec_certificates.specs.Decided.{rule_between, IsTruthBetween}
 use Rattle.hyd_spec_certificates.specs.declared.Truth.{Truth}
 use Rattle.hyd_controls_and_rules.specs.declared.clauses.Instant.{Instant}
 use Rattle.hyd_controls_and_rules.specs.declared.rules.Premise.{Premise}
-use Rattle.hyd_controls_and_rules.specs.Verdicts.{verdict_of}
 use Rattle.hyd_controls_and_rules.specs.RuleReadings.{below, above, verdict_there}
 
 -- a rule of a sound network
@@ -44,4 +43,4 @@ rest_of truth groups (Some group) rows =
 
 -- the same of a premise of the program
 abbrev pub premise_of : (Clause → Verdict) → Premise → List RuleClause → Verdict
-premise_of truth premise rows = rest_of truth (verdict_of premise.groups) (option_map verdict_of premise.group) rows
+premise_of truth premise rows = rest_of truth premise.groups premise.group rows

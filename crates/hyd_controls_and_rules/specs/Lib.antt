@@ -4,5 +4,4 @@ pub mod ActionsByPriority
 pub mod KnownOfRules
 pub mod ReservedMemory
 pub mod PumpPatternsAndSimpleControls
-pub mod Verdicts
 pub mod TruthOfRule

@@ -12,7 +12,7 @@ use Rattle.hyd_spec.specs.Rules.{Readings, level_of, measured}
 use Rattle.hyd_spec_certificates.specs.Spans.{levels_of, flows_of}
 use Rattle.hyd_spec_certificates.specs.Interval.{Interval}
 use Rattle.hyd_spec_certificates.specs.Decided.{least_magnitude, greatest_magnitude, clause_between}
-use Rattle.hyd_spec_certificates.specs.ThreeValuedLogic.{Verdict}
+use Rattle.hyd_spec_certificates.specs.declared.Verdict.{Verdict}
 use Rattle.hyd_controls_and_rules.specs.declared.clauses.Instant.{Instant}
 use Rattle.hyd_controls_and_rules.specs.declared.clauses.Ends.{Ends}
 

@@ -11,16 +11,15 @@ ghost use Rattle.hyd_spec.specs.Rules.{setting_of, compares, is_word, status_hol
 ghost use Rattle.hyd_spec.specs.Rules.{has_come, has_come_today};
 ghost use Rattle.hyd_spec_certificates.specs.Spans.{flows_of};
 ghost use Rattle.hyd_spec_certificates.specs.Decided.{least_magnitude, greatest_magnitude};
-ghost use Rattle.hyd_controls_and_rules.specs.Verdicts.{verdict_of};
 ghost use Rattle.hyd_controls_and_rules.specs.RuleReadings.{IsBounded, IsInstant, AreLevelEnds, AreEnds};
 ghost use Rattle.hyd_controls_and_rules.specs.RuleReadings.{IsMeasured};
 ghost use Rattle.hyd_controls_and_rules.specs.RuleReadings.{verdict_there};
 
-use crate::logic::{Verdict, at_both_ends};
+use crate::logic::at_both_ends;
 use crate::time_of_day::{DAY, clock_at};
 use hyd_net::{Clause, LinkState, Project, Relation, Value, What};
 use hyd_num::Span;
-use hyd_spec_certificates::LevelSpan;
+use hyd_spec_certificates::{LevelSpan, Verdict};
 
 /// What rules look at, at an instant of a period: the heads of junctions and then of reservoirs from below and from
 /// above, the flows of links, the carried levels of tanks, and the commanded states.
@@ -252,7 +251,7 @@ fn measured_verdict(instant: &Instant<'_>, clause: &Clause) -> Verdict
     requires clause { IsClause instant.now.project.now clause.now }
     requires made { IsValueMade instant.now.project.now.options.unit clause.now.what clause.now.value }
     requires measured { IsMeasured clause.now.what }
-    ensures { verdict_of result ≡ verdict_there instant.now clause.now }
+    ensures { result ≡ verdict_there instant.now clause.now }
 {
     let Value::Amount { span, .. } = clause.value else {
         unreachable!()
@@ -269,7 +268,7 @@ pub(crate) fn clause_verdict(instant: &Instant<'_>, clause: &Clause) -> Verdict
     requires instant { IsInstant instant.now }
     requires clause { IsClause instant.now.project.now clause.now }
     requires made { IsValueMade instant.now.project.now.options.unit clause.now.what clause.now.value }
-    ensures { verdict_of result ≡ verdict_there instant.now clause.now }
+    ensures { result ≡ verdict_there instant.now clause.now }
 {
     let project = instant.project;
     let holds = match clause.what {

@@ -3,19 +3,12 @@
 
 ghost use Rattle.std.specs.Prelude.{◌≡◌};
 ghost use Rattle.hyd_spec_certificates.specs.ThreeValuedLogic.{is_yes, is_unknown, at_both_ends, either, both};
-ghost use Rattle.hyd_controls_and_rules.specs.Verdicts.{verdict_of};
 
-/// What holds of all points of the intervals, of none, or is open.
-#[derive(Clone, Copy, Drop)]
-pub(crate) enum Verdict {
-    Yes,
-    No,
-    Unknown,
-}
+use hyd_spec_certificates::Verdict;
 
 /// What is so at both ends of an interval is so, and what differs is open.
 pub(crate) fn at_both_ends(below: bool, above: bool) -> Verdict
-    ensures { verdict_of result ≡ at_both_ends below above }
+    ensures { result ≡ at_both_ends below above }
 {
     match (below, above) {
         (true, true) => Verdict::Yes,
@@ -26,21 +19,21 @@ pub(crate) fn at_both_ends(below: bool, above: bool) -> Verdict
 
 /// It holds.
 pub(crate) fn is_yes(verdict: Verdict) -> bool
-    ensures { result ≡ is_yes (verdict_of verdict) }
+    ensures { result ≡ is_yes verdict }
 {
     matches!(verdict, Verdict::Yes)
 }
 
 /// It is open.
 pub(crate) fn is_unknown(verdict: Verdict) -> bool
-    ensures { result ≡ is_unknown (verdict_of verdict) }
+    ensures { result ≡ is_unknown verdict }
 {
     matches!(verdict, Verdict::Unknown)
 }
 
 /// One of two holds.
 pub(crate) fn either(one: Verdict, other: Verdict) -> Verdict
-    ensures { verdict_of result ≡ either (verdict_of one) (verdict_of other) }
+    ensures { result ≡ either one other }
 {
     match (one, other) {
         (Verdict::Yes, _) | (_, Verdict::Yes) => Verdict::Yes,
@@ -51,7 +44,7 @@ pub(crate) fn either(one: Verdict, other: Verdict) -> Verdict
 
 /// Both hold.
 pub(crate) fn both(one: Verdict, other: Verdict) -> Verdict
-    ensures { verdict_of result ≡ both (verdict_of one) (verdict_of other) }
+    ensures { result ≡ both one other }
 {
     match (one, other) {
         (Verdict::No, _) | (_, Verdict::No) => Verdict::No,

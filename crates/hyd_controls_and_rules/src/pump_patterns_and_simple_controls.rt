@@ -15,19 +15,18 @@ ghost use Rattle.hyd_spec_certificates.specs.Valid.{ControlsAreDecided};
 ghost use Rattle.hyd_spec_reports.specs.Report.{control_changes, start_changes};
 ghost use Rattle.hyd_spec_reports.specs.Stops.{is_open_control};
 ghost use Rattle.hyd_theorems_on_definitions.specs.TermsOfTheorems.{LevelsLie};
-ghost use Rattle.hyd_controls_and_rules.specs.Verdicts.{verdict_of};
 ghost use Rattle.hyd_controls_and_rules.specs.PumpPatternsAndSimpleControls.{pattern_of, HasPatternThere, IsTankThere};
 ghost use Rattle.hyd_controls_and_rules.specs.PumpPatternsAndSimpleControls.{IsLevelOf};
 ghost use Rattle.hyd_controls_and_rules.specs.PumpPatternsAndSimpleControls.{IsFirstOpen};
 
 use crate::changes::Changes;
-use crate::logic::{Verdict, at_both_ends, is_unknown, is_yes};
+use crate::logic::{at_both_ends, is_unknown, is_yes};
 use crate::state_comparison::is_same_state;
 use crate::time_of_day::clock_at;
 use hyd_demand::multiplier_at;
 use hyd_net::{Control, Link, LinkKind, LinkState, Project, When};
 use hyd_spec::{Change, Source};
-use hyd_spec_certificates::LevelSpan;
+use hyd_spec_certificates::{LevelSpan, Verdict};
 
 /// The first level control that both ends of its tank's level interval disagree on. Controls are counted from 0.
 #[derive(Debug, Clone, Copy, PartialEq, Eq, Drop)]
@@ -101,7 +100,7 @@ fn set_pumps(project: &Project, time: u32, links: &mut [LinkState])
 
 // ABOVE means at least, and BELOW at most.
 fn level_verdict(level: &LevelSpan, above: bool, ticks: i64) -> Verdict
-    ensures { verdict_of result ≡ control_truth (levels_of level.now) above ticks }
+    ensures { result ≡ control_truth (levels_of level.now) above ticks }
 {
     if above {
         at_both_ends(level.lo >= ticks, level.hi >= ticks)

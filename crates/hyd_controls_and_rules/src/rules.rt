@@ -6,12 +6,12 @@ ghost use Rattle.std.specs.List.{All};
 ghost use Rattle.hyd_net.specs.Sound.{Sound};
 ghost use Rattle.hyd_spec.specs.ProgramTypes as types;
 ghost use Rattle.hyd_spec.specs.NodeNumbers.{nodes_before_tanks, tank_count};
-ghost use Rattle.hyd_spec_certificates.specs.ThreeValuedLogic as logic;
+ghost use Rattle.hyd_spec_certificates.specs.declared.Verdict as verdict;
+ghost use Rattle.hyd_spec_certificates.specs.declared.Verdict.TheVariants as verdicts;
 ghost use Rattle.hyd_spec.specs.Rules.{Readings, rule_holds};
 ghost use Rattle.hyd_spec_certificates.specs.Spans.{levels_of, flows_of};
 ghost use Rattle.hyd_spec_certificates.specs.Decided.{rule_between, IsTruthBetween};
 ghost use Rattle.hyd_theorems_on_histories.specs.Agreement.{AreBetween};
-ghost use Rattle.hyd_controls_and_rules.specs.Verdicts.{verdict_of};
 ghost use Rattle.hyd_controls_and_rules.specs.TruthOfRule.{IsTruthOf, IsKnownAs};
 ghost use Rattle.hyd_controls_and_rules.specs.RuleReadings.{IsInstant, IsBounded};
 ghost use Rattle.hyd_controls_and_rules.specs.RuleReadings.{lower_readings};
@@ -19,10 +19,10 @@ ghost use Rattle.hyd_controls_and_rules.specs.RuleReadings.{upper_readings};
 ghost use Rattle.hyd_controls_and_rules.specs.KnownOfRules.{IsSoundRule, is_open, rule_there, IsTruthThere, premise_of};
 
 use crate::clauses::{Instant, clause_verdict, ends_of};
-use crate::logic::{Verdict, both, either, is_unknown};
+use crate::logic::{both, either, is_unknown};
 use hyd_net::{Joined, LinkState, Project, Rule};
 use hyd_num::Span;
-use hyd_spec_certificates::{LevelSpan, Truth};
+use hyd_spec_certificates::{LevelSpan, Truth, Verdict};
 
 // What is known of a premise up to some clause: of its groups before the last one, and of the last one.
 #[derive(Clone, Copy, Drop)]
@@ -33,8 +33,8 @@ struct Premise {
 
 // One clause more. OR goes on with the last group, and AND begins one; so does the first clause, however it is joined.
 fn with_clause(premise: Premise, joined: Joined, clause: Verdict) -> Premise
-    ensures { (truth : types.Clause → logic.Verdict) (row : types.RuleClause) (rows : List types.RuleClause)
-        → row.joined ≡ joined → truth row.clause ≡ verdict_of clause
+    ensures { (truth : types.Clause → verdict.Verdict) (row : types.RuleClause) (rows : List types.RuleClause)
+        → row.joined ≡ joined → truth row.clause ≡ clause
         → premise_of truth result rows ≡ premise_of truth premise (row ∷ rows) }
 {
     match (joined, premise.group) {
@@ -55,7 +55,7 @@ fn with_clause(premise: Premise, joined: Joined, clause: Verdict) -> Premise
 
 // What is known of a whole premise.
 fn whole(premise: Premise) -> Verdict
-    ensures { (truth : types.Clause → logic.Verdict) → verdict_of result ≡ premise_of truth premise [] }
+    ensures { (truth : types.Clause → verdict.Verdict) → result ≡ premise_of truth premise [] }
 {
     match premise.group {
         Some(group) => both(premise.groups, group),
@@ -66,7 +66,7 @@ fn whole(premise: Premise) -> Verdict
 fn rule_verdict(instant: &Instant<'_>, rule: &Rule) -> Verdict
     requires instant { IsInstant instant.now }
     requires rule { IsSoundRule instant.now.project.now rule.now }
-    ensures { verdict_of result ≡ rule_there instant.now rule.now }
+    ensures { result ≡ rule_there instant.now rule.now }
 {
     let clauses = rule.clauses.as_slice();
     let mut premise = Premise {
@@ -99,7 +99,7 @@ fn first_open(instant: &Instant<'_>, rule: &Rule) -> Option<usize>
 fn open_truth(instant: &Instant<'_>, rule: &Rule) -> Truth
     requires instant { IsInstant instant.now }
     requires rule { IsSoundRule instant.now.project.now rule.now }
-    requires open { rule_there instant.now rule.now ≡ logic.Unknown }
+    requires open { rule_there instant.now rule.now ≡ verdicts.Unknown }
     ensures { IsTruthThere instant.now rule.now result }
 {
     let clause = first_open(instant, rule).unwrap();

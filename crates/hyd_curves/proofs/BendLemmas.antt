@@ -23,7 +23,8 @@ use Rattle.hyd_curves.specs.declared.points.CurvePoint.{CurvePoint}
 use Rattle.hyd_curves.specs.declared.ticks.Ticks.{Ticks}
 use Rattle.hyd_num.proofs.Integers.{one_times}
 use Rattle.hyd_lemmas.proofs.Trials.{lt-from, nat-le-from, le_z-yes, lt_z-yes}
-use Rattle.hyd_curves.proofs.TurnLemmas.{last_is, no_items}
+use Rattle.hyd_lemmas.proofs.ListsOptionsAndResults.{no_items}
+use Rattle.hyd_curves.proofs.TurnLemmas.{last_is}
 
 abbrev pub bend : FlowUnit → List CurvePoint → List HeadPoint
 bend unit points = head_points unit (is_us_unit unit) (points_in points)

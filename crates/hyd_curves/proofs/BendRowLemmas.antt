@@ -286,9 +286,9 @@ list_more rows bends next name list before one names lists =
     bends.lists.list name list before one)
 
 -- so many points make straight lines, or don't
-pub many : (points : List CurvePoint) (named : List Point) → points_in points ≡ named → 4 ≤ length points
+pub many_points : (points : List CurvePoint) (named : List Point) → points_in points ≡ named → 4 ≤ length points
     → is_bent named ≡ true
-many points named e l =
+many_points points named e l =
     let n : length named ≡ length points = ap length (sym e) ∙ length-map points point_in in
     grind (arith, nat_tests, n, l)
 

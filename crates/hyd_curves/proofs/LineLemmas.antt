@@ -1,13 +1,13 @@
 -- Straight lines between two knots.
-use Rattle.std.proofs.Common.{◌≡◌, ◌*◌, ◌/◌, ◌≤◌, ℕ, zero, suc, ℤ, pos, negsuc, ◌+ℤ◌, ◌-ℤ◌, ◌*ℤ◌, ◌≤ℤ◌, ◌<ℤ◌, false}
+use Rattle.std.proofs.Common.{◌≡◌, ◌*◌, ◌/◌, ◌≤◌, ℕ, ℤ, pos, negsuc, ◌+ℤ◌, ◌-ℤ◌, ◌*ℤ◌, ◌≤ℤ◌, ◌<ℤ◌, false}
 use Rattle.std.proofs.Common.{unsigned_abs, refl, sym, ap, ◌∙◌, arith}
 use Rattle.std.specs.Prelude.{int_le}
 use Rattle.std.proofs.lemmas.Int.{ints}
 use lib.Signed.{le_z}
-use Rattle.std.proofs.Math.IntN.{zero-*ℤ, *ℤ-zero, *ℤ_comm, negsuc-*ℤ-negsuc}
+use Rattle.std.proofs.Math.IntN.{*ℤ_comm}
 use Rattle.std.specs.Int.{int_div_euclid}
 use Rattle.hyd_num.specs.Rational.{floor, whole, is_at_most}
-use Rattle.hyd_num.proofs.Integers.{times_rises, times_plus, times_one, one_times}
+use Rattle.hyd_num.proofs.Integers.{times_rises, times_plus, times_one, one_times, both_below, times_one_right}
 use Rattle.hyd_net.specs.Curves.{Knot, on_line, between}
 use Rattle.hyd_lemmas.proofs.KnotLines.{on_line_is}
 use Rattle.hyd_lemmas.proofs.Trials.{lt_z-yes}
@@ -41,24 +41,13 @@ quotient_small n (negsuc b) r lt_z-yes e = absurd (omega (arith, ints, lt_z-yes)
 
 -- ---- against a bound
 
--- a product of two numbers of at most 0
-both_below : (r s : ℤ) → r ≤ℤ pos 0 → s ≤ℤ pos 0 → pos 0 ≤ℤ (r *ℤ s)
-both_below (pos zero) s p q = rw zero-*ℤ (omega (arith, ints))
-both_below (pos (suc m)) s p q = absurd (omega (arith, ints, p))
-both_below (negsuc m) (pos zero) p q = rw *ℤ-zero (omega (arith, ints))
-both_below (negsuc m) (pos (suc n)) p q = absurd (omega (arith, ints, q))
-both_below (negsuc m) (negsuc n) p q = rw negsuc-*ℤ-negsuc (omega (arith, ints))
-
-over_one : (z : ℤ) → z *ℤ pos 1 ≡ z
-over_one z = *ℤ_comm z (pos 1) ∙ one_times z
-
 -- the line at 0 is at most a bound
 pub low_is : (a b : Knot) (most n w : ℤ) → a.place <ℤ b.place → n ≡ (on_line 1 a b (pos 0)).num
     → w ≡ b.place -ℤ a.place
     → le_z n (most *ℤ w) ≡ is_at_most (on_line 1 a b (pos 0)) (whole most)
 low_is a b most n w less e f =
     let den : w ≡ pos (on_line 1 a b (pos 0)).den = f ∙ width_is a b (pos 0) less in
-    let num : n ≡ (on_line 1 a b (pos 0)).num *ℤ pos 1 = e ∙ sym (over_one (on_line 1 a b (pos 0)).num) in
+    let num : n ≡ (on_line 1 a b (pos 0)).num *ℤ pos 1 = e ∙ sym (times_one_right (on_line 1 a b (pos 0)).num) in
     rw (den, num) refl
 
 -- a line that falls from lt_z-yes a bound, at 0 or beyond it
@@ -79,7 +68,7 @@ high_is a b most less forward falls above =
     times_rises w (most +ℤ pos 1) a.value (omega (arith, ints, lt_z-yes)) in
     let one : 1 * w ≡ w = omega arith in
     let num : x.num ≡ (pos w *ℤ a.value) +ℤ ((b.value -ℤ a.value) *ℤ (pos 0 -ℤ (pos 1 *ℤ a.place))) = rw one refl in
-    let same : x.num *ℤ pos 1 ≡ x.num = over_one x.num in
+    let same : x.num *ℤ pos 1 ≡ x.num = times_one_right x.num in
     let turn : most *ℤ pos w ≡ pos w *ℤ most = *ℤ_comm most (pos w) in
     let beyond : (most *ℤ pos w) <ℤ (x.num *ℤ pos 1) =
     omega (arith, ints, back, up, times_plus w most (pos 1), times_one w, num, same, turn, wide, less) in

@@ -21,8 +21,9 @@ use Rattle.hyd_curves.specs.declared.points.CurvePoint.{CurvePoint}
 use Rattle.hyd_curves.specs.declared.ticks.Ticks.{Ticks}
 use Rattle.hyd_num.proofs.Integers.{one_times}
 use Rattle.hyd_lemmas.proofs.Trials.{lt-from, lt-not, nat-le-from, le_z-yes, lt_z-no, lt_z-yes}
+use Rattle.hyd_lemmas.proofs.ListsOptionsAndResults.{no_items}
 use Rattle.hyd_curves.proofs.LineLemmas.{floor_whole}
-use Rattle.hyd_curves.proofs.TurnLemmas.{no_items, last_is}
+use Rattle.hyd_curves.proofs.TurnLemmas.{last_is}
 
 -- a point as a volume point
 abbrev pub shape_point : Bool → CurvePoint → VolumePoint

@@ -1,6 +1,6 @@
 -- Items in turn, one after another, and the items at both ends.
-use Rattle.std.proofs.Common.{◌≡◌, ◌++◌, Bool, true, false, true≢false, inl, inr, List, [], ◌∷◌, map, length, refl, sym}
-use Rattle.std.proofs.Common.{◌∙◌, arith}
+use Rattle.std.proofs.Common.{◌≡◌, ◌++◌, Bool, true, false, true≢false, inl, inr, List, [], ◌∷◌, map, refl, sym}
+use Rattle.std.proofs.Common.{◌∙◌}
 use Rattle.std.specs.Prelude.{◌&&◌}
 use Rattle.std.proofs.lemmas.Bool.{and_parts, cases_Bool}
 use Rattle.std.specs.List.{list_all}
@@ -10,10 +10,6 @@ use Rattle.hyd_curves.specs.Points.{points_in, point_in}
 use Rattle.hyd_curves.specs.EachWithNext.{goes_on, all_in_turn}
 use Rattle.hyd_curves.specs.declared.points.CurvePoint.{CurvePoint}
 use Rattle.hyd_lemmas.proofs.Trials.{and-false}
-
-pub no_items : {A : Type 0} (items : List A) → length items ≡ 0 → items ≡ []
-no_items [] e = refl
-no_items (a ∷ items) e = absurd (omega arith)
 
 -- one test is decided
 pub and_then : (f s : Bool) → true ≡ f → s ≡ (f && s)

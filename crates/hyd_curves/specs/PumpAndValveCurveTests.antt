@@ -2,13 +2,14 @@
 use Rattle.std.specs.Prelude.{◌^◌, Bool, ◌&&◌, List, pos, ◌≤ℤ◌}
 use lib.Signed.{le_z}
 use Rattle.hyd_spec_input.specs.Curves.{is_head, has_flow, at_start, at_end}
+use Rattle.hyd_net.specs.NumberRanges.{flow_limit}
 use Rattle.hyd_net.specs.declared.curves.HeadPoint.{HeadPoint}
 use Rattle.hyd_curves.specs.declared.ticks.Ticks.{Ticks}
 
--- a flow from 0 to 10^15 ticks, a head of at least 0 and no more than a number of a file can make
+-- a flow from 0 to the greatest one, a head of at least 0 and no more than a number of a file can make
 pub record IsPumpPoint (ticks : Ticks) : Type 0 where
   pub forward : pos 0 ≤ℤ ticks.place
-  pub flow : ticks.place ≤ℤ pos (10 ^ 15)
+  pub flow : ticks.place ≤ℤ pos flow_limit
   pub lifts : pos 0 ≤ℤ ticks.value
   pub heads : ticks.value ≤ℤ pos (10 ^ 26)
 

@@ -1,11 +1,12 @@
 //! Straight lines between points, in ticks.
 #![tactic(auto)]
 
-ghost use Rattle.std.specs.Prelude.{◌≡◌, ◌≤◌, ◌^◌, ◌*◌, ◌<ℤ◌, ◌*ℤ◌, ◌-ℤ◌, unsigned_abs};
+ghost use Rattle.std.specs.Prelude.{◌≡◌, ◌≤◌, ◌^◌, ◌*◌, ◌<ℤ◌, ◌-ℤ◌, unsigned_abs};
 ghost use Rattle.hyd_net.specs.Curves as curve;
 ghost use Rattle.hyd_curves.specs.PointsAsKnots.{IsSmall, knot_of};
 
 use crate::ticks::Ticks;
+use hyd_num::whole_product;
 
 // A difference of two numbers of at most 10^18 either way.
 fn difference(a: i128, b: i128) -> i128
@@ -15,16 +16,6 @@ fn difference(a: i128, b: i128) -> i128
     ensures small { unsigned_abs result ≤ 2 * 10 ^ 18 }
 {
     a - b
-}
-
-// A product of two numbers of at most 4 * 10^18 either way.
-fn product(a: i128, b: i128) -> i128
-    requires a { unsigned_abs a ≤ 4 * 10 ^ 18 }
-    requires b { unsigned_abs b ≤ 4 * 10 ^ 18 }
-    ensures value { result ≡ a *ℤ b }
-    ensures small { unsigned_abs result ≤ 16 * 10 ^ 36 }
-{
-    a * b
 }
 
 /// The value at a place on the line through two points, times the distance of their places.
@@ -39,5 +30,5 @@ pub(crate) fn on_line(first: Ticks, second: Ticks, place: i128) -> i128
     let width = difference(second.place, first.place);
     let rise = difference(second.value, first.value);
     let beyond = difference(place, first.place);
-    product(width, first.value) + product(rise, beyond)
+    whole_product(width, first.value) + whole_product(rise, beyond)
 }

@@ -1,22 +1,22 @@
 //! The points of all curves.
 #![tactic(auto)]
 
-ghost use Rattle.std.specs.Prelude.{◌≡◌, ◌==◌, ◌<◌, ◌+◌, ℕ, List, [], length, IfOk, OnOk};
+ghost use Rattle.std.specs.Prelude.{◌≡◌, ◌<◌, ◌+◌, ℕ, List, [], length, IfOk, OnOk};
 ghost use Rattle.std.specs.List.{All};
 ghost use Rattle.hyd_spec_lines.specs.Lines.{LiesIn, Row};
 ghost use Rattle.hyd_spec_lines.specs.declared.section.Section.TheVariants.{Curves};
 ghost use Rattle.hyd_spec_input.specs.SingleRows.{IsWrongByItself};
 ghost use Rattle.hyd_spec_input.specs.Faults.{NoneIs};
-ghost use Rattle.hyd_spec_input.specs.Tables.{place as section_place, rows_of, curve_named};
+ghost use Rattle.hyd_spec_input.specs.Tables.{rows_of, curve_named};
 ghost use Rattle.hyd_text_rows.specs.FirstWrongRow.{rows_at};
 ghost use Rattle.hyd_text_rows.specs.IdTables.{IsTable};
 ghost use Rattle.hyd_curves.specs.Points.{ArePoints, AreEmpty, AreGathered, HasOneMore, points_in, point_in, each};
 
-use hyd_lex::{Line, Lines, Section};
+use hyd_lex::{Line, Lines};
 use hyd_net::OutOfMemory;
 use hyd_network_rows::read_curve;
 use hyd_num::Decimal;
-use hyd_text_rows::Table;
+use hyd_text_rows::{Table, is_curves};
 use std::alloc::Global;
 
 /// A point of a curve, as the numbers of its row.
@@ -33,15 +33,6 @@ pub struct CurvePoint {
 #[derive(Drop)]
 pub struct Points {
     pub lists: Vec<hyd_net::List<CurvePoint>>,
-}
-
-fn is_curves(section: Section) -> bool
-    ensures { result ≡ (section_place section == 8) }
-{
-    match section {
-        Section::Curves => true,
-        _ => false,
-    }
 }
 
 // So many lists without points.

@@ -5,6 +5,7 @@ ghost use Rattle.std.specs.Prelude.{◌≡◌, ◌==◌, ◌≤◌, ◌^◌, ◌
 ghost use lib.Signed.{lt_z};
 ghost use Rattle.hyd_num.specs.Rational.{floor};
 ghost use Rattle.hyd_net.specs.Curves.{between, volume_at};
+ghost use Rattle.hyd_net.specs.NumberRanges.{head_limit};
 ghost use Rattle.hyd_spec_input.specs.Curves.{volume_points};
 ghost use Rattle.hyd_curves.specs.Points.{points_in};
 ghost use Rattle.hyd_curves.specs.PointsAsKnots.{IsSmall, knot_of};
@@ -18,7 +19,7 @@ use crate::ticks::{Ticks, volume_point};
 fn volume_between(first: Ticks, second: Ticks, level: i128) -> i128
     requires first { IsSmall first }
     requires second { IsSmall second }
-    requires level { unsigned_abs level ≤ 10 ^ 17 }
+    requires level { unsigned_abs level ≤ head_limit }
     requires apart { first.place <ℤ second.place }
     ensures value { result ≡ floor (between 1 (knot_of first) (knot_of second) level) }
     ensures small { unsigned_abs result ≤ 32 * 10 ^ 36 }
@@ -39,7 +40,7 @@ fn is_reached(level: i128, second: Ticks, later: &[CurvePoint]) -> bool
 /// The volume up to a level, cut to whole ticks.
 pub(crate) fn volume_up_to(points: &[CurvePoint], level: i128, us: bool) -> i128
     requires right { IsRight (volume_points us (points_in points.now)) }
-    requires level { unsigned_abs level ≤ 10 ^ 17 }
+    requires level { unsigned_abs level ≤ head_limit }
     ensures value { result ≡ volume_at (volume_points us (points_in points.now)) level }
     ensures small { unsigned_abs result ≤ 32 * 10 ^ 36 }
 {

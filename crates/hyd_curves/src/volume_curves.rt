@@ -1,7 +1,7 @@
 //! The volume curves that tanks name.
 #![tactic(auto)]
 
-ghost use Rattle.std.specs.Prelude.{◌≡◌, ◌==◌, ◌<◌, ◌≤◌, ◌+◌, ◌^◌, ℕ, List, length, All, IfOk, OnOk};
+ghost use Rattle.std.specs.Prelude.{◌≡◌, ◌<◌, ◌≤◌, ◌+◌, ◌^◌, ℕ, List, length, All, IfOk, OnOk};
 ghost use Rattle.hyd_spec_lines.specs.Lines.{LiesIn, Row};
 ghost use Rattle.hyd_spec_input.specs.SingleRows.{IsWrongByItself};
 ghost use Rattle.hyd_spec_input.specs.Curves as curve;
@@ -9,18 +9,17 @@ ghost use Rattle.hyd_spec_input.specs.Faults.{NoneIs, IsWrongWithOthers};
 ghost use Rattle.hyd_spec_input.specs.InForce as force;
 ghost use Rattle.hyd_spec_input.specs.MeaningsAcrossRows.{shape_names};
 ghost use Rattle.hyd_spec_input.specs.Project.{Match, shape_points};
-ghost use Rattle.hyd_spec_input.specs.Tables.{place as section_place};
 ghost use Rattle.hyd_text_rows.specs.FirstWrongRow.{rows_at};
 ghost use Rattle.hyd_curves.specs.NamedVolumeCurves.{IsSmallVolume, AreShapesAt, AreShapes, with_name};
 ghost use Rattle.hyd_curves.specs.Points.{ArePoints, points_in, point_in};
 
 use crate::points::{CurvePoint, Points};
 use crate::ticks::volume_point;
-use hyd_lex::{Line, Lines, Section};
+use hyd_lex::{Line, Lines};
 use hyd_net::{Names, OutOfMemory, VolumePoint};
 use hyd_network_rows::read_tank;
 use hyd_num::FlowUnit;
-use hyd_text_rows::Table;
+use hyd_text_rows::{Table, is_tanks};
 use std::alloc::Global;
 
 /// The volume curves that tanks name, each once, in the order in which they are first named.
@@ -30,15 +29,6 @@ pub struct Shapes {
     pub names: Names,
     /// The points of each in ticks, in the order of `names`.
     pub lists: hyd_net::List<hyd_net::List<VolumePoint>>,
-}
-
-fn is_tanks(section: Section) -> bool
-    ensures { result ≡ (section_place section == 2) }
-{
-    match section {
-        Section::Tanks => true,
-        _ => false,
-    }
 }
 
 // A point whose level and volume are in range.

@@ -54,7 +54,7 @@ few_categories project sound k d h =
     few_rows (length (slice_index_or project.junctions.list k d).demands.list)
     (omega (arith, one, sound.counts.demands))
 
-demand_read : (project : Project) (time k : ℕ) (d : Junction) → k < length project.junctions.list
+pub demand_read : (project : Project) (time k : ℕ) (d : Junction) → k < length project.junctions.list
     → junction_demand project time k ≡ demand_of project time (slice_index_or project.junctions.list k d)
 demand_read project time k d h = ap (λ (o : Option Junction). option_map_or (λ j. demand_of project time j) o (pos 0))
     (slice_get-get_or project.junctions.list k d h)

@@ -1,7 +1,8 @@
 -- Demands and heads by the numbers of junctions and reservoirs.
 -- Source: EPANET 2.2 User Manual, chapter 3 (junctions, reservoirs, time patterns).
-use Rattle.std.specs.Prelude.{ℕ, ℤ, pos, ◌^◌, ◌<◌, ◌≤◌, unsigned_abs, slice_get}
+use Rattle.std.specs.Prelude.{ℕ, ℤ, pos, ◌<◌, ◌≤◌, unsigned_abs, slice_get}
 use Rattle.std.specs.Option.{option_map_or}
+use Rattle.hyd_net.specs.NumberRanges.{flow_limit}
 use Rattle.hyd_spec.specs.ProgramTypes.{Project}
 use Rattle.hyd_spec.specs.DemandsReservoirHeadsAndCurves.{demand_of, reservoir_head}
 
@@ -15,10 +16,10 @@ abbrev pub head_of_reservoir : Project → ℕ → ℕ → ℤ
 head_of_reservoir project time reservoir =
     option_map_or (λ r. reservoir_head project time r) (slice_get project.reservoirs.list reservoir) (pos 0)
 
--- a demand of a period: at most 10^8 cubic metres a day either way
+-- a demand of a period: at most the greatest flow of a file either way
 abbrev pub IsInRange : ℤ → Type 0
-IsInRange demand = unsigned_abs demand ≤ 10 ^ 15
+IsInRange demand = unsigned_abs demand ≤ flow_limit
 
 -- a demand that is greater
 abbrev pub IsOutOfRange : ℤ → Type 0
-IsOutOfRange demand = 10 ^ 15 < unsigned_abs demand
+IsOutOfRange demand = flow_limit < unsigned_abs demand

@@ -10,6 +10,7 @@ ghost use Rattle.hyd_spec.specs.DemandsReservoirHeadsAndCurves.{category_multipl
 ghost use Rattle.hyd_demand.specs.DemandsAndHeadsByNumber.{junction_demand, IsInRange, IsOutOfRange};
 
 use crate::multipliers::{multiplier_at, times};
+use hyd_net::ranges::GREATEST_FLOW;
 use hyd_net::{Demand, Project};
 use thiserror::Error;
 
@@ -20,7 +21,8 @@ pub struct DemandRange {
     pub value: i128,
 }
 
-const GREATEST_DEMAND: u128 = 1_000_000_000_000_000;
+// The greatest demand of a period, either way, in flow ticks: the greatest flow of a file.
+const GREATEST_DEMAND: u128 = GREATEST_FLOW as u128;
 
 // The multiplier of a category in billionths: that of its own pattern, else of the default one, else 1.
 fn category_multiplier(project: &Project, category: &Demand, time: u32) -> i64

@@ -1,30 +1,31 @@
 //! What flows at given heads.
 #![tactic(auto)]
 
-ghost use Rattle.std.specs.Prelude.{◌≡◌, ◌<◌, ◌≤◌, ◌*◌, ◌^◌, length, unsigned_abs};
+ghost use Rattle.std.specs.Prelude.{◌≡◌, ◌<◌, ◌≤◌, ◌*◌, length, unsigned_abs};
+ghost use Rattle.hyd_spec_certificates.specs.Certificate.{box_limit};
 
 use crate::number_lists::{add_at, number_at};
 use hyd_law::{Law, OutLaw};
 use hyd_period_network::{Ends, Net, Tie};
-use hyd_spec_certificates::Side;
+use hyd_spec_certificates::{BOX_LIMIT, Side};
 use hyd_vector_check::{is_in_box, outflow};
 
-/// The greatest head difference at which a law is asked, in head ticks.
-const WIDEST: i64 = 2_000_000_000_000_000_000;
+/// The greatest head difference at which a law is asked: that of the ends of the box, in head ticks.
+const WIDEST: i64 = 2 * BOX_LIMIT;
 
 /// The greatest flow that is reckoned with, in flow ticks.
-const GREATEST_FLOW: i128 = 1_000_000_000_000_000_000;
+const GREATEST_RECKONED_FLOW: i128 = 1_000_000_000_000_000_000;
 
 // The nearest head difference at which a law is asked.
 fn within_reach(difference: i64) -> i64
-    ensures { unsigned_abs result ≤ 2 * 10 ^ 18 }
+    ensures { unsigned_abs result ≤ 2 * box_limit }
 {
     difference.clamp(-WIDEST, WIDEST)
 }
 
 // A flow in 64 bits.
 fn narrowed(flow: i128) -> i64 {
-    flow.clamp(-GREATEST_FLOW, GREATEST_FLOW) as i64
+    flow.clamp(-GREATEST_RECKONED_FLOW, GREATEST_RECKONED_FLOW) as i64
 }
 
 /// At most the flow of a link at a head difference.

@@ -16,8 +16,8 @@ use hyd_net::{Cause, OutOfMemory};
 use hyd_text_rows::gather;
 use std::alloc::Global;
 
-/// The most bytes of a text.
-pub(crate) const LONGEST: usize = 67_108_864;
+/// The most bytes of a text: 64 MiB.
+pub const LONGEST_TEXT: usize = 67_108_864;
 
 /// The fault of a text of at most 64 MiB: its first row that is wrong by itself, the fault that ends its rows, its
 /// first row that is wrong with the others, what it lacks.
@@ -66,7 +66,7 @@ pub fn find_fault(alloc: Global, text: &[u8]) -> Result<Option<InpFault>, OutOfM
     ensures fault { IfOk result (λ fault. IfSome fault (λ f. IsFault text.now f.line f.cause)) }
     ensures none { IfOk result (λ fault. IfNone fault (HasNoFault text.now)) }
 {
-    if text.len() > LONGEST {
+    if text.len() > LONGEST_TEXT {
         return Ok(Some(InpFault {
             line: 0,
             cause: Cause::Limit(1),

@@ -13,5 +13,5 @@ mod rows_to_build_from;
 mod tables;
 
 pub use fault::{InpFault, InpRefused};
-pub use first_fault::find_fault;
+pub use first_fault::{LONGEST_TEXT, find_fault};
 pub use project::read_project;

@@ -10,7 +10,7 @@ ghost use Rattle.hyd_inp.specs.FaultOrNoMemory.{IfFault};
 
 use crate::build::build;
 use crate::fault::{InpFault, InpRefused};
-use crate::first_fault::{LONGEST, fault_of};
+use crate::first_fault::{LONGEST_TEXT, fault_of};
 use hyd_lex::Lines;
 use hyd_net::{Cause, Project};
 use hyd_text_rows::gather;
@@ -25,7 +25,7 @@ pub fn read_project(alloc: Global, text: &[u8]) -> Result<Project, InpRefused>
     ensures project { IfOk result (IsProject (rows_in (items_of text.now))) }
     ensures sound { IfOk result Sound }
 {
-    if text.len() > LONGEST {
+    if text.len() > LONGEST_TEXT {
         return Err(InpRefused::Fault(InpFault {
             line: 0,
             cause: Cause::Limit(1),

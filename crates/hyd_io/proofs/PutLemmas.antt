@@ -77,11 +77,11 @@ module _ {S : Type 0} {files : S → Option Files} {rest written printed target 
       (subst (λ (c : Channel). Moves (by_channel c (written e) (printed e)) (by_channel c (written f) (printed f))
       (q.held ++ b) r.held) first.to_stays second))
 
-  cut_on : (a b : List ℕ) (p q : PenState) (d e f : S) → Puts files rest written printed target ready counts openings
-      a (Ok (tt {0})) p q d e
+  cut_off_on : (a b : List ℕ) (p q : PenState) (d e f : S) → Puts files rest written printed target ready counts
+      openings a (Ok (tt {0})) p q d e
       → PutOut (by_channel q.to (written e) (printed e)) (by_channel q.to (written f) (printed f)) (q.held ++ b)
       → PutOut (by_channel p.to (written d) (printed d)) (by_channel p.to (written f) (printed f)) (p.held ++ (a ++ b))
-  cut_on a b p q d e f first second =
+  cut_off_on a b p q d e f first second =
       subst (PutOut (by_channel p.to (written d) (printed d)) (by_channel p.to (written f) (printed f)))
       (append_assoc p.held a b)
       (put_out_then (by_channel p.to (written d) (printed d)) (by_channel p.to (written e) (printed e))
@@ -122,7 +122,7 @@ module _ {S : Type 0} {files : S → Option Files} {rest written printed target 
   }
   puts_then a b (Err why) p q r d e f first second = record {
     moves = tt;
-    front = cut_on a b p q d e f first second.front;
+    front = cut_off_on a b p q d e f first second.front;
     to_stays = second.to_stays ∙ first.to_stays;
     no_fault = tt;
     keeps_fault = second.keeps_fault;
@@ -148,10 +148,10 @@ module _ {S : Type 0} {files : S → Option Files} {rest written printed target 
   }
 
   -- after a fault what would have come next isn't put in either
-  pub puts_cut : (a b : List ℕ) (why : OutFault) (p q : PenState) (d e : S)
+  pub puts_cut_off : (a b : List ℕ) (why : OutFault) (p q : PenState) (d e : S)
       → Puts files rest written printed target ready counts openings a (Err why) p q d e
       → Puts files rest written printed target ready counts openings (a ++ b) (Err why) p q d e
-  puts_cut a b why p q d e first = record {
+  puts_cut_off a b why p q d e first = record {
     moves = tt;
     front = subst (PutOut (by_channel p.to (written d) (printed d)) (by_channel p.to (written e) (printed e)))
         (append_assoc p.held a b)

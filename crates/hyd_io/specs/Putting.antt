@@ -1,8 +1,8 @@
 -- What a call says that puts a text in at a pen: what went out, what the pen answers from then on, and what of the
 -- desk stays as
 -- it was.
-use Rattle.std.specs.Prelude.{◌≡◌, ◌≢◌, ℕ, Bool, List, [], ◌++◌, Option, Some, None, IfSome, IsSome, is_some, Result, Err}
-use Rattle.std.specs.Prelude.{IfErr, OnOk, OnErr}
+use Rattle.std.specs.Prelude.{◌≡◌, ◌≢◌, ℕ, Bool, List, [], ◌++◌, Option, Some, None, IfSome, IsSome, is_some}
+use Rattle.std.specs.Prelude.{Result, Err, IfErr, OnOk, OnErr}
 use Rattle.hyd_io.specs.declared.desk.Faults.{Faults}
 use Rattle.hyd_io.specs.declared.desk.Openings.{Openings}
 use Rattle.hyd_io.specs.declared.output.OutFault.{OutFault}
@@ -43,8 +43,9 @@ pub record Puts {S : Type 0} (files : S → Option Files) (rest written printed 
   pub ready_stays : ready new ≡ ready old
   pub openings_stay : openings new ≡ openings old
 
--- All that a pen held is put out. After a fault what went out is a front of it, and the pen answers that fault from then
--- on. A pen that has a fault does nothing but answer it. Of the desk nothing else changes but the count of the fault.
+-- All that a pen held is put out. After a fault what went out is a front of it, and the pen answers that fault from
+-- then on. A pen that has a fault does nothing but answer it. Of the desk nothing else changes but the count of the
+-- fault.
 pub record Empties {S : Type 0} (files : S → Option Files) (rest written printed target : S → Option (List ℕ))
     (ready : S → Bool) (counts : S → Faults) (openings : S → Openings) (result : Result (Unit {0}) OutFault)
     (pen after : PenState) (old new : S) : Type 0 where

@@ -1,7 +1,7 @@
 //! Simple controls among all rows.
 #![tactic(auto)]
 
-ghost use Rattle.std.specs.Prelude.{◌≡◌, ◌<◌, ◌+◌, ◌^◌, ◌==◌, ℕ, List, Some, true, length, slice_get};
+ghost use Rattle.std.specs.Prelude.{◌≡◌, ◌<◌, ◌+◌, ◌^◌, ℕ, List, Some, true, length, slice_get};
 ghost use Rattle.std.specs.List.{All};
 ghost use Rattle.hyd_spec_lines.specs.Lines.{LiesIn, Row, row_of};
 ghost use Rattle.hyd_spec_lines.specs.declared.section.Section.TheVariants.{Controls as InControls};
@@ -12,7 +12,7 @@ ghost use Rattle.hyd_spec_input.specs.CapacitiesOutOfRange.{IsRefusedSetting};
 ghost use Rattle.hyd_spec_input.specs.Columns.{word};
 ghost use Rattle.hyd_spec_input.specs.Faults.{NoneIs};
 ghost use Rattle.hyd_spec_input.specs.InForce as force;
-ghost use Rattle.hyd_spec_input.specs.Tables.{place as section_place, is_of, link_rows, node_rows};
+ghost use Rattle.hyd_spec_input.specs.Tables.{is_of, link_rows, node_rows};
 ghost use Rattle.hyd_spec_input.specs.RowsTogether as others;
 ghost use Rattle.hyd_asked_link_states.specs.AskedLinks.{IsRightLink};
 ghost use Rattle.hyd_text_rows.specs.FirstWrongRow.{HasFound, rows_at};
@@ -29,7 +29,7 @@ use hyd_net::Cause;
 use hyd_num::FlowUnit;
 use hyd_option_and_rule_lines::{ControlLine, WhenLine, read_control};
 use hyd_row_words::or_empty;
-use hyd_text_rows::{Found, Table, head_fault, kept, limit};
+use hyd_text_rows::{Found, Table, head_fault, is_controls, kept, limit};
 
 const MOST_CONTROLS: usize = 10_000;
 
@@ -38,15 +38,6 @@ const MOST_CONTROLS: usize = 10_000;
 pub struct Controls {
     pub count: usize,
     pub found: Option<Found>,
-}
-
-fn is_controls(section: Section) -> bool
-    ensures { result ≡ (section_place section == 11) }
-{
-    match section {
-        Section::Controls => true,
-        _ => false,
-    }
 }
 
 // The node at whose level a control acts: UnknownName where no node has its ID, or one that its word doesn't allow.

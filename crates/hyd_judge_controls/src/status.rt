@@ -1,35 +1,26 @@
 //! Rows of [STATUS] among all rows.
 #![tactic(auto)]
 
-ghost use Rattle.std.specs.Prelude.{◌≡◌, ◌<◌, ◌==◌, length};
+ghost use Rattle.std.specs.Prelude.{◌≡◌, ◌<◌, length};
 ghost use Rattle.std.specs.List.{All};
 ghost use Rattle.hyd_spec_lines.specs.Lines.{LiesIn};
 ghost use Rattle.hyd_spec_lines.specs.declared.section.Section.TheVariants.{Status};
 ghost use Rattle.hyd_spec_input.specs.SingleRows.{IsWrongByItself};
 ghost use Rattle.hyd_spec_input.specs.Faults.{NoneIs};
 ghost use Rattle.hyd_spec_input.specs.InForce as force;
-ghost use Rattle.hyd_spec_input.specs.Tables.{place as section_place, link_rows};
+ghost use Rattle.hyd_spec_input.specs.Tables.{link_rows};
 ghost use Rattle.hyd_text_rows.specs.FirstWrongRow.{HasFound, IsVerdict, rows_at};
 ghost use Rattle.hyd_text_rows.specs.WrongInSection.{IsWrongIn};
 ghost use Rattle.hyd_text_rows.specs.IdTables.{IsTable};
 
 use crate::asked_states::asked_fault;
 use crate::names::named_link;
-use hyd_lex::{Line, Lines, Section};
+use hyd_lex::{Line, Lines};
 use hyd_net::Cause;
 use hyd_network_rows::read_status;
 use hyd_num::FlowUnit;
 use hyd_spec_input::LinkWord;
-use hyd_text_rows::{Found, Table, kept};
-
-fn is_status(section: Section) -> bool
-    ensures { result ≡ (section_place section == 10) }
-{
-    match section {
-        Section::Status => true,
-        _ => false,
-    }
-}
+use hyd_text_rows::{Found, Table, is_status, kept};
 
 // What is wrong with the row of a place, where it is one of [STATUS].
 fn status_fault(

@@ -24,6 +24,7 @@ use Rattle.hyd_judge_links.specs.LinkFaults.{link_alone, fault_among, IsRefusedL
 use Rattle.hyd_judge_links.specs.declared.links.Links.{Links}
 use Rattle.hyd_theorems_on_input.proofs.Faultless.{none_from}
 use Rattle.hyd_theorems_on_input.proofs.Places.{own_section}
+use Rattle.hyd_asked_link_states.specs.AskedLinks.{is_link_section}
 
 -- ---- a link that is right by itself
 
@@ -41,12 +42,6 @@ link_is_right rows k row right is =
     (none_from (itself.row_fault rows k row) (λ cause f. right k cause (record { row = row; row_is = is; fault = f })))
 
 -- ---- a link among all rows
-
-abbrev is_link_section : Section → Bool
-is_link_section Pipes = true
-is_link_section Pumps = true
-is_link_section Valves = true
-is_link_section _ = false
 
 links_are : (section : Section) → ((place section == 3) || ((place section == 4) || (place section == 5)))
     ≡ is_link_section section

@@ -26,12 +26,11 @@ use Rattle.hyd_spec_input.specs.RowsTogether as others
 use Rattle.hyd_net.specs.declared.refusal_cause.Cause.{Cause}
 use Rattle.hyd_theorems_on_input.proofs.Faultless.{none_from}
 use Rattle.hyd_theorems_on_input.proofs.InForce.{in_force, word_is_keyword}
-use Rattle.hyd_text_rows.specs.FirstWrongRow.{HasFound, kept}
+use Rattle.hyd_text_rows.specs.FirstWrongRow.{HasFound, kept, row_in}
 use Rattle.hyd_text_rows.specs.WrongInSection.{IsWrongIn}
 use Rattle.hyd_text_rows.specs.declared.first_wrong.Found.{Found}
 use Rattle.hyd_text_rows.proofs.FoundLemmas.{found_skip, found_kept}
 use Rattle.hyd_text_rows.proofs.SectionLemmas.{verdict_without_capacity, other_section}
-use Rattle.hyd_judge_nodes_curves_and_options.specs.RowOfOptionalLine.{row_in}
 use Rattle.hyd_judge_nodes_curves_and_options.specs.Options.{ArePressures, HasAmount, IsBound, bound_words}
 use Rattle.hyd_judge_nodes_curves_and_options.specs.Options.{option_fault}
 use Rattle.hyd_judge_nodes_curves_and_options.specs.declared.options.Pressures.{Pressures}

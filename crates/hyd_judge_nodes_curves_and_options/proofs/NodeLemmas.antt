@@ -29,7 +29,7 @@ use Rattle.hyd_text_rows.proofs.SectionLemmas.{verdict_without_capacity}
 use Rattle.hyd_judge_nodes_curves_and_options.specs.Extremes.{Bounds, AreExtremes}
 use Rattle.hyd_judge_nodes_curves_and_options.specs.NodeFaults.{junction_fault, is_head_times, times_fault, heads_fault}
 use Rattle.hyd_judge_nodes_curves_and_options.specs.NodeFaults.{reservoir_fault, tank_fault}
-use Rattle.hyd_curves.specs.CurveFaults.{tank_curve_fault}
+use Rattle.hyd_curves.proofs.TankRowLemmas.{volume_curve_is}
 use Rattle.hyd_judge_nodes_curves_and_options.specs.JudgedNodes.{IsWrongNode, counted, node_alone, fault_among}
 use Rattle.hyd_judge_nodes_curves_and_options.specs.JudgedNodes.{AreCounts, AreNodes}
 use Rattle.hyd_judge_nodes_curves_and_options.specs.declared.nodes.Counts.{Counts}
@@ -104,12 +104,6 @@ reservoir_is rows k row =
     (in_turn (head_fault (force.unit rows) (amount 1 row.words)) (others.each_multiplier
     (others.is_head_times rows (amount 1 row.words)) rows (slice_get row.words 2)) None)
 
-curve_is : (rows : List Row) (row : Row) (curve : Option (List ℕ))
-    → tank_curve_fault rows (force.unit rows) (amount 3 row.words) (amount 4 row.words) curve
-    ≡ others.volume_curve rows row curve
-curve_is rows row None = refl
-curve_is rows row (Some name) = refl
-
 levels_are : (a b c d e : Option Cause) → d ≡ e
     → or_else (or_else a (or_else b (or_else c d))) None ≡ or_else a (or_else b (or_else c (or_else e None)))
 levels_are None None None d e s = rw s refl
@@ -124,7 +118,7 @@ tank_is rows k row =
     ap (before (node_rows (take k rows)) 32 6 (rows_of Tanks (take (k + 1) rows)) row
     (others.known_curve rows (tank_curve row.words)))
     (levels_are (others.head rows (amount 1 row.words)) (others.levels_apart rows row) _ _ _
-    (curve_is rows row (tank_curve row.words)))
+    (volume_curve_is rows row (tank_curve row.words)))
 
 fault_is : (section : Section) (rows : List Row) (k : ℕ) (row : Row) (unit : FlowUnit) (counts : Counts) (new : Bool)
     → is_node_section section ≡ true → unit ≡ force.unit rows → AreCounts rows (k + 1) counts

@@ -1,6 +1,5 @@
 pub mod Patterns
 pub mod Curves
-pub mod RowOfOptionalLine
 pub mod NodeFaults
 pub mod Demands
 pub mod Options

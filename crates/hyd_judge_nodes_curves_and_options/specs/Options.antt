@@ -9,6 +9,7 @@ use Rattle.hyd_spec_lines.specs.declared.line.Line.{Line}
 use Rattle.hyd_row_words.specs.FaultOrValue.{words_at}
 use Rattle.hyd_spec_input.specs.Columns.{or_else, unless, needed, number, amount, word_is_of}
 use Rattle.hyd_spec_input.specs.InForce as force
+use Rattle.hyd_net.specs.NumberRanges.{head_limit}
 use Rattle.hyd_net.specs.declared.refusal_cause.Cause.{Cause}
 use Rattle.hyd_net.specs.declared.refusal_cause.Cause.TheVariants.{Range}
 use Rattle.hyd_judge_nodes_curves_and_options.specs.declared.options.Pressures.{Pressures}
@@ -40,7 +41,7 @@ IsBound words = word_is_of 0 bound_words words ≡ true → needed number 2 word
 
 abbrev pub pressure_fault : FlowUnit → ℤ → Option Cause
 pressure_fault unit nano =
-    unless (le_z (pressure_numerator (is_us_unit unit) nano) (pos (10 ^ 17 * pressure_denominator
+    unless (le_z (pressure_numerator (is_us_unit unit) nano) (pos (head_limit * pressure_denominator
     (is_us_unit unit)))) Range
 
 -- what is asked of the two pressures at a line

@@ -1,21 +1,21 @@
 //! Curves among all rows.
 #![tactic(auto)]
 
-ghost use Rattle.std.specs.Prelude.{◌≡◌, ◌<◌, ◌+◌, ◌^◌, ◌==◌, [], ◌∷◌, length, IfOk, OnOk};
+ghost use Rattle.std.specs.Prelude.{◌≡◌, ◌<◌, ◌+◌, ◌^◌, [], ◌∷◌, length, IfOk, OnOk};
 ghost use Rattle.std.specs.List.{All};
 ghost use Rattle.hyd_spec_lines.specs.Lines.{LiesIn};
 ghost use Rattle.hyd_spec_lines.specs.declared.section.Section.TheVariants.{Curves as InCurves};
 ghost use Rattle.hyd_spec_input.specs.Columns.{first};
-ghost use Rattle.hyd_spec_input.specs.Tables.{place as section_place, rows_of};
+ghost use Rattle.hyd_spec_input.specs.Tables.{rows_of};
 ghost use Rattle.hyd_spec_input.specs.RowsTogether as others;
 ghost use Rattle.hyd_text_rows.specs.FirstWrongRow.{HasFound, rows_at};
 ghost use Rattle.hyd_text_rows.specs.IdTables.{IsTable};
 ghost use Rattle.hyd_judge_nodes_curves_and_options.specs.Curves.{AreCurves};
 ghost use Rattle.hyd_text_rows.specs.WrongInSection.{IsWrongIn};
 
-use hyd_lex::{Line, Lines, Section};
+use hyd_lex::{Line, Lines};
 use hyd_net::{Cause, OutOfMemory};
-use hyd_text_rows::{Found, Table, kept, limit};
+use hyd_text_rows::{Found, Table, is_curves, kept, limit};
 use std::alloc::Global;
 
 const MOST_CURVES: usize = 1_000;
@@ -29,15 +29,6 @@ pub struct Curves {
     count: usize,
     pub table: Table,
     pub found: Option<Found>,
-}
-
-fn is_curves(section: Section) -> bool
-    ensures { result ≡ (section_place section == 8) }
-{
-    match section {
-        Section::Curves => true,
-        _ => false,
-    }
 }
 
 // What is wrong with a row, by the curves and points up to it.

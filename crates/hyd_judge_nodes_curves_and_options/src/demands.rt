@@ -1,7 +1,7 @@
 //! Demands among all rows.
 #![tactic(auto)]
 
-ghost use Rattle.std.specs.Prelude.{◌≡◌, ◌<◌, ◌+◌, ◌^◌, ◌==◌, List, None, length};
+ghost use Rattle.std.specs.Prelude.{◌≡◌, ◌<◌, ◌+◌, ◌^◌, List, None, length};
 ghost use Rattle.std.specs.List.{All};
 ghost use Rattle.hyd_spec_lines.specs.Lines.{LiesIn, Row};
 ghost use Rattle.hyd_spec_lines.specs.declared.section.Section.TheVariants.{Demands as InDemands, Patterns};
@@ -10,17 +10,19 @@ ghost use Rattle.hyd_spec_input.specs.SingleRows.{IsWrongByItself};
 ghost use Rattle.hyd_spec_input.specs.DemandCurveAndStatusRows as row;
 ghost use Rattle.hyd_spec_input.specs.Faults.{NoneIs};
 ghost use Rattle.hyd_spec_input.specs.InForce as force;
-ghost use Rattle.hyd_spec_input.specs.Tables.{place as section_place, rows_of, node_rows};
+ghost use Rattle.hyd_spec_input.specs.Tables.{rows_of, node_rows};
 ghost use Rattle.hyd_text_rows.specs.FirstWrongRow.{HasFound, rows_at};
 ghost use Rattle.hyd_text_rows.specs.IdTables.{IsTable, IsEven};
 ghost use Rattle.hyd_judge_nodes_curves_and_options.specs.Demands.{AreDemands, demand_fault as fault_of_demand};
 ghost use Rattle.hyd_text_rows.specs.WrongInSection.{IsWrongIn};
 
-use hyd_lex::{Line, Lines, Section};
+use hyd_lex::{Line, Lines};
 use hyd_net::Cause;
 use hyd_network_rows::read_demand;
 use hyd_num::FlowUnit;
-use hyd_text_rows::{Found, Table, flow_fault, kept, limit, unknown_junction, unknown_pattern};
+use hyd_text_rows::{
+    Found, Table, flow_fault, is_demands, kept, limit, unknown_junction, unknown_pattern,
+};
 
 const MOST_DEMANDS: usize = 100_000;
 
@@ -30,15 +32,6 @@ pub struct Demands {
     // How many rows there are.
     count: usize,
     pub found: Option<Found>,
-}
-
-fn is_demands(section: Section) -> bool
-    ensures { result ≡ (section_place section == 6) }
-{
-    match section {
-        Section::Demands => true,
-        _ => false,
-    }
 }
 
 // What is wrong with a row.

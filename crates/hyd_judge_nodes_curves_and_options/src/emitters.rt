@@ -1,7 +1,7 @@
 //! Emitters among all rows.
 #![tactic(auto)]
 
-ghost use Rattle.std.specs.Prelude.{◌≡◌, ◌<◌, ◌^◌, ◌+◌, ◌*◌, ◌==◌, ◌≤ℤ◌, pos, List, None, length};
+ghost use Rattle.std.specs.Prelude.{◌≡◌, ◌<◌, ◌^◌, ◌+◌, ◌*◌, ◌≤ℤ◌, pos, List, None, length};
 ghost use Rattle.std.specs.List.{All};
 ghost use Rattle.hyd_spec_lines.specs.Lines.{LiesIn, Row};
 ghost use Rattle.hyd_spec_lines.specs.declared.section.Section.TheVariants.{Emitters};
@@ -12,27 +12,18 @@ ghost use Rattle.hyd_spec_input.specs.Columns.{word, amount};
 ghost use Rattle.hyd_spec_input.specs.DemandCurveAndStatusRows as row;
 ghost use Rattle.hyd_spec_input.specs.Faults.{NoneIs};
 ghost use Rattle.hyd_spec_input.specs.InForce as force;
-ghost use Rattle.hyd_spec_input.specs.Tables.{place as section_place, node_rows};
+ghost use Rattle.hyd_spec_input.specs.Tables.{node_rows};
 ghost use Rattle.hyd_spec_input.specs.RowsTogether.{known_junction};
 ghost use Rattle.hyd_text_rows.specs.FirstWrongRow.{HasFound, rows_at};
 ghost use Rattle.hyd_text_rows.specs.WrongInSection.{IsWrongIn, IsCapacityFault, IsFaultThen};
 ghost use Rattle.hyd_text_rows.specs.IdTables.{IsTable, IsEven};
 
 use hyd_capacities::emitter_capacity;
-use hyd_lex::{Line, Lines, Section};
+use hyd_lex::{Line, Lines};
 use hyd_net::Cause;
 use hyd_network_rows::read_emitter;
 use hyd_num::{Decimal, FlowUnit};
-use hyd_text_rows::{Found, Table, kept, unknown_junction};
-
-fn is_emitters(section: Section) -> bool
-    ensures { result ≡ (section_place section == 7) }
-{
-    match section {
-        Section::Emitters => true,
-        _ => false,
-    }
-}
+use hyd_text_rows::{Found, Table, is_emitters, kept, unknown_junction};
 
 // Limit 13 where a coefficient above 0 makes a capacity out of range.
 fn capacity_fault(coefficient: Decimal, unit: FlowUnit) -> Option<Cause>

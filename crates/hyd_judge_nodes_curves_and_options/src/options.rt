@@ -12,24 +12,21 @@ ghost use Rattle.hyd_spec_input.specs.Faults.{NoneIs};
 ghost use Rattle.hyd_spec_input.specs.InForce as force;
 ghost use Rattle.hyd_spec_input.specs.OptionRows as row;
 ghost use Rattle.hyd_spec_input.specs.RowsTogether as others;
-ghost use Rattle.hyd_text_rows.specs.FirstWrongRow.{HasFound, rows_at};
+ghost use Rattle.hyd_text_rows.specs.FirstWrongRow.{HasFound, rows_at, row_in};
 ghost use Rattle.hyd_text_rows.specs.WrongInSection.{IsWrongIn};
-ghost use Rattle.hyd_judge_nodes_curves_and_options.specs.RowOfOptionalLine.{row_in};
 ghost use Rattle.hyd_judge_nodes_curves_and_options.specs.Options as option;
 ghost use Rattle.hyd_judge_nodes_curves_and_options.specs.Options.{ArePressures, HasAmount, IsBound};
 
 use crate::options_in_force::{is_options, last_option};
 use hyd_lex::{Line, Lines};
 use hyd_net::Cause;
-use hyd_net::ranges::GREATEST_HEAD;
+use hyd_net::ranges::{GREATEST_HEAD, TENTH};
 use hyd_num::{
     Decimal, FlowUnit, HEAD_TICKS_IN_BILLIONTH_OF_METRE, NUMERATOR_OF_BILLIONTH_OF_POUND,
     TEN_THOUSANDTHS_OF_POUND_IN_FOOT,
 };
 use hyd_row_words::{number, word_is};
 use hyd_text_rows::{Found, kept};
-
-const TENTH: i128 = 100_000_000;
 
 /// The pressures between which demands depend on pressure, in force; and whether they do.
 #[derive(Debug, Clone, Copy, PartialEq, Eq, Drop)]

@@ -6,8 +6,7 @@ ghost use Rattle.std.specs.List.{All};
 ghost use Rattle.hyd_spec_lines.specs.Lines.{LiesIn, row_of};
 ghost use Rattle.hyd_spec_input.specs.InForce as force;
 ghost use Rattle.hyd_spec_input.specs.Tables.{place as section_place};
-ghost use Rattle.hyd_text_rows.specs.FirstWrongRow.{rows_at};
-ghost use Rattle.hyd_judge_nodes_curves_and_options.specs.RowOfOptionalLine.{row_in};
+ghost use Rattle.hyd_text_rows.specs.FirstWrongRow.{rows_at, row_in};
 
 use hyd_lex::{Line, Lines, Section};
 use hyd_num::FlowUnit;

@@ -4,7 +4,6 @@ use Rattle.std.proofs.Common.{get_or, Option, Some, None, refl, sym, ap, ◌∙�
 use Rattle.std.proofs.lemmas.Bool.{cases_Bool}
 use Rattle.std.proofs.lemmas.List.{map-append, drop-map, take_all, length-drop, length-map}
 use Rattle.std.proofs.lemmas.Option.{slice_get_within}
-use Rattle.std.proofs.lemmas.List.Sums.{fold-append}
 use Rattle.hyd_spec_lines.specs.Lines.{Row, row_of}
 use Rattle.hyd_spec_lines.specs.declared.line.Line.{Line}
 use Rattle.hyd_spec_lines.specs.declared.section.Section.{Section}
@@ -14,17 +13,13 @@ use Rattle.hyd_spec_input.specs.Faults.{NoneIs}
 use Rattle.hyd_spec_input.specs.RuleRows.{stage_by, begins_with, stage_after}
 use Rattle.hyd_spec_input.specs.Tables.{is_of, words_of, words_of_row, rows_of}
 use Rattle.hyd_spec_input.specs.declared.Stage.{Stage}
-use Rattle.hyd_spec_input.specs.declared.Stage.TheVariants.{Outside}
 use Rattle.hyd_net.specs.declared.refusal_cause.Cause.{Cause}
 use Rattle.hyd_text_rows.specs.FirstWrongRow.{HasFound, IsFirstAt, rows_at}
 use Rattle.hyd_text_rows.proofs.FoundLemmas.{filter_more, filter_same, none_more, none_of, first_here, row_at}
 use Rattle.hyd_judge_single_rows.specs.RuleLineStages.{stage_with, fault_at_stage, rule_lines}
+use Rattle.hyd_theorems_on_input.proofs.RuleLines.{stage_more}
 
 -- ---- the stage, one row further
-
-stage_more : (lines : List (List (List ℕ))) (words : List (List ℕ))
-    → stage_after (lines ++ words ∷ []) ≡ stage_by (stage_after lines) (begins_with words)
-stage_more lines words = fold-append (λ stage words. stage_by stage (begins_with words)) Outside lines (words ∷ [])
 
 pub next_stage : (rows : List Row) (k : ℕ) (row : Row) (stage next : Stage) → slice_get rows k ≡ Some row
     → stage ≡ stage_after (words_of Rules (take k rows)) → next ≡ stage_with stage row

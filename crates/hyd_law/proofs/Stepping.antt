@@ -9,7 +9,7 @@ use Rattle.hyd_num.specs.declared.decimals.Span.{Span}
 use Rattle.hyd_spec.specs.DemandsReservoirHeadsAndCurves.{pressure_value}
 use Rattle.hyd_lemmas.proofs.Integers.{floor_greatest, floor_at_most_ceiling}
 use Rattle.hyd_law.specs.ComposedLaws.{IsLift}
-use Rattle.hyd_law.specs.DemandLaws.{stepped}
+use Rattle.hyd_theorems_on_definitions.specs.PressureDrivenDemand.{stepped}
 
 not_up_to : (a p : ℤ) → a <ℤ p → int_le p a ≡ false
 not_up_to a p h = grind (arith, ints)

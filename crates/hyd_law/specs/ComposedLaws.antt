@@ -1,16 +1,18 @@
 -- Laws made of other laws, over their relations and their enclosing functions.
 -- Source: EPANET 2.2 User Manual, chapter 3 (check valves, pumps, flow control valves); the bounds between which a flow
 -- is held are this program's.
-use Rattle.std.specs.Prelude.{◌*◌, ◌^◌, ◌≤◌, ℤ, pos, ◌≤ℤ◌, ◌≡◌, ◌⊎◌, unsigned_abs, Bool, true, false}
+use Rattle.std.specs.Prelude.{◌*◌, ◌≤◌, ℤ, pos, ◌≤ℤ◌, ◌≡◌, ◌⊎◌, unsigned_abs, Bool, true, false}
 use Rattle.std.specs.Int.{int_max, int_min}
 use Rattle.hyd_num.specs.Rational.{Rational, floor, ceiling}
 use Rattle.hyd_num.specs.declared.decimals.Span.{Span}
 use Rattle.hyd_spec.specs.Scale.{at_scale}
 use Rattle.hyd_spec.specs.Law.{Relation}
+use Rattle.hyd_spec_certificates.specs.Certificate.{box_limit}
 
--- a head difference that a law is asked for: at most 3 * 10^18 head ticks either way
+-- a head difference that a law is asked for: at most 3 times the limit of the box either way, so a
+-- difference of two heads of the box and a pump's lift
 abbrev pub IsDifference : ℤ → Type 0
-IsDifference d = unsigned_abs d ≤ 3 * 10 ^ 18
+IsDifference d = unsigned_abs d ≤ 3 * box_limit
 
 -- the ends of a span are the floor and the ceiling of a lift
 pub record IsLift (lift : Rational) (span : Span) : Type 0 where

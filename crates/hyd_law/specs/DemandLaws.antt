@@ -1,7 +1,6 @@
 -- The law of a junction's demand.
 -- Source: EPANET 2.2 User Manual, chapter 3 (demands, pressure-driven demand).
-use Rattle.std.specs.Prelude.{ℤ, pos, ◌-ℤ◌, ◌*ℤ◌, ◌≤ℤ◌, ◌≡◌, ⊤, int_le, if◌then◌else◌}
-use Rattle.std.specs.Int.{int_min}
+use Rattle.std.specs.Prelude.{ℤ, pos, ◌*ℤ◌, ◌≤ℤ◌, ◌≡◌, ⊤}
 use Rattle.std.proofs.Common.{subst, sym}
 use Rattle.hyd_num.specs.Rational.{negated, floor, ceiling}
 use Rattle.hyd_spec.specs.ProgramTypes.{PressureDemand}
@@ -9,7 +8,7 @@ use Rattle.hyd_spec.specs.DemandsReservoirHeadsAndCurves.{pressure_value}
 use Rattle.hyd_spec.specs.Law.{Relation, QuadraticLaw, lifted, flow_at_least, flow_at_most}
 use Rattle.hyd_spec_certificates.specs.EnclosingFunctions.{quadratic_low, quadratic_high}
 use Rattle.hyd_theorems_on_definitions.specs.TermsOfTheorems.{IsLaw, IsSoundCapacity}
-use Rattle.hyd_theorems_on_definitions.specs.PressureDrivenDemand.{steps_at_least, steps_at_most}
+use Rattle.hyd_theorems_on_definitions.specs.PressureDrivenDemand.{steps_at_least, steps_at_most, stepped}
 use Rattle.hyd_theorems_on_definitions.proofs.DemandLaws.{IsLaw-fixed, IsLaw-driven}
 use Rattle.hyd_law.specs.ComposedLaws.{IsDifference, IsLift}
 use Rattle.hyd_law.specs.declared.demand_kinds.Pda.{Pda}
@@ -27,11 +26,6 @@ pda_at_least l = steps_at_least (pressure_value l.us l.minimum) (pressure_value 
 abbrev pub pda_at_most : Pda → Relation
 pda_at_most l = steps_at_most (pressure_value l.us l.minimum) (pressure_value l.us l.required) l.demand
     (lifted (negated (pressure_value l.us l.minimum)) (flow_at_most (QuadraticLaw l.cap)))
-
--- nothing up to one pressure, the demand from another on, at most it by the quadratic law between
-abbrev pub stepped : ℤ → ℤ → ℤ → (ℤ → ℤ) → ℤ → ℤ
-stepped demand none all between p =
-    if int_le p none then pos 0 else if int_le all p then demand else int_min demand (between (p -ℤ none))
 
 -- at most the exact flow, in flow ticks, at a pressure of whole head ticks
 abbrev pub pda_low : Pda → ℤ → ℤ

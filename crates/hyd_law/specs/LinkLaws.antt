@@ -102,7 +102,7 @@ IsSoundLink (LimitOneWay l) = IsSoundCapacity l.inner.inner.cap
 IsSoundLink (LinearLimitOneWay l) = ⊤
 IsSoundLink (Bent l) = (l.least ≤ℤ l.most) × IsCurve l.inner.knots.list
 
--- at most 3 * 10^18 head ticks, for a pump also with its lift
+-- such a difference, for a pump also with its lift
 abbrev pub LinkAccepts : LinkLaw → ℤ → Type 0
 LinkAccepts (Shut l) d = ⊤
 LinkAccepts (Quad l) d = IsDifference d

@@ -9,8 +9,8 @@ mod law;
 mod law_kinds;
 mod link_law;
 mod link_law_by_kind;
-mod plain_laws;
 mod quadratic;
+mod single_laws;
 mod straight_line_law;
 mod straight_lines;
 

@@ -1,14 +1,15 @@
 //! What a quadratic law passes.
 #![tactic(auto)]
 
-ghost use Rattle.std.specs.Prelude.{◌≡◌, ◌*◌, ◌^◌, ◌≤◌, unsigned_abs};
+ghost use Rattle.std.specs.Prelude.{◌≡◌, ◌^◌, ◌≤◌, unsigned_abs};
 ghost use Rattle.hyd_spec_certificates.specs.EnclosingFunctions.{quadratic_low, quadratic_high};
+ghost use Rattle.hyd_law.specs.ComposedLaws.{IsDifference};
 
 use hyd_num::{Capacity, sqrt_down, sqrt_up};
 
 /// At most the flow, in flow ticks, that the head difference `d`, in head ticks, drives.
 pub(crate) fn quadratic_low(capacity: &Capacity, d: i64) -> i128
-    requires { unsigned_abs d ≤ 3 * 10 ^ 18 }
+    requires { IsDifference d }
     ensures value { result ≡ quadratic_low capacity.now d }
     ensures small { unsigned_abs result ≤ 2 ^ 64 }
 {
@@ -21,7 +22,7 @@ pub(crate) fn quadratic_low(capacity: &Capacity, d: i64) -> i128
 
 /// At least that flow.
 pub(crate) fn quadratic_high(capacity: &Capacity, d: i64) -> i128
-    requires { unsigned_abs d ≤ 3 * 10 ^ 18 }
+    requires { IsDifference d }
     ensures value { result ≡ quadratic_high capacity.now d }
     ensures small { unsigned_abs result ≤ 2 ^ 64 }
 {

@@ -1,7 +1,7 @@
 //! The value of straight lines at a head difference.
 #![tactic(auto)]
 
-ghost use Rattle.std.specs.Prelude.{◌≡◌, ◌<◌, ◌≤◌, ◌*◌, ◌^◌, ◌-ℤ◌, ◌*ℤ◌, ◌<ℤ◌, ◌≤ℤ◌, length, unsigned_abs};
+ghost use Rattle.std.specs.Prelude.{◌≡◌, ◌<◌, ◌≤◌, ◌*◌, ◌^◌, ◌-ℤ◌, ◌<ℤ◌, ◌≤ℤ◌, length, unsigned_abs};
 ghost use Rattle.std.specs.List.{All};
 ghost use Rattle.std.specs.Bool.{OnTrue, OnFalse};
 ghost use Rattle.hyd_net.specs.Curves.{on_line, between, value_at};
@@ -9,6 +9,7 @@ ghost use Rattle.hyd_law.specs.ComposedLaws.{IsDifference};
 ghost use Rattle.hyd_law.specs.Curves.{place_of, places, IsKnot, IsValue};
 
 use crate::law_kinds::Knot;
+use hyd_num::whole_product;
 
 /// A value that need not be whole.
 #[derive(Clone, Copy, Drop)]
@@ -30,16 +31,6 @@ fn lies_before(d: i64, knot: Knot) -> bool
     d < knot.head
 }
 
-// A product of two numbers of at most 4 * 10^18 either way.
-fn product(a: i128, b: i128) -> i128
-    requires a { unsigned_abs a ≤ 4 * 10 ^ 18 }
-    requires b { unsigned_abs b ≤ 4 * 10 ^ 18 }
-    ensures value { result ≡ a *ℤ b }
-    ensures small { unsigned_abs result ≤ 16 * 10 ^ 36 }
-{
-    a * b
-}
-
 // The value on the line of two knots that are apart.
 fn on_line(first: Knot, second: Knot, d: i64) -> Quotient
     requires first { IsKnot first }
@@ -53,7 +44,7 @@ fn on_line(first: Knot, second: Knot, d: i64) -> Quotient
     let rise = difference(second.flow, first.flow);
     let beyond = difference(d, first.head);
     Quotient {
-        numerator: product(width, i128::from(first.flow)) + product(rise, beyond),
+        numerator: whole_product(width, i128::from(first.flow)) + whole_product(rise, beyond),
         denominator: width,
     }
 }

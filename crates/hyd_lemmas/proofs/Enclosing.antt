@@ -1,7 +1,6 @@
 -- What each operation on pairs encloses.
 use Rattle.std.proofs.Common.{◌≡◌, ℕ, ◌+◌, ◌*◌, ◌^◌, ◌<◌, sym, ap, subst, ◌∙◌, arith, mul-pos, pow-suc, true, false}
 use Rattle.std.proofs.Common.{true≢false}
-use Rattle.std.proofs.Math.Nat.{pow-zero}
 use Rattle.std.proofs.lemmas.Nat.{pow-add}
 use borrow.Author.Differences.{up}
 use Rattle.hyd_num.specs.declared.binary.Scaled.{Scaled}
@@ -12,6 +11,7 @@ use Rattle.hyd_num.specs.Pairs.{Encloses, IsRatio, IsProduct, IsQuotient, IsSum,
 use Rattle.hyd_num.specs.Pairs.{IsRoot533}
 use Rattle.hyd_num.proofs.Ends.{denominator_positive, numerator_positive}
 use Rattle.hyd_num.proofs.RoundingLemmas.{IsDown-from_cut}
+use Rattle.hyd_num.proofs.Powers.{pow_one}
 use Rattle.hyd_lemmas.proofs.Fractions.{AtMost-itself, AtMost-along, times-rises, over-rises, plus-rises}
 
 -- a rounded lower end of something at most x, and a rounded upper end of something at least x
@@ -80,9 +80,6 @@ sum-high x y r a b made p q =
 pub square_is : (a n k : ℕ) → k ≡ 2 * n → a ^ n * a ^ n ≡ a ^ k
 square_is a n k e = sym (pow-add a n n) ∙ ap (λ i. a ^ i) (omega arith)
 
-pub pow_once : (a : ℕ) → a ^ 1 ≡ a
-pow_once a = omega (arith, pow-suc a 0, ap (λ x. x * a) (pow-zero a))
-
 pub square_more_is : (a n k : ℕ) → k ≡ 2 * n + 1 → (a ^ n * a ^ n) * a ≡ a ^ k
 square_more_is a n k e =
     ap (λ i. i * a) (sym (pow-add a n n)) ∙ sym (pow-suc a (n + n)) ∙ ap (λ i. a ^ i) (omega arith)
@@ -92,8 +89,8 @@ turned r p q s t e f h = subst (λ (x : ℕ). Encloses r (fraction s x)) f (subs
     e h)
 
 pub power-encloses : (x r : Pair) (n : ℕ) (a : Fraction) → Encloses x a → IsPower x n r → Encloses r (power a n)
-power-encloses x r n a ex once = turned x a.num a.den (a.num ^ 1) (a.den ^ 1) (sym (pow_once a.num))
-    (sym (pow_once a.den)) ex
+power-encloses x r n a ex once = turned x a.num a.den (a.num ^ 1) (a.den ^ 1) (sym (pow_one a.num))
+    (sym (pow_one a.den)) ex
 power-encloses x r k a ex (even n k' s r' e made square) =
     let half : Encloses s (power a n) = power-encloses x s n a ex made in
     turned r _ _ (a.num ^ k) (a.den ^ k) (square_is a.num n k e) (square_is a.den n k e)

@@ -4,10 +4,10 @@ use Rattle.hyd_num.specs.declared.binary.Scaled.{Scaled}
 use Rattle.hyd_num.specs.declared.pairs.Pair.{Pair}
 use Rattle.hyd_num.specs.declared.decimals.Decimal.{Decimal}
 use Rattle.hyd_num.specs.Fraction.{Fraction, fraction, times, plus, minus, over, power, AtMost}
-use Rattle.hyd_num.specs.FileQuantity.{billionths, ordinary, feet, feet_across}
+use Rattle.hyd_num.specs.FileQuantity.{ten_thousandths_of_metre_in_foot, billionths, ordinary, feet, feet_across}
 use Rattle.hyd_num.specs.BinaryNumbers.{numerator, denominator, as_fraction}
 use Rattle.hyd_num.specs.Pairs.{Encloses}
-use Rattle.hyd_num.specs.CapacityPairs.{IsMinorPair, IsFrictionPair, IsUnitOver, IsValvePair, IsPlainPipePair}
+use Rattle.hyd_num.specs.CapacityPairs.{IsMinorPair, IsFrictionPair, IsUnitOver, IsValvePair, IsPipePairWithoutMinor}
 use Rattle.hyd_num.specs.CapacityPairs.{IsFittedPipePair, IsPipePair, IsPipePairWith}
 use Rattle.hyd_spec.specs.Loss.{head_in_feet, flow_in_cfs, friction, minor_loss, PipeLossAtMost, PipeLossAtLeast}
 use Rattle.hyd_spec.specs.Loss.{ValveLossAtMost, ValveLossAtLeast}
@@ -20,7 +20,7 @@ use Rattle.hyd_lemmas.proofs.Losses.{first_at_least, power_at_most, power_at_lea
 
 -- the capacity of a link that loses one foot at one cubic foot a second
 abbrev unit : Fraction
-unit = fraction (86400 ^ 2 * 3048 ^ 5 * 10) (10 ^ 20)
+unit = fraction (86400 ^ 2 * ten_thousandths_of_metre_in_foot ^ 5 * 10) (10 ^ 20)
 
 pub minor-encloses : (diameter k : Decimal) (us : Bool) (r : Pair) → IsMinorPair diameter k us r
     → Encloses r (minor_loss us diameter k)
@@ -47,15 +47,15 @@ feet_at_most : (lost : Fraction) (end : Scaled) (S q y : ℕ) → AtMost (as_fra
     → (q * q) * denominator end ≤ numerator end * (S * y) → AtMost (times lost (power (flow_in_cfs S q) 2))
     (head_in_feet S y)
 feet_at_most lost end S q y below flow =
-    at_most_lost unit lost (as_fraction end) 24465755455488 1000 (3048 * 10 ^ 9) S q y (lit< tt)
-    (denominator_positive end) refl below flow
+    at_most_lost unit lost (as_fraction end) 24465755455488 1000 (ten_thousandths_of_metre_in_foot * 10 ^ 9) S q y
+    (lit< tt) (denominator_positive end) refl below flow
 
 feet_at_least : (lost : Fraction) (end : Scaled) (S q y : ℕ) → AtMost (over unit lost) (as_fraction end)
     → numerator end * (S * y) ≤ (q * q) * denominator end → AtMost (head_in_feet S y)
     (times lost (power (flow_in_cfs S q) 2))
 feet_at_least lost end S q y above flow =
-    at_least_lost unit lost (as_fraction end) 24465755455488 1000 (3048 * 10 ^ 9) S q y (lit< tt)
-    (denominator_positive end) refl above flow
+    at_least_lost unit lost (as_fraction end) 24465755455488 1000 (ten_thousandths_of_metre_in_foot * 10 ^ 9) S q y
+    (lit< tt) (denominator_positive end) refl above flow
 
 -- ---- valves
 
@@ -157,10 +157,10 @@ no_fittings : (diameter minor : Decimal) (us : Bool) → 0 ≡ billionths minor 
 no_fittings diameter minor us e =
     omega (arith, ap (λ v. v * (power (feet_across us (billionths diameter)) 4).den) e)
 
-plain_at_most : (length diameter roughness minor : Decimal) (us : Bool) (r : Pair) (S q y : ℕ) → 0 ≡ billionths minor
-    → IsPlainPipePair length diameter roughness us r
+without_minor_at_most : (length diameter roughness minor : Decimal) (us : Bool) (r : Pair) (S q y : ℕ) → 0 ≡ billionths
+    minor → IsPipePairWithoutMinor length diameter roughness us r
     → (q * q) * denominator r.lo ≤ numerator r.lo * (S * y) → PipeLossAtMost us length diameter roughness minor S q y
-plain_at_most length diameter roughness minor us r S q y none made flow =
+without_minor_at_most length diameter roughness minor us r S q y none made flow =
     let rub : Fraction = over (friction us length roughness) (as_fraction made.friction_is.root.lo) in
     let fit : Fraction = minor_loss us diameter minor in
     pipe_at_most length diameter roughness minor us made.friction r made.friction_is S q y
@@ -171,10 +171,10 @@ plain_at_most length diameter roughness minor us r S q y none made flow =
     (friction-high length diameter roughness us made.friction made.friction_is)))
     flow
 
-plain_at_least : (length diameter roughness minor : Decimal) (us : Bool) (r : Pair) (S q y : ℕ)
-    → IsPlainPipePair length diameter roughness us r
+without_minor_at_least : (length diameter roughness minor : Decimal) (us : Bool) (r : Pair) (S q y : ℕ)
+    → IsPipePairWithoutMinor length diameter roughness us r
     → numerator r.hi * (S * y) ≤ (q * q) * denominator r.hi → PipeLossAtLeast us length diameter roughness minor S q y
-plain_at_least length diameter roughness minor us r S q y made flow =
+without_minor_at_least length diameter roughness minor us r S q y made flow =
     let rub : Fraction = over (friction us length roughness) (as_fraction made.friction_is.root.hi) in
     let fit : Fraction = minor_loss us diameter minor in
     pipe_at_least length diameter roughness minor us made.friction r made.friction_is S q y
@@ -211,16 +211,16 @@ pipe_by_minor_at_most : (v : ℕ) (length diameter roughness minor : Decimal) (u
     → v ≡ billionths minor
     → IsPipePairWith v length diameter roughness minor us r
     → (q * q) * denominator r.lo ≤ numerator r.lo * (S * y) → PipeLossAtMost us length diameter roughness minor S q y
-pipe_by_minor_at_most zero length diameter roughness minor us r S q y e made flow = plain_at_most length diameter
-    roughness minor us r S q y e made flow
+pipe_by_minor_at_most zero length diameter roughness minor us r S q y e made flow = without_minor_at_most length
+    diameter roughness minor us r S q y e made flow
 pipe_by_minor_at_most (suc v) length diameter roughness minor us r S q y e made flow = fitted_at_most length diameter
     roughness minor us r S q y made flow
 
 pipe_by_minor_at_least : (v : ℕ) (length diameter roughness minor : Decimal) (us : Bool) (r : Pair) (S q y : ℕ)
     → IsPipePairWith v length diameter roughness minor us r
     → numerator r.hi * (S * y) ≤ (q * q) * denominator r.hi → PipeLossAtLeast us length diameter roughness minor S q y
-pipe_by_minor_at_least zero length diameter roughness minor us r S q y made flow = plain_at_least length diameter
-    roughness minor us r S q y made flow
+pipe_by_minor_at_least zero length diameter roughness minor us r S q y made flow = without_minor_at_least length
+    diameter roughness minor us r S q y made flow
 pipe_by_minor_at_least (suc v) length diameter roughness minor us r S q y made flow = fitted_at_least length diameter
     roughness minor us r S q y made flow
 

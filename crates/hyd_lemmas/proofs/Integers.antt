@@ -1,6 +1,6 @@
 -- Integers: floors and ceilings, greatest and least of two, factors.
 use Rattle.std.proofs.Common.{◌≡◌, ℕ, suc, ◌*◌, ◌/◌, ◌%◌, ◌<◌, ◌≤◌, ℤ, pos, negsuc, ◌+ℤ◌, ◌*ℤ◌, ◌≤ℤ◌, ◌<ℤ◌, neg_ℤ, sym}
-use Rattle.std.proofs.Common.{ap, ◌∙◌, subst, arith, inl, inr, ◌⊎◌}
+use Rattle.std.proofs.Common.{ap, refl, ◌∙◌, subst, arith, inl, inr, ◌⊎◌}
 use Rattle.std.proofs.Math.Nat.{mul_comm}
 use Rattle.std.proofs.lemmas.Int.{ints, clamps, by_lt_z}
 use Rattle.std.proofs.lemmas.Nat.{div-add-mod'}
@@ -8,7 +8,6 @@ use Rattle.std.specs.Int.{int_max, int_min, int_div_euclid}
 use Rattle.hyd_num.specs.Rational.{Rational, floor, ceiling, negated, whole}
 use Rattle.std.specs.Prelude.{unsigned_abs}
 use Rattle.hyd_num.proofs.Integers.{times_plus, times_neg, times_rises, times_reflects, times_times, times_one}
-use Rattle.hyd_num.specs.QuotientsAndRoots.{IsCeiling, IsFloor}
 
 -- ---- floors and ceilings
 
@@ -92,12 +91,6 @@ min_is P a b l r = by_lt_z b a
 pub exchanged : (S k : ℕ) (z : ℤ) → pos k *ℤ (pos S *ℤ z) ≡ pos S *ℤ (pos k *ℤ z)
 exchanged S k z = times_times k S z ∙ ap (λ (n : ℕ). pos n *ℤ z) (mul_comm k S) ∙ sym (times_times S k z)
 
-pub one_ceiling : (n c r s : ℤ) → IsCeiling n c r → IsCeiling n c s → r ≡ s
-one_ceiling n c r s x y = let l = y.least r x.at_least in let m = x.least s y.at_least in omega (arith, ints, l, m)
-
-pub one_floor : (n c r s : ℤ) → IsFloor n c r → IsFloor n c s → r ≡ s
-one_floor n c r s x y = let l = y.greatest r x.at_most in let m = x.greatest s y.at_most in omega (arith, ints, l, m)
-
 pub same-or-not : (x y : ℤ) → (x ≡ y) ⊎ (x ≡ y → ⊥)
 same-or-not x y = by_lt_z x y (λ lt. inr (λ e. absurd (omega (arith, ints, lt, e))))
     (λ ge. by_lt_z y x (λ lt. inr (λ e. absurd (omega (arith, ints, lt, e)))) (λ le. inl (omega (arith, ints, ge, le))))
@@ -123,3 +116,7 @@ floor_whole z = omega (
 pub abs_above : (z : ℤ) → z ≤ℤ pos (unsigned_abs z)
 abs_above (pos n) = omega (arith, ints)
 abs_above (negsuc n) = omega (arith, ints)
+
+-- a product of equal factors
+pub product_is : (r x y a b : ℤ) → r ≡ x *ℤ y → x ≡ a → y ≡ b → r ≡ a *ℤ b
+product_is r x y a b e f g = e ∙ (rw (f, g) refl)

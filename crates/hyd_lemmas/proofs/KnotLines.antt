@@ -18,6 +18,3 @@ line_is a b d p q less e f =
     let r : q ≡ (b.value -ℤ a.value) *ℤ (d -ℤ (pos 1 *ℤ a.place)) =
     f ∙ ap (λ (z : ℤ). (b.value -ℤ a.value) *ℤ z) x in
     rw (l, r) refl
-
-pub product_is : (r x y a b : ℤ) → r ≡ x *ℤ y → x ≡ a → y ≡ b → r ≡ a *ℤ b
-product_is r x y a b e f g = e ∙ (rw (f, g) refl)

@@ -16,7 +16,7 @@ pub mod Sharpness
 pub mod OnePair
 pub mod Ratios
 pub mod PressurePairs
-pub mod ListsAndOptions
+pub mod ListsOptionsAndResults
 pub mod KnotLines
 pub mod OneScaled
-pub mod Quantities
+pub mod DenominatorsAboveZero

@@ -6,10 +6,10 @@ use Rattle.std.proofs.Math.Nat.{mul-le-mul_right, le_of_mul-le-mul_right, one-le
 use Rattle.std.proofs.Math.Nat.{mul_comm}
 use Rattle.std.proofs.lemmas.Nat.{mul-pow}
 use Rattle.hyd_num.specs.Fraction.{Fraction, fraction, times, plus, minus, over, power, AtMost}
-use Rattle.hyd_lemmas.proofs.Enclosing.{pow_once}
+use Rattle.hyd_num.proofs.Powers.{pow_one}
 
 pub square_is : (x : ℕ) → x ^ 2 ≡ x * x
-square_is x = pow-suc x 1 ∙ ap (λ a. a * x) (pow_once x)
+square_is x = pow-suc x 1 ∙ ap (λ a. a * x) (pow_one x)
 
 -- u / v is the unit's capacity where K large units of flow and T of head are F and 1 ticks, h / g the loss of a flow of
 -- one

@@ -8,7 +8,8 @@ use Rattle.hyd_num.specs.Fraction.{power, AtMost}
 use Rattle.hyd_num.specs.BinaryNumbers.{numerator, denominator, as_fraction}
 use Rattle.hyd_num.specs.Pairs.{IsOwnPower, IsRootDown, IsRootUp, IsRoot533}
 use Rattle.hyd_num.proofs.Ends.{denominator_positive}
-use Rattle.hyd_lemmas.proofs.Enclosing.{own-encloses, pow_once}
+use Rattle.hyd_num.proofs.Powers.{pow_one}
+use Rattle.hyd_lemmas.proofs.Enclosing.{own-encloses}
 use Rattle.hyd_lemmas.proofs.Losses.{square_is}
 use Rattle.hyd_lemmas.proofs.Grains.{grain, above_of, below_of}
 use Rattle.hyd_lemmas.proofs.Widths.{IsNear, above, power-near}
@@ -18,7 +19,7 @@ use Rattle.hyd_lemmas.proofs.Products.{own_power}
 
 -- one factor
 one_factor : (x y g u : ℕ) → x * g ≤ y * u → x * g ^ 1 ≤ y * u ^ 1
-one_factor x y g u le = rw (pow_once g, pow_once u) le
+one_factor x y g u le = rw (pow_one g, pow_one u) le
 
 -- the two ends of a number on its own are equal
 itself_near : (s : Scaled) (n : ℕ) (r : Pair) (own : IsOwnPower s n r) → IsNear 2 own.base

@@ -10,7 +10,8 @@ use Rattle.hyd_num.specs.declared.pairs.Pair.{Pair}
 use Rattle.hyd_num.specs.BinaryNumbers.{numerator, denominator, IsDown, IsUp}
 use Rattle.hyd_num.specs.Pairs.{IsRatio, IsProduct, IsQuotient, IsSum, IsPower, once, even, odd}
 use Rattle.hyd_num.proofs.Ends.{denominator_positive, numerator_positive}
-use Rattle.hyd_lemmas.proofs.Enclosing.{square_is as twice_power, pow_once}
+use Rattle.hyd_num.proofs.Powers.{pow_one}
+use Rattle.hyd_lemmas.proofs.Enclosing.{square_is as twice_power}
 use Rattle.hyd_lemmas.proofs.Grains.{grain, grain_is, grain_above, down-near, up-near}
 
 abbrev pub above : ℕ
@@ -86,7 +87,7 @@ fraction_near h l pq g u some rounding =
     omega (arith, mul-le-mul_right (u * u * (g * g)) one)
 
 fourth : (x : ℕ) → x ^ 4 ≡ x * x * (x * x)
-fourth x = sym (twice_power x 2 4 refl) ∙ ap (λ y. y * y) (sym (twice_power x 1 2 refl) ∙ ap (λ y. y * y) (pow_once x))
+fourth x = sym (twice_power x 2 4 refl) ∙ ap (λ y. y * y) (sym (twice_power x 1 2 refl) ∙ ap (λ y. y * y) (pow_one x))
 
 pub ratio-near : (p q : ℕ) (r : Pair) → 0 < p → 0 < q → IsRatio p q r → IsNear 4 r
 ratio-near p q r some more made =
@@ -138,8 +139,8 @@ sum-near x y r w made nx ny =
         pow-add above w 2,
         ← twice_power grain 1 2 refl,
         ← twice_power above 1 2 refl,
-        pow_once grain,
-        pow_once above,
+        pow_one grain,
+        pow_one above,
       )
           (omega (arith, mul-le-mul_right (above * above * (grain * grain)) l));
     }

@@ -9,6 +9,8 @@ ghost use Rattle.hyd_spec_lines.specs.WordsOfLines as form;
 ghost use Rattle.hyd_spec_lines.specs.WordsOfLines.{is_line_feed, is_semicolon, is_blank, words_in, text_of};
 ghost use Rattle.hyd_spec_lines.specs.WordsOfLines.{text_lines};
 
+use hyd_num::before;
+
 /// Whether a word is a keyword, in any letter case.
 pub fn is_keyword(word: &[u8], keyword: &[u8]) -> bool
     ensures { result ≡ form.is_keyword keyword.now word.now }
@@ -68,16 +70,6 @@ fn semicolon(line: &[u8]) -> Option<usize>
     ensures { result ≡ position is_semicolon line.now }
 {
     line.iter().position(|byte| *byte == b';')
-}
-
-// What stands before a place, or all.
-fn before(text: &[u8], place: Option<usize>) -> &[u8]
-    ensures { result.now ≡ take (unwrap_or place (length text.now)) text.now }
-{
-    match place {
-        Some(place) if place < text.len() => &text[..place],
-        _ => text,
-    }
 }
 
 /// A line before its comment.

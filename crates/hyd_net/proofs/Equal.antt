@@ -17,7 +17,7 @@ use Rattle.hyd_num.specs.declared.decimals.Decimal.{Decimal}
 use Rattle.hyd_num.specs.declared.decimals.Span.{Span}
 use Rattle.hyd_num.specs.declared.link_capacities.Capacity.{Capacity}
 use Rattle.hyd_net.specs.ListView.{ListView}
-use Rattle.hyd_net.specs.ProjectAsCompared.{plain_capacity, no_origin, bare_list}
+use Rattle.hyd_net.specs.ProjectAsCompared.{compared_capacity, no_origin, bare_list}
 
 one_proof-≤ℤ : (x y : ℤ) → IsProp (x ≤ℤ y)
 one_proof-≤ℤ x y = hlevel props
@@ -53,22 +53,22 @@ Span-equal a b l h =
     subst ByLo l (subst ByHi h (λ ordered. ap (λ p. record a { ordered = p })
     (one_proof-≤ℤ a.lo a.hi a.ordered ordered))) b.ordered
 
--- capacities with the same ends have one plain form
-pub plain_capacity-equal : (a b : Capacity) → a.lo ≡ b.lo → a.hi ≡ b.hi → plain_capacity a ≡ plain_capacity b
-plain_capacity-equal a b l h =
+-- capacities with the same ends are the same as compared
+pub compared_capacity-equal : (a b : Capacity) → a.lo ≡ b.lo → a.hi ≡ b.hi → compared_capacity a ≡ compared_capacity b
+compared_capacity-equal a b l h =
     let Ordered : Scaled → Scaled → Type 0 = λ lo hi. numerator lo * denominator hi ≤ numerator hi * denominator lo in
     let Least : Scaled → Type 0 = λ lo. denominator lo ≤ numerator lo * 2 ^ 61 in
     let Greatest : Scaled → Type 0 = λ hi. numerator hi < 2 ^ 66 * denominator hi in
     let ByLo : Scaled → Type 0 = λ lo. (o : Ordered lo b.hi) (l : Least lo) (g : Greatest b.hi)
-    → plain_capacity a ≡ record { lo = lo; hi = b.hi; origin = no_origin; ordered = o; least = l; greatest = g } in
+    → compared_capacity a ≡ record { lo = lo; hi = b.hi; origin = no_origin; ordered = o; least = l; greatest = g } in
     let ByHi : Scaled → Type 0 = λ hi. (o : Ordered a.lo hi) (l : Least a.lo) (g : Greatest hi)
-    → plain_capacity a ≡ record { lo = a.lo; hi = hi; origin = no_origin; ordered = o; least = l; greatest = g } in
-    subst ByLo l (subst ByHi h (λ o least g. ap₂ (λ p q. record (plain_capacity a) {
+    → compared_capacity a ≡ record { lo = a.lo; hi = hi; origin = no_origin; ordered = o; least = l; greatest = g } in
+    subst ByLo l (subst ByHi h (λ o least g. ap₂ (λ p q. record (compared_capacity a) {
       ordered = p;
       least = q;
       greatest = a.greatest;
     }) (le_prop a.ordered o) (le_prop a.least least)
-    ∙ ap (λ r. record (plain_capacity a) { ordered = o; least = least; greatest = r }) (le_prop a.greatest g)))
+    ∙ ap (λ r. record (compared_capacity a) { ordered = o; least = least; greatest = r }) (le_prop a.greatest g)))
     b.ordered b.least b.greatest
 
 -- ---- what `==` of hyd_num's types decides
@@ -85,14 +85,14 @@ Scaled-decides a b = by_parts _ (both _ _ (Decides-eqb a.mant b.mant) (Decides-i
     (λ p. Scaled-equal a b p.0 p.1) (λ e. (ap (λ (s : Scaled). s.mant) e, ap (λ (s : Scaled). s.exp) e))
 
 -- the ends of two capacities, compared one by one
-pub plain_capacity-apart : (a b : Capacity) → Decides false (a.lo ≡ b.lo)
-    → Decides false (plain_capacity a ≡ plain_capacity b)
-plain_capacity-apart a b l = (λ t. absurd (true≢false (sym t)), λ e. l.1 (ap (λ (c : Capacity). c.lo) e))
+pub compared_capacity-apart : (a b : Capacity) → Decides false (a.lo ≡ b.lo)
+    → Decides false (compared_capacity a ≡ compared_capacity b)
+compared_capacity-apart a b l = (λ t. absurd (true≢false (sym t)), λ e. l.1 (ap (λ (c : Capacity). c.lo) e))
 
-pub plain_capacity-decides : (a b : Capacity) (low high : Bool) → Decides low (a.lo ≡ b.lo)
-    → Decides high (a.hi ≡ b.hi) → Decides (low && high) (plain_capacity a ≡ plain_capacity b)
-plain_capacity-decides a b low high l h =
-    by_parts _ (both _ _ l h) (λ p. plain_capacity-equal a b p.0 p.1)
+pub compared_capacity-decides : (a b : Capacity) (low high : Bool) → Decides low (a.lo ≡ b.lo)
+    → Decides high (a.hi ≡ b.hi) → Decides (low && high) (compared_capacity a ≡ compared_capacity b)
+compared_capacity-decides a b low high l h =
+    by_parts _ (both _ _ l h) (λ p. compared_capacity-equal a b p.0 p.1)
     (λ e. (ap (λ (c : Capacity). c.lo) e, ap (λ (c : Capacity). c.hi) e))
 
 -- ---- lists

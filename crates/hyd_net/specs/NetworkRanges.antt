@@ -9,7 +9,8 @@ use Rattle.hyd_num.specs.declared.decimals.Decimal.{Decimal}
 use Rattle.hyd_num.specs.declared.link_capacities.Origin.{Origin}
 use Rattle.hyd_num.specs.declared.link_capacities.Origin.TheVariants.{Pipe as PipeOrigin, Valve as ValveOrigin}
 use Rattle.hyd_num.specs.declared.link_capacities.Origin.TheVariants.{Pump as PumpOrigin, Emitter as EmitterOrigin}
-use Rattle.hyd_net.specs.NumberRanges.{Lies, LiesWithin, IsHead, IsFlow, IsUpTo, IsNumberUpTo, IsPositiveUpTo, Numbers}
+use Rattle.hyd_net.specs.NumberRanges.{Lies, LiesWithin, head_limit, IsHead, IsFlow, IsUpTo, IsNumberUpTo}
+use Rattle.hyd_net.specs.NumberRanges.{IsPositiveUpTo, Numbers}
 use Rattle.hyd_net.specs.ListView.{ListView}
 use Rattle.hyd_net.specs.Curves.{volume_at, IsVolumeCurve, IsPumpCurve, IsLossCurve}
 use Rattle.hyd_net.specs.declared.curves.VolumePoint.{VolumePoint}
@@ -34,11 +35,11 @@ HasPattern P patterns named = IfSome named (Numbers (λ (p : Pattern). All P p.m
 
 -- ---- options
 
--- a pressure: at least 0, and at most 10^17 head ticks as a height of water
+-- a pressure: at least 0, and at most the limit of heads as a height of water
 pub record IsPressure (unit : FlowUnit) (pressure : Decimal) : Type 0 where
   pub not_negative : pos 0 ≤ℤ pressure.nano
   pub at_most : pressure_numerator (is_us_unit unit) pressure.nano
-      ≤ℤ pos (10 ^ 17 * pressure_denominator (is_us_unit unit))
+      ≤ℤ pos (head_limit * pressure_denominator (is_us_unit unit))
 
 -- the numbers of the options are in range
 pub record HasOptions (options : Options) (patterns : List Pattern) : Type 0 where
@@ -75,7 +76,7 @@ pub record IsJunction (unit : FlowUnit) (patterns : List Pattern) (junction : Ju
 -- a reservoir's head is one, also times each multiplier of its pattern, before that is cut
 pub record IsReservoir (patterns : List Pattern) (reservoir : Reservoir) : Type 0 where
   pub head : IsHead reservoir.head
-  pub pattern : HasPattern (λ multiplier. LiesWithin (10 ^ 17 * 10 ^ 9) (reservoir.head *ℤ multiplier)) patterns
+  pub pattern : HasPattern (λ multiplier. LiesWithin (head_limit * 10 ^ 9) (reservoir.head *ℤ multiplier)) patterns
       reservoir.pattern
 
 -- a tank's volume curve goes from its minimum or below to its maximum or above; from the minimum to the maximum it

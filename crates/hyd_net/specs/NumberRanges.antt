@@ -12,13 +12,21 @@ pub record Lies (low high z : ℤ) : Type 0 where
 abbrev pub LiesWithin : ℕ → ℤ → Type 0
 LiesWithin limit z = Lies (neg_ℤ (pos limit)) (pos limit) z
 
--- a head, an elevation or a level in ticks of 10^-13 metres: at most 10,000 metres up or down
-abbrev pub IsHead : ℤ → Type 0
-IsHead ticks = LiesWithin (10 ^ 17) ticks
+-- how far up or down a head, an elevation or a level goes, in head ticks of 10^-13 metres: 10,000 metres
+abbrev pub head_limit : ℕ
+head_limit = 10 ^ 17
 
--- a flow in ticks of 10^-7 cubic metres a day: at most 10^8 cubic metres a day either way
+-- the greatest flow either way, in flow ticks of 10^-7 cubic metres a day: 10^8 cubic metres a day
+abbrev pub flow_limit : ℕ
+flow_limit = 10 ^ 15
+
+-- a head, an elevation or a level in head ticks is in range
+abbrev pub IsHead : ℤ → Type 0
+IsHead ticks = LiesWithin head_limit ticks
+
+-- a flow in flow ticks is in range
 abbrev pub IsFlow : ℤ → Type 0
-IsFlow ticks = LiesWithin (10 ^ 15) ticks
+IsFlow ticks = LiesWithin flow_limit ticks
 
 -- a setting or a multiplier in billionths: at least 0 and at most a whole number
 abbrev pub IsUpTo : ℕ → ℤ → Type 0

@@ -42,105 +42,105 @@ no_origin = Emitter no_number Cmd
 abbrev pub no_head : ShutoffHead
 no_head = Given no_number
 
--- the items of a list, each in its plain form, and no spare
-abbrev pub plain_list : {T : Type 0} → (T → T) → ListView T → ListView T
-plain_list plain v = record { list = map plain v.list; spare = 0 }
+-- the items of a list, each in the form that is compared, and no spare
+abbrev pub compared_list : {T : Type 0} → (T → T) → ListView T → ListView T
+compared_list form v = record { list = map form v.list; spare = 0 }
 
 -- the items of a list as they are, and no spare
 abbrev pub bare_list : {T : Type 0} → ListView T → ListView T
 bare_list v = record { list = v.list; spare = 0 }
 
 -- a capacity without its numbers
-abbrev pub plain_capacity : Capacity → Capacity
-plain_capacity c = record c { origin = no_origin }
+abbrev pub compared_capacity : Capacity → Capacity
+compared_capacity c = record c { origin = no_origin }
 
 -- an open valve without its numbers
-abbrev pub plain_valve : OpenValve → OpenValve
-plain_valve (Quadratic c) = Quadratic (plain_capacity c)
-plain_valve Linear = Linear
+abbrev pub compared_valve : OpenValve → OpenValve
+compared_valve (Quadratic c) = Quadratic (compared_capacity c)
+compared_valve Linear = Linear
 
 -- a link's kind without its numbers
-abbrev pub plain_kind : LinkKind → LinkKind
-plain_kind (Pipe c) = Pipe (plain_capacity c)
-plain_kind (CheckPipe c) = CheckPipe (plain_capacity c)
-plain_kind (Pump c shutoff head pattern) = Pump (plain_capacity c) shutoff no_head pattern
-plain_kind (CurvePump bend pattern) = CurvePump bend pattern
-plain_kind (Tcv valve) = Tcv (plain_valve valve)
-plain_kind (Fcv valve) = Fcv (plain_valve valve)
-plain_kind (Gpv bend) = Gpv bend
+abbrev pub compared_kind : LinkKind → LinkKind
+compared_kind (Pipe c) = Pipe (compared_capacity c)
+compared_kind (CheckPipe c) = CheckPipe (compared_capacity c)
+compared_kind (Pump c shutoff head pattern) = Pump (compared_capacity c) shutoff no_head pattern
+compared_kind (CurvePump bend pattern) = CurvePump bend pattern
+compared_kind (Tcv valve) = Tcv (compared_valve valve)
+compared_kind (Fcv valve) = Fcv (compared_valve valve)
+compared_kind (Gpv bend) = Gpv bend
 
 -- a link's state without its numbers
-abbrev pub plain_state : LinkState → LinkState
-plain_state Open = Open
-plain_state Closed = Closed
-plain_state (Speed nano) = Speed nano
-plain_state (Throttle nano law) = Throttle nano (plain_valve law)
-plain_state (Limit nano ticks) = Limit nano ticks
+abbrev pub compared_state : LinkState → LinkState
+compared_state Open = Open
+compared_state Closed = Closed
+compared_state (Speed nano) = Speed nano
+compared_state (Throttle nano law) = Throttle nano (compared_valve law)
+compared_state (Limit nano ticks) = Limit nano ticks
 
 -- a link without its numbers
-abbrev pub plain_link : Link → Link
-plain_link l = record l { kind = plain_kind l.kind; start = plain_state l.start }
+abbrev pub compared_link : Link → Link
+compared_link l = record l { kind = compared_kind l.kind; start = compared_state l.start }
 
 -- a junction without its emitter's numbers
-abbrev pub plain_junction : Junction → Junction
-plain_junction j = record j { demands = bare_list j.demands; emitter = option_map plain_capacity j.emitter }
+abbrev pub compared_junction : Junction → Junction
+compared_junction j = record j { demands = bare_list j.demands; emitter = option_map compared_capacity j.emitter }
 
 -- a tank without its diameter
-abbrev pub plain_tank : Tank → Tank
-plain_tank t = record t { diameter = no_number }
+abbrev pub compared_tank : Tank → Tank
+compared_tank t = record t { diameter = no_number }
 
 -- a pattern without a spare
-abbrev pub plain_pattern : Pattern → Pattern
-plain_pattern p = record { multipliers = bare_list p.multipliers }
+abbrev pub compared_pattern : Pattern → Pattern
+compared_pattern p = record { multipliers = bare_list p.multipliers }
 
 -- a control without its state's numbers
-abbrev pub plain_control : Control → Control
-plain_control c = record c { to = plain_state c.to }
+abbrev pub compared_control : Control → Control
+compared_control c = record c { to = compared_state c.to }
 
 -- what a clause compares with, without the file's number
-abbrev pub plain_value : Value → Value
-plain_value (Amount span number) = Amount span no_number
-plain_value OpenValue = OpenValue
-plain_value ClosedValue = ClosedValue
-plain_value Active = Active
+abbrev pub compared_value : Value → Value
+compared_value (Amount span number) = Amount span no_number
+compared_value OpenValue = OpenValue
+compared_value ClosedValue = ClosedValue
+compared_value Active = Active
 
 -- a clause without the file's number
-abbrev pub plain_clause : Clause → Clause
-plain_clause c = record c { value = plain_value c.value }
+abbrev pub compared_clause : Clause → Clause
+compared_clause c = record c { value = compared_value c.value }
 
 -- a clause with how it is joined, without the file's number
-abbrev pub plain_rule_clause : RuleClause → RuleClause
-plain_rule_clause c = record c { clause = plain_clause c.clause }
+abbrev pub compared_rule_clause : RuleClause → RuleClause
+compared_rule_clause c = record c { clause = compared_clause c.clause }
 
 -- an action without its state's numbers
-abbrev pub plain_action : Action → Action
-plain_action a = record a { to = plain_state a.to }
+abbrev pub compared_action : Action → Action
+compared_action a = record a { to = compared_state a.to }
 
 -- a rule without numbers of the file and spares
-abbrev pub plain_rule : Rule → Rule
-plain_rule r = record {
+abbrev pub compared_rule : Rule → Rule
+compared_rule r = record {
   id = bare_list r.id;
-  clauses = plain_list plain_rule_clause r.clauses;
-  yes = plain_list plain_action r.yes;
-  no = plain_list plain_action r.no;
+  clauses = compared_list compared_rule_clause r.clauses;
+  yes = compared_list compared_action r.yes;
+  no = compared_list compared_action r.no;
   priority = r.priority;
 }
 
 -- the project with all that is left aside put to 0
-abbrev pub plain_project : Project → Project
-plain_project p =
+abbrev pub compared_project : Project → Project
+compared_project p =
     record {
       options = p.options;
       times = p.times;
       node_ids = p.node_ids;
       link_ids = p.link_ids;
-      junctions = plain_list plain_junction p.junctions;
+      junctions = compared_list compared_junction p.junctions;
       reservoirs = bare_list p.reservoirs;
-      tanks = plain_list plain_tank p.tanks;
-      links = plain_list plain_link p.links;
-      patterns = plain_list plain_pattern p.patterns;
-      shapes = plain_list bare_list p.shapes;
-      bends = plain_list bare_list p.bends;
-      controls = plain_list plain_control p.controls;
-      rules = plain_list plain_rule p.rules;
+      tanks = compared_list compared_tank p.tanks;
+      links = compared_list compared_link p.links;
+      patterns = compared_list compared_pattern p.patterns;
+      shapes = compared_list bare_list p.shapes;
+      bends = compared_list bare_list p.bends;
+      controls = compared_list compared_control p.controls;
+      rules = compared_list compared_rule p.rules;
     }

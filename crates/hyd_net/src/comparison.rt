@@ -3,12 +3,12 @@
 
 ghost use Rattle.std.specs.Prelude.{◌≡◌, ◌↔◌, IsTrue, map};
 ghost use Rattle.std.specs.Option.{option_map};
-ghost use Rattle.hyd_net.specs.ProjectAsCompared.{bare_list, plain_list, plain_capacity, plain_valve, plain_state};
-ghost use Rattle.hyd_net.specs.ProjectAsCompared.{plain_kind};
-ghost use Rattle.hyd_net.specs.ProjectAsCompared.{plain_link, plain_tank, plain_junction, plain_pattern, plain_control};
-ghost use Rattle.hyd_net.specs.ProjectAsCompared.{plain_value, plain_clause, plain_rule_clause, plain_action};
-ghost use Rattle.hyd_net.specs.ProjectAsCompared.{plain_rule};
-ghost use Rattle.hyd_net.specs.ProjectAsCompared.{plain_project};
+ghost use Rattle.hyd_net.specs.ProjectAsCompared.{bare_list, compared_list, compared_capacity, compared_valve};
+ghost use Rattle.hyd_net.specs.ProjectAsCompared.{compared_kind, compared_state, compared_link, compared_tank};
+ghost use Rattle.hyd_net.specs.ProjectAsCompared.{compared_junction, compared_pattern, compared_control};
+ghost use Rattle.hyd_net.specs.ProjectAsCompared.{compared_value, compared_clause, compared_rule_clause};
+ghost use Rattle.hyd_net.specs.ProjectAsCompared.{compared_action, compared_rule};
+ghost use Rattle.hyd_net.specs.ProjectAsCompared.{compared_project};
 
 use crate::controls::Control;
 use crate::curves::{HeadPoint, VolumePoint};
@@ -23,14 +23,14 @@ use hyd_num::{Capacity, Decimal, FlowUnit, Scaled, Span};
 
 /// Values that are compared without the numbers of the file that are kept beside a rounded form.
 trait Alike {
-    ghost plain: { Self → Self };
+    ghost compared: { Self → Self };
 
     fn same(&self, other: &Self) -> bool
-        ensures { IsTrue result ↔ (plain self.now ≡ plain other.now) };
+        ensures { IsTrue result ↔ (compared self.now ≡ compared other.now) };
 }
 
 fn same_items<T: Alike>(a: &[T], b: &[T]) -> bool
-    ensures { IsTrue result ↔ (map T.plain a.now ≡ map T.plain b.now) }
+    ensures { IsTrue result ↔ (map T.compared a.now ≡ map T.compared b.now) }
 {
     if a.len() != b.len() {
         return false;
@@ -44,7 +44,7 @@ fn same_items<T: Alike>(a: &[T], b: &[T]) -> bool
 }
 
 fn same_list<T: Alike + Drop>(a: &List<T>, b: &List<T>) -> bool
-    ensures { IsTrue result ↔ (plain_list T.plain a.now ≡ plain_list T.plain b.now) }
+    ensures { IsTrue result ↔ (compared_list T.compared a.now ≡ compared_list T.compared b.now) }
 {
     same_items(a.as_slice(), b.as_slice())
 }
@@ -68,7 +68,7 @@ fn same_named(a: Option<u32>, b: Option<u32>) -> bool
 }
 
 impl Alike for Capacity {
-    ghost plain = { plain_capacity };
+    ghost compared = { compared_capacity };
 
     fn same(&self, other: &Capacity) -> bool {
         same_end(self.lo, other.lo) && same_end(self.hi, other.hi)
@@ -76,7 +76,7 @@ impl Alike for Capacity {
 }
 
 fn same_emitter(a: &Option<Capacity>, b: &Option<Capacity>) -> bool
-    ensures { IsTrue result ↔ (option_map plain_capacity a.now ≡ option_map plain_capacity b.now) }
+    ensures { IsTrue result ↔ (option_map compared_capacity a.now ≡ option_map compared_capacity b.now) }
 {
     match (a, b) {
         (Some(x), Some(y)) => x.same(y),
@@ -86,7 +86,7 @@ fn same_emitter(a: &Option<Capacity>, b: &Option<Capacity>) -> bool
 }
 
 impl Alike for OpenValve {
-    ghost plain = { plain_valve };
+    ghost compared = { compared_valve };
 
     fn same(&self, other: &OpenValve) -> bool {
         match (self, other) {
@@ -98,7 +98,7 @@ impl Alike for OpenValve {
 }
 
 impl Alike for LinkKind {
-    ghost plain = { plain_kind };
+    ghost compared = { compared_kind };
 
     fn same(&self, other: &LinkKind) -> bool {
         match (self, other) {
@@ -137,7 +137,7 @@ impl Alike for LinkKind {
 }
 
 impl Alike for LinkState {
-    ghost plain = { plain_state };
+    ghost compared = { compared_state };
 
     fn same(&self, other: &LinkState) -> bool {
         match (self, other) {
@@ -156,7 +156,7 @@ impl Alike for LinkState {
 }
 
 impl Alike for Link {
-    ghost plain = { plain_link };
+    ghost compared = { compared_link };
 
     fn same(&self, other: &Link) -> bool {
         self.from == other.from
@@ -167,7 +167,7 @@ impl Alike for Link {
 }
 
 impl Alike for Demand {
-    ghost plain = { λ d. d };
+    ghost compared = { λ d. d };
 
     fn same(&self, other: &Demand) -> bool {
         *self == *other
@@ -175,7 +175,7 @@ impl Alike for Demand {
 }
 
 impl Alike for Reservoir {
-    ghost plain = { λ r. r };
+    ghost compared = { λ r. r };
 
     fn same(&self, other: &Reservoir) -> bool {
         *self == *other
@@ -207,7 +207,7 @@ fn same_bytes(a: &List<u8>, b: &List<u8>) -> bool
 }
 
 impl Alike for VolumePoint {
-    ghost plain = { λ p. p };
+    ghost compared = { λ p. p };
 
     fn same(&self, other: &VolumePoint) -> bool {
         *self == *other
@@ -215,7 +215,7 @@ impl Alike for VolumePoint {
 }
 
 impl Alike for HeadPoint {
-    ghost plain = { λ p. p };
+    ghost compared = { λ p. p };
 
     fn same(&self, other: &HeadPoint) -> bool {
         *self == *other
@@ -223,7 +223,7 @@ impl Alike for HeadPoint {
 }
 
 impl Alike for List<VolumePoint> {
-    ghost plain = { bare_list };
+    ghost compared = { bare_list };
 
     fn same(&self, other: &List<VolumePoint>) -> bool {
         same_items(self.as_slice(), other.as_slice())
@@ -231,7 +231,7 @@ impl Alike for List<VolumePoint> {
 }
 
 impl Alike for List<HeadPoint> {
-    ghost plain = { bare_list };
+    ghost compared = { bare_list };
 
     fn same(&self, other: &List<HeadPoint>) -> bool {
         same_items(self.as_slice(), other.as_slice())
@@ -239,7 +239,7 @@ impl Alike for List<HeadPoint> {
 }
 
 impl Alike for Junction {
-    ghost plain = { plain_junction };
+    ghost compared = { compared_junction };
 
     fn same(&self, other: &Junction) -> bool {
         self.elevation == other.elevation
@@ -249,7 +249,7 @@ impl Alike for Junction {
 }
 
 impl Alike for Tank {
-    ghost plain = { plain_tank };
+    ghost compared = { compared_tank };
 
     fn same(&self, other: &Tank) -> bool {
         self.bottom == other.bottom
@@ -263,7 +263,7 @@ impl Alike for Tank {
 }
 
 impl Alike for Pattern {
-    ghost plain = { plain_pattern };
+    ghost compared = { compared_pattern };
 
     fn same(&self, other: &Pattern) -> bool {
         same_multipliers(&self.multipliers, &other.multipliers)
@@ -271,7 +271,7 @@ impl Alike for Pattern {
 }
 
 impl Alike for Control {
-    ghost plain = { plain_control };
+    ghost compared = { compared_control };
 
     fn same(&self, other: &Control) -> bool {
         self.link == other.link && self.to.same(&other.to) && self.when == other.when
@@ -279,7 +279,7 @@ impl Alike for Control {
 }
 
 impl Alike for Value {
-    ghost plain = { plain_value };
+    ghost compared = { compared_value };
 
     fn same(&self, other: &Value) -> bool {
         match (self, other) {
@@ -293,7 +293,7 @@ impl Alike for Value {
 }
 
 impl Alike for Clause {
-    ghost plain = { plain_clause };
+    ghost compared = { compared_clause };
 
     fn same(&self, other: &Clause) -> bool {
         self.what == other.what && self.relation == other.relation && self.value.same(&other.value)
@@ -301,7 +301,7 @@ impl Alike for Clause {
 }
 
 impl Alike for RuleClause {
-    ghost plain = { plain_rule_clause };
+    ghost compared = { compared_rule_clause };
 
     fn same(&self, other: &RuleClause) -> bool {
         self.joined == other.joined && self.clause.same(&other.clause)
@@ -309,7 +309,7 @@ impl Alike for RuleClause {
 }
 
 impl Alike for Action {
-    ghost plain = { plain_action };
+    ghost compared = { compared_action };
 
     fn same(&self, other: &Action) -> bool {
         self.link == other.link && self.to.same(&other.to)
@@ -317,7 +317,7 @@ impl Alike for Action {
 }
 
 impl Alike for Rule {
-    ghost plain = { plain_rule };
+    ghost compared = { compared_rule };
 
     fn same(&self, other: &Rule) -> bool {
         same_bytes(&self.id, &other.id)
@@ -368,9 +368,10 @@ fn same_settings(a: &Project, b: &Project) -> bool
 }
 
 fn same_nodes(a: &Project, b: &Project) -> bool
-    ensures { IsTrue result ↔ ((plain_list plain_junction a.now.junctions ≡ plain_list plain_junction b.now.junctions)
+    ensures { IsTrue result ↔ ((compared_list compared_junction a.now.junctions
+        ≡ compared_list compared_junction b.now.junctions)
         × (bare_list a.now.reservoirs ≡ bare_list b.now.reservoirs)
-        × (plain_list plain_tank a.now.tanks ≡ plain_list plain_tank b.now.tanks)) }
+        × (compared_list compared_tank a.now.tanks ≡ compared_list compared_tank b.now.tanks)) }
 {
     same_list(&a.junctions, &b.junctions)
         && same_reservoirs(&a.reservoirs, &b.reservoirs)
@@ -378,8 +379,8 @@ fn same_nodes(a: &Project, b: &Project) -> bool
 }
 
 fn same_curves(a: &Project, b: &Project) -> bool
-    ensures { IsTrue result ↔ ((plain_list bare_list a.now.shapes ≡ plain_list bare_list b.now.shapes)
-        × (plain_list bare_list a.now.bends ≡ plain_list bare_list b.now.bends)) }
+    ensures { IsTrue result ↔ ((compared_list bare_list a.now.shapes ≡ compared_list bare_list b.now.shapes)
+        × (compared_list bare_list a.now.bends ≡ compared_list bare_list b.now.bends)) }
 {
     same_list(&a.shapes, &b.shapes) && same_list(&a.bends, &b.bends)
 }
@@ -387,7 +388,7 @@ fn same_curves(a: &Project, b: &Project) -> bool
 /// Whether all fields of two projects are equal, the numbers of the file aside from which a
 /// capacity, a shutoff head, a tank's area and the amount of a clause were made.
 pub fn same(a: &Project, b: &Project) -> bool
-    ensures { IsTrue result ↔ (plain_project a.now ≡ plain_project b.now) }
+    ensures { IsTrue result ↔ (compared_project a.now ≡ compared_project b.now) }
 {
     same_settings(a, b)
         && same_nodes(a, b)

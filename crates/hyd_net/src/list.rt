@@ -1,5 +1,5 @@
 //! `List`, the list that every public field holds.
-ghost use Rattle.std.specs.Prelude.{◌≡◌, ◌+◌, ◌<◌, ◌≤◌, [], ◌∷◌, ◌++◌, length, IsOk, OnOk, OnErr};
+ghost use Rattle.std.specs.Prelude.{◌≡◌, ◌+◌, ◌<◌, ◌≤◌, [], ◌∷◌, ◌++◌, length, IfOk, IsOk, OnOk, OnErr};
 ghost use Rattle.std.specs.Borrow.{sem};
 ghost use Rattle.hyd_net.specs.ListAfterBorrow.{lends_items};
 
@@ -31,6 +31,16 @@ impl<T: Drop> List<T> {
         List {
             items: Vec::new(alloc),
         }
+    }
+
+    /// The empty list, with room for so many items.
+    pub fn with_room(alloc: Global, items: usize) -> Result<List<T>, OutOfMemory>
+        ensures empty { IfOk result (λ list. list.list ≡ []) }
+        ensures room { IfOk result (λ list. items ≤ list.spare) }
+    {
+        let mut list = List::new(alloc);
+        list.reserve(items)?;
+        Ok(list)
     }
 
     /// Makes room for `more` further items.

@@ -20,5 +20,9 @@ pub const GREATEST_COEFFICIENT: i128 = 1_000_000 * BILLION;
 /// The greatest multiplier of demands, of a pattern either way, in billionths.
 pub const GREATEST_MULTIPLIER: i128 = 1_000_000 * BILLION;
 
+/// A tenth of a unit of pressure, in billionths: the least by which the required pressure exceeds the minimum one where
+/// demands depend on pressure, and the required pressure where a file gives none.
+pub const TENTH: i128 = BILLION / 10;
+
 /// The greatest diameter of a pipe or a valve, in billionths of an inch or a millimetre.
 pub const GREATEST_DIAMETER: i128 = 10_000 * BILLION;

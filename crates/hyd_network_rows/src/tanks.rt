@@ -16,9 +16,11 @@ use hyd_net::Cause;
 use hyd_num::Decimal;
 use hyd_row_words::{check_id, ends, id, not_negative, number, number_within};
 
-const LEAST_DIAMETER: i128 = 100_000_000;
+/// The least diameter of a tank without a volume curve, in billionths of a foot or a metre.
+const LEAST_TANK_DIAMETER: i128 = 100_000_000;
 
-const GREATEST_DIAMETER: i128 = 1_000 * 1_000_000_000;
+/// The greatest diameter of a tank, in billionths of a foot or a metre.
+const GREATEST_TANK_DIAMETER: i128 = 1_000 * 1_000_000_000;
 
 /// A row of [TANKS], in the file's units. Levels stand above the bottom.
 #[derive(Debug, Clone, Copy, PartialEq, Eq, Drop)]
@@ -69,8 +71,8 @@ fn diameter(text: &Lines<'_>, line: &Line) -> Result<Decimal, Cause>
         (λ number. number.nano ≡ amount 5 (words_at text.now line.now)) }
 {
     match named_curve(text, line) {
-        Some(_) => number_within(text, line, 5, 0, GREATEST_DIAMETER),
-        None => number_within(text, line, 5, LEAST_DIAMETER, GREATEST_DIAMETER),
+        Some(_) => number_within(text, line, 5, 0, GREATEST_TANK_DIAMETER),
+        None => number_within(text, line, 5, LEAST_TANK_DIAMETER, GREATEST_TANK_DIAMETER),
     }
 }
 

@@ -61,3 +61,10 @@ fits_back n (pos d) q above h f g =
     let low : negsuc (2 ^ 127 - 2) ≤ℤ q = floor_from (2 ^ 127 - 2) d n q (omega (arith, ints)) (omega arith) f in
     omega (arith, ints, low, g)
 fits_back n (negsuc d) q above h f g = absurd (omega (arith, ints))
+
+-- a number has one floor and one ceiling
+pub one_floor : (n c r s : ℤ) → IsFloor n c r → IsFloor n c s → r ≡ s
+one_floor n c r s x y = let l = y.greatest r x.at_most in let m = x.greatest s y.at_most in omega (arith, ints, l, m)
+
+pub one_ceiling : (n c r s : ℤ) → IsCeiling n c r → IsCeiling n c s → r ≡ s
+one_ceiling n c r s x y = let l = y.least r x.at_least in let m = x.least s y.at_least in omega (arith, ints, l, m)

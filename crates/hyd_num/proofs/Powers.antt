@@ -35,7 +35,7 @@ high_product x y r u v s a b p q =
     (denominator u.hi * denominator v.hi) r.hi s.hi
     (mul-pos (denominator_positive u.hi) (denominator_positive v.hi)) (omega (arith, m)) p.high q.high
 
-pow_one : (a : ℕ) → a ^ 1 ≡ a
+pub pow_one : (a : ℕ) → a ^ 1 ≡ a
 pow_one a = pow-suc a 0 ∙ ap (λ x. x * a) (pow-zero a) ∙ one-mul a
 
 pow_twice : (a n : ℕ) → a ^ (2 * n) ≡ a ^ n * a ^ n

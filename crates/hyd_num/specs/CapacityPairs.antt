@@ -69,7 +69,7 @@ pub record IsUnitOver (lost r : Pair) : Type 0 where
   pub capacity_is : IsQuotient unit lost r
 
 -- a pipe without minor losses
-pub record IsPlainPipePair (length diameter roughness : Decimal) (us : Bool) (r : Pair) : Type 0 where
+pub record IsPipePairWithoutMinor (length diameter roughness : Decimal) (us : Bool) (r : Pair) : Type 0 where
   pub friction : Pair
   pub friction_is : IsFrictionPair length diameter roughness us friction
   pub capacity_is : IsUnitOver friction r
@@ -86,7 +86,7 @@ pub record IsFittedPipePair (length diameter roughness minor : Decimal) (us : Bo
 
 -- a pipe whose minor loss coefficient has this many billionths
 abbrev pub IsPipePairWith : ℕ → (length diameter roughness minor : Decimal) → Bool → Pair → Type 0
-IsPipePairWith zero length diameter roughness minor us r = IsPlainPipePair length diameter roughness us r
+IsPipePairWith zero length diameter roughness minor us r = IsPipePairWithoutMinor length diameter roughness us r
 IsPipePairWith (suc k) length diameter roughness minor us r = IsFittedPipePair length diameter roughness minor us r
 
 -- the pair of a pipe, with or without a minor loss

@@ -11,6 +11,7 @@ mod numerals;
 mod pair_arithmetic;
 mod pairs;
 mod power_5_33;
+mod products;
 mod quotients;
 mod roots;
 mod rounding;
@@ -24,10 +25,11 @@ pub use flow_units::{
     TEN_THOUSANDTHS_OF_METRE_IN_FOOT, TEN_THOUSANDTHS_OF_POUND_IN_FOOT,
 };
 pub use link_capacities::{Capacity, Origin};
-pub use numerals::read_decimal;
+pub use numerals::{all_digits, before, read_decimal};
 pub use pair_arithmetic::{add, div, mul, pow, ratio};
 pub use pairs::Pair;
 pub use power_5_33::root533;
+pub use products::whole_product;
 pub use quotients::{mul_div_ceil, mul_div_floor};
 pub use roots::isqrt;
 pub use scaled_roots::{sqrt_down, sqrt_up};

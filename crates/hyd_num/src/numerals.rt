@@ -63,7 +63,7 @@ fn is_mantissa(whole: &[u8], decimals: &[u8]) -> bool
     ensures { result ≡ ((list_all is_digit whole.now && list_all is_digit decimals.now)
         && nat_le 1 (length whole.now + length decimals.now)) }
 {
-    are_digits(whole) && are_digits(decimals) && whole.len() + decimals.len() >= 1
+    all_digits(whole) && all_digits(decimals) && whole.len() + decimals.len() >= 1
 }
 
 // One to three digits behind an optional sign, or nothing where there is no mark.
@@ -72,7 +72,7 @@ fn is_exponent(text: &[u8], marked: bool) -> bool
     ensures { result ≡ (if marked then numeral.is_exponent text.now else true) }
 {
     let digits = behind_sign(text);
-    !marked || (are_digits(digits) && digits.len() >= 1 && digits.len() <= 3)
+    !marked || (all_digits(digits) && digits.len() >= 1 && digits.len() <= 3)
 }
 
 // A text behind its sign.
@@ -137,8 +137,8 @@ fn behind_point(text: &[u8]) -> &[u8]
     behind(text, point(text))
 }
 
-// What stands before a place, or all.
-fn before(text: &[u8], place: Option<usize>) -> &[u8]
+/// What stands before a place, or all.
+pub fn before(text: &[u8], place: Option<usize>) -> &[u8]
     ensures { result.now ≡ take (unwrap_or place (length text.now)) text.now }
 {
     match place {
@@ -157,7 +157,8 @@ fn behind(text: &[u8], place: Option<usize>) -> &[u8]
     }
 }
 
-fn are_digits(text: &[u8]) -> bool
+/// Whether a text is made of decimal digits alone.
+pub fn all_digits(text: &[u8]) -> bool
     ensures { result ≡ list_all is_digit text.now }
 {
     text.iter().all(|c| b'0' <= *c && *c <= b'9')

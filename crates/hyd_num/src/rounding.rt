@@ -147,8 +147,8 @@ fn places_between(low: i32, high: i32) -> u32
     (high - low) as u32
 }
 
-// 2^k.
-fn power_of_two(k: u32) -> u128
+/// 2^k.
+pub(crate) fn power_of_two(k: u32) -> u128
     requires { k < 128 }
     ensures { result ≡ 2 ^ k }
 {

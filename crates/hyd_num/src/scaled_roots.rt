@@ -1,12 +1,13 @@
 //! Square roots of a binary number times a whole number: the flow that a head difference drives.
 #![tactic(auto)]
 
-ghost use Rattle.std.specs.Prelude.{◌+◌, ◌*◌, ◌^◌, ◌<◌, ◌≤◌, ◌≡◌};
+ghost use Rattle.std.specs.Prelude.{◌+◌, ◌*◌, ◌^◌, ◌<◌, ◌≤◌};
 ghost use Rattle.hyd_num.specs.BinaryNumbers.{numerator, denominator};
 ghost use Rattle.hyd_num.specs.QuotientsAndRoots.{IsSquareRootDown, IsSquareRootUp};
 
 use crate::binary::Scaled;
 use crate::roots::isqrt;
+use crate::rounding::power_of_two;
 
 /// The greatest whole number whose square is at most `c * d`.
 pub fn sqrt_down(c: Scaled, d: u64) -> u64
@@ -71,11 +72,4 @@ fn root_up(x: u128) -> u64
         return root;
     }
     root + 1
-}
-
-fn power_of_two(k: u32) -> u128
-    requires { k < 128 }
-    ensures { result ≡ 2 ^ k }
-{
-    1 << k
 }

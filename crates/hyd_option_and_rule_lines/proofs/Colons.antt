@@ -1,4 +1,4 @@
--- A word cut at its colons.
+-- A word split at its colons.
 use Rattle.std.proofs.Common.{◌≡◌, ℕ, ◌+◌, ◌-◌, ◌<◌, ◌≤◌, Bool, true, false, List, [], ◌∷◌, length, take, drop, nat_lt}
 use Rattle.std.proofs.Common.{position, refl, sym, ap, arith, Some, None, inl, inr, ltb-true, ltb-false, le_antisymm}
 use Rattle.std.proofs.Common.{not, true≢false}
@@ -10,9 +10,9 @@ use Rattle.std.proofs.lemmas.List.Splits.{slice_split_first}
 use Rattle.hyd_lex.proofs.FirstLine.{one_piece}
 use Rattle.hyd_spec_input.specs.Moments.{is_colon, has_colon, are_parts}
 
-pub cut_at : (p : ℕ → Bool) (xs : List ℕ) (k : ℕ) → position p xs ≡ Some k → slice_split p xs ≡ take k xs
+pub split_at : (p : ℕ → Bool) (xs : List ℕ) (k : ℕ) → position p xs ≡ Some k → slice_split p xs ≡ take k xs
     ∷ slice_split p (take (length xs - (k + 1)) (drop (k + 1) xs))
-cut_at p xs k e = elim (cases_Bool (nat_lt (position_or_len p xs) (length xs))) [
+split_at p xs k e = elim (cases_Bool (nat_lt (position_or_len p xs) (length xs))) [
   | inl t ↦ (let f : Some (position_or_len p xs) ≡ Some k = rw t at e in
       let g : position_or_len p xs ≡ k = cc in
       let l : position_or_len p xs < length xs = ltb-true (position_or_len p xs) (length xs) t in
@@ -20,8 +20,8 @@ cut_at p xs k e = elim (cases_Bool (nat_lt (position_or_len p xs) (length xs))) 
   | inr f ↦ (let h : None ≡ Some k = rw f at e in absurd (let x : ⊥ = cc in x))
 ]
 
-pub not_cut : (p : ℕ → Bool) (xs : List ℕ) → position p xs ≡ None → slice_split p xs ≡ xs ∷ []
-not_cut p xs e = elim (cases_Bool (nat_lt (position_or_len p xs) (length xs))) [
+pub not_split : (p : ℕ → Bool) (xs : List ℕ) → position p xs ≡ None → slice_split p xs ≡ xs ∷ []
+not_split p xs e = elim (cases_Bool (nat_lt (position_or_len p xs) (length xs))) [
   | inl t ↦ (let f : Some (position_or_len p xs) ≡ None = rw t at e in absurd (let x : ⊥ = cc in x))
   | inr f ↦ one_piece p xs (le_antisymm (prefix_len-le-length (λ x. not (p x)) xs)
       (ltb-false (position_or_len p xs) (length xs) f))

@@ -2,12 +2,13 @@
 #![tactic(auto)]
 
 ghost use Rattle.std.specs.Prelude.{◌≡◌, ◌∷◌, ◌≤◌, ◌<◌, ◌^◌, ◌*◌, ◌+◌, [], false, true, min, IfSome, IfNone, position};
-ghost use Rattle.std.specs.List.{list_all, slice_split};
+ghost use Rattle.std.specs.List.{slice_split};
 ghost use Rattle.hyd_num.specs.Numeral as numeral;
-ghost use Rattle.hyd_num.specs.Numeral.{is_digit};
 ghost use Rattle.hyd_spec_input.specs.Moments as moments;
 ghost use Rattle.hyd_spec_input.specs.Moments.{is_colon};
 ghost use Rattle.hyd_option_and_rule_lines.specs.Hours as parts_form;
+
+use hyd_num::all_digits;
 
 /// A word between its colons.
 #[derive(Clone, Copy, Drop)]
@@ -42,12 +43,6 @@ fn split_colon(word: &[u8]) -> Option<(&[u8], &[u8])>
     None
 }
 
-fn all_digits(part: &[u8]) -> bool
-    ensures { result ≡ list_all is_digit part.now }
-{
-    part.iter().all(|byte| b'0' <= *byte && *byte <= b'9')
-}
-
 fn are_digits(part: &[u8], most: usize) -> bool
     ensures { result ≡ moments.are_digits most part.now }
 {
@@ -55,7 +50,7 @@ fn are_digits(part: &[u8], most: usize) -> bool
 }
 
 // Hours, minutes and seconds between colons.
-fn cut<'a>(word: &'a [u8]) -> Option<Parts<'a>>
+fn time_parts<'a>(word: &'a [u8]) -> Option<Parts<'a>>
     ensures some { IfSome result (λ p. slice_split is_colon word.now ≡ parts_form.pieces p) }
     ensures none { IfNone result (moments.are_parts (slice_split is_colon word.now) ≡ false) }
 {
@@ -134,7 +129,7 @@ pub(crate) fn clock_seconds(word: &[u8]) -> Option<u32>
         × (n ≡ moments.seconds_of_parts (slice_split is_colon word.now))) }
     ensures none { IfNone result (moments.are_parts (slice_split is_colon word.now) ≡ false) }
 {
-    let parts = cut(word)?;
+    let parts = time_parts(word)?;
     let hours = hours(parts.hours)?;
     let minutes = sixtieth(parts.minutes)?;
     let seconds = last_sixtieth(parts.seconds)?;

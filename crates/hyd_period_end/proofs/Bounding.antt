@@ -31,10 +31,10 @@ use Rattle.hyd_bounds.specs.VectorsInOrder.{TanksInOrder, IsVector, AreInOrder}
 use Rattle.hyd_tank.specs.StockIntervals.{IsInflow}
 use Rattle.hyd_period_facts.specs.declared.facts.Facts.{Facts}
 use Rattle.hyd_tank_inflows.specs.Inflows.{ArePinned}
-use Rattle.hyd_tank_inflows.proofs.Numbered.{as_long}
 use Rattle.hyd_rules_in_period.specs.Trial.{AreRead}
 use Rattle.hyd_watched_levels.specs.FactsBeforeEnd.{AreStarted, HaveTanks}
 use Rattle.hyd_period_end.specs.FactsBeforeVectors.{AreBegun, AreReady}
+use Rattle.hyd_lemmas.proofs.ListsOptionsAndResults.{as_long}
 
 -- ---- vectors
 

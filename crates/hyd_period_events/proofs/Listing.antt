@@ -15,7 +15,7 @@ use Rattle.hyd_spec_certificates.specs.declared.LevelSpan.{LevelSpan}
 use Rattle.hyd_spec_reports.specs.declared.Event.{Event}
 use Rattle.hyd_spec_reports.specs.Report.{tank_event, tank_events, events_of}
 use Rattle.hyd_period_events.specs.Events.{events_by}
-use Rattle.hyd_lemmas.proofs.ListsAndOptions.{item_there, present_push}
+use Rattle.hyd_lemmas.proofs.ListsOptionsAndResults.{item_there, present_push}
 
 -- ---- tanks
 

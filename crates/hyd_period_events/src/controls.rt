@@ -1,39 +1,21 @@
 //! Events of level controls.
 #![tactic(auto)]
 
-ghost use Rattle.std.specs.Prelude.{◌≡◌, ◌<◌, ◌≤◌, ◌+◌, ◌++◌, Some, length, map, slice_get, slice_index_or};
+ghost use Rattle.std.specs.Prelude.{◌≡◌, ◌<◌, ◌≤◌, ◌+◌, ◌++◌, Some, length, map, slice_get};
 ghost use Rattle.hyd_net.specs.Sound.{Sound};
 ghost use Rattle.hyd_net.specs.ControlsAndRules.{IsControl};
 ghost use Rattle.hyd_spec.specs.ProgramTypes.{Control as Each};
 ghost use Rattle.hyd_spec.specs.Lists.{map_from, present};
 ghost use Rattle.hyd_spec.specs.NodeNumbers.{tank_count};
 ghost use Rattle.hyd_spec_certificates.specs.Spans.{levels_of};
-ghost use Rattle.hyd_spec_certificates.specs.ThreeValuedLogic.{is_yes};
-ghost use Rattle.hyd_spec_certificates.specs.Decided.{acts_on, control_truth, nowhere};
+ghost use Rattle.hyd_spec_certificates.specs.Decided.{acts_on};
 ghost use Rattle.hyd_spec_reports.specs.Report.{control_event};
 
 use crate::event_list::add_event;
 use hyd_net::{Control, List, Project, When};
+use hyd_period_facts::{control_holds, level_at};
 use hyd_spec_certificates::LevelSpan;
 use hyd_spec_reports::{Event, EventKind};
-
-// Whether a level control holds on a whole level interval. ABOVE means at least, and BELOW at most.
-fn holds(level: &LevelSpan, above: bool, ticks: i64) -> bool
-    ensures { result ≡ is_yes (control_truth (levels_of level.now) above ticks) }
-{
-    if above {
-        level.lo >= ticks && level.hi >= ticks
-    } else {
-        level.lo <= ticks && level.hi <= ticks
-    }
-}
-
-fn level_at(levels: &[LevelSpan], tank: u32) -> LevelSpan
-    requires { tank < length levels.now }
-    ensures { levels_of result ≡ slice_index_or (map levels_of levels.now) tank nowhere }
-{
-    levels[tank as usize]
-}
 
 // Whether a level control holds at the levels of its tank.
 fn acts(levels: &[LevelSpan], tank: u32, above: bool, ticks: i64) -> bool
@@ -41,7 +23,7 @@ fn acts(levels: &[LevelSpan], tank: u32, above: bool, ticks: i64) -> bool
     ensures { result ≡ acts_on (map levels_of levels.now) tank above ticks }
 {
     let level = level_at(levels, tank);
-    holds(&level, above, ticks)
+    control_holds(&level, above, ticks)
 }
 
 // The event of a level control that didn't hold before and holds at the carried levels.

@@ -1,6 +1,6 @@
 //! The facts of a period.
 
-ghost use Rattle.std.specs.Prelude.{◌≡◌, ◌≤◌, [], length, IfOk};
+ghost use Rattle.std.specs.Prelude.{length, IfOk};
 ghost use Rattle.hyd_net.specs.Sound.{Sound};
 
 use hyd_controls_and_rules::Changes;
@@ -35,16 +35,6 @@ pub struct Facts {
     pub events: List<Event>,
 }
 
-/// The empty list, with room for so many items.
-fn with_room<T: Drop>(alloc: Global, items: usize) -> Result<List<T>, OutOfMemory>
-    ensures empty { IfOk result (λ list. list.list ≡ []) }
-    ensures room { IfOk result (λ list. items ≤ list.spare) }
-{
-    let mut list = List::new(alloc);
-    list.reserve(items)?;
-    Ok(list)
-}
-
 impl Facts {
     ghost use Rattle.hyd_period_facts.specs.ReservedMemory.{HasRoom, AreNone};
 
@@ -60,13 +50,13 @@ impl Facts {
         Ok(Facts {
             time: 0,
             length: 0,
-            levels: with_room(alloc, tanks)?,
-            volumes: with_room(alloc, tanks)?,
-            inflows: with_room(alloc, tanks)?,
-            tanks: with_room(alloc, tanks)?,
-            links: with_room(alloc, links)?,
+            levels: List::with_room(alloc, tanks)?,
+            volumes: List::with_room(alloc, tanks)?,
+            inflows: List::with_room(alloc, tanks)?,
+            tanks: List::with_room(alloc, tanks)?,
+            links: List::with_room(alloc, links)?,
             changes: Changes::open(alloc, project)?,
-            events: with_room(alloc, tanks + controls)?,
+            events: List::with_room(alloc, tanks + controls)?,
         })
     }
 }

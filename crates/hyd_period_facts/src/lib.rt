@@ -2,5 +2,7 @@
 #![tactic(auto)]
 
 mod facts;
+mod levels;
 
 pub use facts::Facts;
+pub use levels::{add_level, control_holds, level_at};

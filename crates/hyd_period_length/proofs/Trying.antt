@@ -9,7 +9,8 @@ use Rattle.hyd_spec.specs.declared.Change.{Change}
 use Rattle.hyd_spec.specs.Rules.{acted, rule_changes}
 use Rattle.hyd_spec_certificates.specs.PeriodNetwork.{Grid}
 use Rattle.hyd_spec_certificates.specs.RecordAndStanding.{Record, Standing}
-use Rattle.hyd_spec_certificates.specs.ThreeValuedLogic.{No, is_yes, is_unknown}
+use Rattle.hyd_spec_certificates.specs.declared.Verdict.TheVariants.{No}
+use Rattle.hyd_spec_certificates.specs.ThreeValuedLogic.{is_yes, is_unknown}
 use Rattle.hyd_spec_certificates.specs.Decided.{links_at, rule_truths, decided_changes, IsTried, RulesMatter, OpenRule}
 use Rattle.hyd_spec_certificates.specs.Decided.{IsOpenRule}
 use Rattle.hyd_theorems_on_nesting.specs.Nesting.{IsWalked}

@@ -1,7 +1,6 @@
 -- From one instant at which the rules are tried to the next, whatever period the facts are of.
-use Rattle.std.proofs.Common.{◌≡◌, ℕ, ◌+◌, ◌*◌, ◌-◌, ◌/◌, ◌%◌, ◌<◌, ◌≤◌, ℤ, List, ap, sym, ◌∙◌, subst, arith}
-use Rattle.std.proofs.lemmas.Nat.{div-add-mod'}
-use Rattle.std.proofs.Math.Nat.{mod-lt, mul-mod_left, add-mod_right}
+use Rattle.std.proofs.Common.{◌≡◌, ℕ, ◌+◌, ◌-◌, ◌%◌, ◌<◌, ◌≤◌, ℤ, List, ap, sym, ◌∙◌, subst, arith}
+use Rattle.std.proofs.Math.Nat.{add-mod_right}
 use Rattle.hyd_num.specs.declared.decimals.Span.{Span}
 use Rattle.hyd_spec.specs.ProgramTypes.{Project, LinkState}
 use Rattle.hyd_spec.specs.declared.Change.{Change}
@@ -13,15 +12,7 @@ use Rattle.hyd_period_length.specs.declared.end_kinds.Ending.{Ending}
 use Rattle.hyd_period_length.specs.Endings.{ForPeriod, IsBrought, IsFirstBrought}
 use Rattle.hyd_period_length.proofs.Trying.{brought_first}
 
--- a time less what it is past a multiple of a step, and a step more, is a multiple
-pub first_multiple : (time step : ℕ) → 1 ≤ step → (time + (step - time % step)) % step ≡ 0
-first_multiple time step some =
-    let a = div-add-mod' time step in
-    let b : time % step < step = mod-lt time some in
-    let e : time + (step - time % step) ≡ ((time / step) + 1) * step = omega (arith, a, b) in
-    ap (λ (m : ℕ). m % step) e ∙ mul-mod_left ((time / step) + 1) step
-
--- and so is a multiple and a step more
+-- a multiple and a step more is a multiple
 pub next_multiple : (time seconds step : ℕ) → (time + seconds) % step ≡ 0 → (time + (seconds + step)) % step ≡ 0
 next_multiple time seconds step multiple =
     let e : time + (seconds + step) ≡ (time + seconds) + step = omega arith in

@@ -10,7 +10,7 @@ use Rattle.hyd_law.specs.declared.link_law.LinkLaw.{LinkLaw}
 use Rattle.hyd_period_network.specs.declared.net_types.Setting.{Setting}
 use Rattle.hyd_period_network.specs.LawsInSettings.{Represents, AreLawsOf, AreLaws, IsClosedLaw, AreClosed}
 use Rattle.hyd_period_network.specs.LawsInSettings.{closed_setting}
-use Rattle.hyd_lemmas.proofs.ListsAndOptions.{any_default}
+use Rattle.hyd_lemmas.proofs.ListsOptionsAndResults.{any_default}
 use Rattle.hyd_period_network.proofs.Ranging.{closed_is}
 use Rattle.hyd_period_network.proofs.SettingOne.{same_or}
 use Rattle.std.proofs.lemmas.List.{get_or_append_left, get_or-append_right}

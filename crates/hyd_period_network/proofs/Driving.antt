@@ -1,8 +1,7 @@
 -- The demands of a period: the first that is out of range, and the laws of those that are in range.
 use Rattle.std.proofs.Common.{◌≡◌, ◌⊎◌, ℕ, ◌+◌, ◌^◌, ◌<◌, ◌≤◌, ℤ, pos, ◌≤ℤ◌, Bool, true, false, List, [], None, length}
 use Rattle.std.proofs.Common.{slice_index_or, slice_set, unsigned_abs, refl, sym, ap, subst, ◌∙◌, inl, inr, arith}
-use Rattle.std.specs.Prelude.{int_le, Option}
-use Rattle.std.specs.Option.{option_map_or}
+use Rattle.std.specs.Prelude.{int_le}
 use Rattle.std.proofs.lemmas.Int.{ints}
 use Rattle.std.proofs.lemmas.Option.{slice_get-get_or, get_or_from_slice_get}
 use Rattle.hyd_num.specs.CapacityPairs.{IsMade}
@@ -17,9 +16,10 @@ use Rattle.hyd_spec.specs.Outflow.{is_pressure_driven}
 use Rattle.hyd_spec_certificates.specs.EnclosingFunctions.{Driven}
 use Rattle.hyd_spec_certificates.specs.Valid.{DemandsAreInRange}
 use Rattle.hyd_spec_reports.specs.Stops.{IsFirstDemand}
-use Rattle.hyd_lemmas.proofs.ListsAndOptions.{any_default}
+use Rattle.hyd_lemmas.proofs.ListsOptionsAndResults.{any_default}
 use Rattle.hyd_theorems_on_definitions.proofs.EachLaw.{IsSoundCapacity-made}
 use Rattle.hyd_demand.specs.DemandsAndHeadsByNumber.{junction_demand}
+use Rattle.hyd_demand.proofs.Reading.{demand_read}
 use Rattle.hyd_law.specs.ComposedLaws.{IsLift}
 use Rattle.hyd_law.specs.declared.demand_kinds.OutLaw.{OutLaw}
 use Rattle.hyd_law.specs.declared.demand_kinds.OutLaw.TheVariants.{Fixed as FixedOut, Pda as PdaOut}
@@ -87,11 +87,6 @@ pub fixed_is : (project : Project) (demand : ℤ) → is_pressure_driven project
 fixed_is project demand e = record { is_law = rw e refl; sound = tt; accepts = λ p le. tt }
 
 -- ---- the first demand that is out of range
-
-demand_read : (project : Project) (time k : ℕ) (d : Junction) → k < length project.junctions.list
-    → junction_demand project time k ≡ demand_of project time (slice_index_or project.junctions.list k d)
-demand_read project time k d h = ap (λ (o : Option Junction). option_map_or (λ j. demand_of project time j) o (pos 0))
-    (slice_get-get_or project.junctions.list k d h)
 
 nobody : Junction
 nobody = record { elevation = pos 0; demands = record { list = []; spare = 0 }; emitter = None }

@@ -5,13 +5,13 @@ use Rattle.std.proofs.Common.{append_assoc, slice_index_or, unsigned_abs, refl, 
 use Rattle.std.specs.Prelude.{int_lt, All}
 use Rattle.std.specs.Int.{w128}
 use Rattle.std.proofs.Common.{FitsSigned}
-use Rattle.std.proofs.Math.IntN.{*ℤ_comm, zero-*ℤ, negsuc-*ℤ-pos, negsuc-*ℤ-negsuc}
+use Rattle.std.proofs.Math.IntN.{*ℤ_comm}
 use Rattle.std.proofs.lemmas.Int.{ints}
 use Rattle.std.proofs.lemmas.List.{length-map, get_or-map, length-reverse, get_or-reverse, map-append, length-append}
 use Rattle.std.proofs.lemmas.List.{append-nil, drop_all}
 use Rattle.std.proofs.lemmas.List.Elements.{All-append}
 use Rattle.hyd_num.specs.Rational.{whole, is_at_most}
-use Rattle.hyd_num.proofs.Integers.{times_reflects, one_times}
+use Rattle.hyd_num.proofs.Integers.{times_reflects, one_times, both_below, times_one_right}
 use Rattle.hyd_net.specs.Curves.{Knot as Place, value_at, head_knots, IsPumpCurve, IsLossCurve}
 use Rattle.hyd_net.specs.NumberRanges.{Lies}
 use Rattle.hyd_net.specs.States.{IsSpeed}
@@ -25,16 +25,6 @@ use Rattle.hyd_law.specs.declared.law_kinds.Knot.{Knot}
 use Rattle.hyd_law.specs.Curves.{IsKnot, IsCurve, places, place_of}
 
 -- ---- the heads of a pump's points
-
-not_below : (x y : ℤ) → x ≤ℤ pos 0 → y ≤ℤ pos 0 → pos 0 ≤ℤ (x *ℤ y)
-not_below (pos zero) y f g = omega (arith, ints, zero-*ℤ y)
-not_below (pos (suc n)) y f g = absurd (omega (arith, ints, f))
-not_below (negsuc m) (pos zero) f g = omega (arith, ints, negsuc-*ℤ-pos m 0)
-not_below (negsuc m) (pos (suc n)) f g = absurd (omega (arith, ints, g))
-not_below (negsuc m) (negsuc n) f g = rw (negsuc-*ℤ-negsuc m n) (omega (arith, ints))
-
-times_one_right : (z : ℤ) → z *ℤ pos 1 ≡ z
-times_one_right z = *ℤ_comm z (pos 1) ∙ one_times z
 
 -- the line of two points by rising flows and falling heads has at flow 0 at least the first head
 line_from : (w : ℕ) (a m r : ℤ) → 0 < w → pos 0 ≤ℤ r → (((pos w *ℤ a) +ℤ r) *ℤ pos 1) ≤ℤ (m *ℤ pos w) → a ≤ℤ m
@@ -53,7 +43,7 @@ first_low x y z rest forward rise fall most =
     ≤ℤ (pos (10 ^ 16) *ℤ pos w) =
     le-yes _ _ (rw (later, apart) at most) in
     line_from w x.head (pos (10 ^ 16)) ((y.head -ℤ x.head) *ℤ (pos 0 -ℤ (pos 1 *ℤ x.flow))) (omega (arith, ints, rise))
-    (not_below (y.head -ℤ x.head) (pos 0 -ℤ (pos 1 *ℤ x.flow)) (omega (arith, ints, fall))
+    (both_below (y.head -ℤ x.head) (pos 0 -ℤ (pos 1 *ℤ x.flow)) (omega (arith, ints, fall))
     (omega (arith, ints, one_times x.flow, forward)))
     (let e : 1 * w ≡ w = omega arith in rw e at le)
 

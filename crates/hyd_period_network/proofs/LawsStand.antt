@@ -14,6 +14,7 @@ use Rattle.hyd_spec.specs.LinkLaw.{greatest_flow}
 use Rattle.hyd_spec.specs.Scale.{at_scale}
 use Rattle.hyd_spec.specs.Law.{Relation, flow_at_least, flow_at_most, Law, Shut as ShutLaw, QuadraticLaw, LinearLaw}
 use Rattle.hyd_spec.specs.Law.{Lifted, ForwardOnly, ReverseOnly, Capped as CappedLaw, Bent as BentLaw, Held as HeldLaw}
+use Rattle.hyd_spec_certificates.specs.Certificate.{box_limit}
 use Rattle.hyd_spec_certificates.specs.EnclosingFunctions.{quadratic_low, quadratic_high, low, high}
 use Rattle.hyd_lemmas.proofs.Integers.{max_left, max_right, max_is, min_left, min_right, min_is}
 use Rattle.hyd_theorems_on_definitions.proofs.EachLaw.{IsSoundCapacity-made}
@@ -318,7 +319,7 @@ made_one_way : (forward : Bool) (law r : LinkLaw) (of : Law) → Stands law of
     → ((S : ℕ) (x a : ℤ) → link_at_most r S x a ↔ directed_at_most forward (link_at_most law) S x a)
     → ((d : ℤ) → link_low r d ≡ directed forward (link_low law d))
     → ((d : ℤ) → link_high r d ≡ directed forward (link_high law d))
-    → IsSoundLink r → ((d : ℤ) → unsigned_abs d ≤ 2 * 10 ^ 18 → LinkAccepts r d) → Stands r (one_way_law forward of)
+    → IsSoundLink r → ((d : ℤ) → unsigned_abs d ≤ 2 * box_limit → LinkAccepts r d) → Stands r (one_way_law forward of)
 made_one_way forward law r of s least most l h sound accepts = record {
   at_least_is = λ S x a. both_ways (least S x a) (directed_least forward of (link_at_least law) S x a
       (s.at_least_is S x a));

@@ -8,7 +8,7 @@ use Rattle.hyd_spec.specs.DemandsReservoirHeadsAndCurves.{is_us}
 use Rattle.hyd_law.specs.declared.link_law.LinkLaw.{LinkLaw}
 use Rattle.hyd_period_network.specs.declared.net_types.Setting.{Setting}
 use Rattle.hyd_period_network.specs.LawsInSettings.{AreLawsOf, AreLaws, AreSet, setting_of}
-use Rattle.hyd_lemmas.proofs.ListsAndOptions.{any_default}
+use Rattle.hyd_lemmas.proofs.ListsOptionsAndResults.{any_default}
 
 pub same_or : (k i : ℕ) → (k ≡ i) ⊎ (k ≢ i)
 same_or zero zero = inl refl

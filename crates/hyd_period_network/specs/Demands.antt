@@ -1,9 +1,10 @@
 -- The laws of junctions' demands at a time.
 -- Source: EPANET 2.2 User Manual, chapter 3 (demands, pressure-driven demand).
-use Rattle.std.specs.Prelude.{◌≡◌, ◌<◌, ◌≤◌, ◌*◌, ◌^◌, ℕ, ℤ, unsigned_abs, List, length, slice_index_or}
+use Rattle.std.specs.Prelude.{◌≡◌, ◌<◌, ◌≤◌, ◌*◌, ℕ, ℤ, unsigned_abs, List, length, slice_index_or}
 use Rattle.std.specs.Option.{option_map}
 use Rattle.hyd_spec.specs.ProgramTypes.{Project, Junction}
 use Rattle.hyd_spec.specs.DemandsReservoirHeadsAndCurves.{demand_of, pressure_value}
+use Rattle.hyd_spec_certificates.specs.Certificate.{box_limit}
 use Rattle.hyd_spec_certificates.specs.EnclosingFunctions.{DemandLaw, Fixed, Driven}
 use Rattle.hyd_spec_certificates.specs.PeriodNetwork.{IsDemandLaw}
 use Rattle.hyd_law.specs.DemandLaws.{IsSoundOut, OutAccepts}
@@ -23,11 +24,11 @@ demand_held (FixedOut l) = l.demand
 demand_held (PdaOut l) = l.demand
 
 -- a law is that of a demand in a project: driven by pressure or fixed, its numbers are sound, and it accepts each
--- pressure of at most 2 * 10^18 head ticks
+-- difference of two heads of the box as pressure
 pub record IsOutLawOf (project : Project) (demand : ℤ) (law : OutLaw) : Type 0 where
   pub is_law : IsDemandLaw project demand (demand_of_law law)
   pub sound : IsSoundOut law
-  pub accepts : (p : ℤ) → unsigned_abs p ≤ 2 * 10 ^ 18 → OutAccepts law p
+  pub accepts : (p : ℤ) → unsigned_abs p ≤ 2 * box_limit → OutAccepts law p
 
 -- a law is that of the demand that it holds
 abbrev pub IsHeld : Project → OutLaw → Type 0

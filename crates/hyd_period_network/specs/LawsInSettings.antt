@@ -16,6 +16,7 @@ use Rattle.hyd_spec.specs.NodeNumbers.{is_tank, tank_number}
 use Rattle.hyd_spec.specs.DemandsReservoirHeadsAndCurves.{is_us, shutoff_head, points_of}
 use Rattle.hyd_spec.specs.Law.{Law, Shut, ForwardOnly, ReverseOnly, flow_at_least, flow_at_most}
 use Rattle.hyd_spec.specs.LinkLaw.{own_law, forbids_forward, forbids_reverse}
+use Rattle.hyd_spec_certificates.specs.Certificate.{box_limit}
 use Rattle.hyd_spec_certificates.specs.EnclosingFunctions.{low, high}
 use Rattle.hyd_law.specs.LinkLaws.{link_at_least, link_at_most, link_low, link_high, IsSoundLink, LinkAccepts}
 use Rattle.hyd_law.specs.declared.link_law.LinkLaw.{LinkLaw}
@@ -24,14 +25,14 @@ use Rattle.hyd_period_network.specs.ExactLaw.{exact_law}
 use Rattle.hyd_period_network.specs.declared.net_types.Setting.{Setting}
 
 -- a law of the program stands for an exact law: it says the same of the exact flow, it has its enclosing functions, its
--- numbers are sound, and it accepts each difference of two heads of at most 10^18 head ticks
+-- numbers are sound, and it accepts each difference of two heads of the box
 pub record Stands (law : LinkLaw) (exact : Law) : Type 0 where
   pub at_least_is : (S : ℕ) (x a : ℤ) → link_at_least law S x a ↔ flow_at_least exact S x a
   pub at_most_is : (S : ℕ) (x a : ℤ) → link_at_most law S x a ↔ flow_at_most exact S x a
   pub low_is : (d : ℤ) → link_low law d ≡ low exact d
   pub high_is : (d : ℤ) → link_high law d ≡ high exact d
   pub sound : IsSoundLink law
-  pub accepts : (d : ℤ) → unsigned_abs d ≤ 2 * 10 ^ 18 → LinkAccepts law d
+  pub accepts : (d : ℤ) → unsigned_abs d ≤ 2 * box_limit → LinkAccepts law d
 
 -- a link's own law stands for an exact law, and is that very one
 pub record Represents (law : LinkLaw) (exact : Law) : Type 0 where
@@ -124,14 +125,14 @@ AreClosed project links laws = (k : ℕ) (link : Link) (law : LinkLaw) → k < l
     → IsClosedLaw project.bends.list (slice_index_or links k link).kind (slice_index_or laws k law)
 
 -- a kind without a curve by straight lines
-abbrev pub IsPlain : LinkKind → Type 0
-IsPlain (PipeLink cap) = ⊤
-IsPlain (CheckPipe cap) = ⊤
-IsPlain (PumpLink cap shutoff head pattern) = ⊤
-IsPlain (CurvePump bend pattern) = ⊥
-IsPlain (Tcv valve) = ⊤
-IsPlain (Fcv valve) = ⊤
-IsPlain (Gpv bend) = ⊥
+abbrev pub HasNoCurve : LinkKind → Type 0
+HasNoCurve (PipeLink cap) = ⊤
+HasNoCurve (CheckPipe cap) = ⊤
+HasNoCurve (PumpLink cap shutoff head pattern) = ⊤
+HasNoCurve (CurvePump bend pattern) = ⊥
+HasNoCurve (Tcv valve) = ⊤
+HasNoCurve (Fcv valve) = ⊤
+HasNoCurve (Gpv bend) = ⊥
 
 -- a shutoff head of at most 10^16 head ticks either way
 abbrev pub IsShutoff : Bool → ShutoffHead → Type 0

@@ -3,6 +3,7 @@ use Rattle.std.specs.Prelude.{◌≡◌, ℕ, ◌<◌, ◌≤◌, ◌*◌, ◌^�
 use Rattle.std.specs.Prelude.{true, false, ⊤}
 use Rattle.std.specs.Option.{IfSome}
 use Rattle.hyd_net.specs.NumberRanges.{IsHead}
+use Rattle.hyd_spec_certificates.specs.Certificate.{box_limit}
 use Rattle.hyd_spec_certificates.specs.declared.Problem.{Problem}
 use Rattle.hyd_spec_certificates.specs.declared.Problem.TheVariants.{Main, Pinned}
 use Rattle.hyd_spec_certificates.specs.declared.Side.{Side}
@@ -25,10 +26,10 @@ pub record IsSoundJunction (junction : NetJunction) : Type 0 where
   pub elevation : IsHead junction.elevation
   pub emitter : IfSome junction.emitter (λ law. IsSoundCapacity (capacity_of law))
 
--- a demand is sound, and it is computed at each pressure of at most 2 * 10^18 head ticks
+-- a demand is sound, and it is computed at each difference of two heads of the box as pressure
 pub record IsSoundDemand (law : OutLaw) : Type 0 where
   pub sound : IsSoundOut law
-  pub accepts : (p : ℤ) → unsigned_abs p ≤ 2 * 10 ^ 18 → OutAccepts law p
+  pub accepts : (p : ℤ) → unsigned_abs p ≤ 2 * box_limit → OutAccepts law p
 
 -- both ends of a tank's heads are in the file's range
 pub record AreHeads (span : LevelSpan) : Type 0 where

@@ -8,6 +8,7 @@ ghost use Rattle.hyd_spec.specs.Assignment.{head_at};
 ghost use Rattle.hyd_spec.specs.Law.{Law};
 ghost use Rattle.hyd_spec_certificates.specs.EnclosingFunctions.{demand_low, demand_high};
 ghost use Rattle.hyd_spec_certificates.specs.PeriodNetwork.{all_heads, tank_side};
+ghost use Rattle.hyd_spec_certificates.specs.Certificate.{box_limit};
 ghost use Rattle.hyd_spec_certificates.specs.NetOutflow.{net, link_ends, margin};
 ghost use Rattle.hyd_theorems_on_definitions.specs.TermsOfTheorems.{IsSteady, IsSoundCapacity};
 ghost use Rattle.hyd_law.specs.LinkLaws.{IsSoundLink, LinkAccepts};
@@ -88,7 +89,7 @@ impl Net {
         ensures grid { IfSome (slice_get (grid_of self.now).junctions junction)
             (λ j. j.demand ≡ demand_of_law result.now) }
         ensures sound { IsSoundOut result.now }
-        ensures accepts { (p : ℤ) → unsigned_abs p ≤ 2 * 10 ^ 18 → OutAccepts result.now p }
+        ensures accepts { (p : ℤ) → unsigned_abs p ≤ 2 * box_limit → OutAccepts result.now p }
         ensures low { (p : ℤ) → out_low result.now p ≡ demand_low (demand_of_law result.now) p }
         ensures high { (p : ℤ) → out_high result.now p ≡ demand_high (demand_of_law result.now) p }
     {
@@ -128,7 +129,7 @@ impl Net {
         ensures value { slice_get self.now.laws link ≡ Some result.now }
         ensures stands { IfSome (slice_get (grid_of self.now).links link) (λ l. Stands result.now l.law) }
         ensures sound { IsSoundLink result.now }
-        ensures accepts { (d : ℤ) → unsigned_abs d ≤ 2 * 10 ^ 18 → LinkAccepts result.now d }
+        ensures accepts { (d : ℤ) → unsigned_abs d ≤ 2 * box_limit → LinkAccepts result.now d }
     {
         &self.laws[link as usize]
     }
@@ -140,7 +141,7 @@ impl Net {
         requires pinned { HasProblem self.now problem }
         ensures value { (u : List ℤ) → length u ≡ length self.now.junctions
             → result ≡ head_at (all_heads (grid_of self.now) problem side u) node }
-        ensures small { unsigned_abs result ≤ 10 ^ 18 }
+        ensures small { unsigned_abs result ≤ box_limit }
     {
         let before = self.junctions.len();
         let number = node as usize - before;

@@ -22,7 +22,8 @@ use crate::pumps::{SQUARED_BILLION, product, squared_times};
 use hyd_law::{Bent, Held, Knot, LinkLaw};
 use hyd_net::{HeadPoint, LinkState, List, Project};
 
-const GREATEST_FLOW: i64 = 100_000_000_000_000_000;
+// What a curve by straight lines passes at most, in flow ticks.
+const GREATEST_CURVE_FLOW: i64 = 100_000_000_000_000_000;
 
 const BILLION: i128 = 1_000_000_000;
 
@@ -182,7 +183,7 @@ fn running_curve(points: &[HeadPoint], speed: i64, room: List<Knot>) -> LinkLaw
     write_pump_knots(points, speed, &mut knots);
     LinkLaw::Bent(Held {
         least: 0,
-        most: GREATEST_FLOW,
+        most: GREATEST_CURVE_FLOW,
         inner: Bent { knots },
     })
 }
@@ -197,8 +198,8 @@ fn open_curve(points: &[HeadPoint], room: List<Knot>) -> LinkLaw
     let mut knots = room;
     write_valve_knots(points, &mut knots);
     LinkLaw::Bent(Held {
-        least: -GREATEST_FLOW,
-        most: GREATEST_FLOW,
+        least: -GREATEST_CURVE_FLOW,
+        most: GREATEST_CURVE_FLOW,
         inner: Bent { knots },
     })
 }

@@ -1,7 +1,7 @@
 //! Demands of a period.
 #![tactic(auto)]
 
-ghost use Rattle.std.specs.Prelude.{◌≡◌, ◌⊎◌, ◌<◌, ◌≤◌, ◌+◌, ◌^◌, pos, ◌≤ℤ◌, unsigned_abs, length, true, IfOk, IfErr};
+ghost use Rattle.std.specs.Prelude.{◌≡◌, ◌⊎◌, ◌<◌, ◌≤◌, ◌+◌, ◌^◌, pos, ◌≤ℤ◌, length, true, IfOk, IfErr};
 ghost use Rattle.hyd_net.specs.NetworkRanges.{HasOptions};
 ghost use Rattle.hyd_net.specs.Sound.{Sound};
 ghost use Rattle.hyd_spec_certificates.specs.Valid.{DemandsAreInRange};
@@ -21,7 +21,7 @@ fn driven_law(project: &Project, demand: i64) -> OutLaw
     requires options { HasOptions project.now.options project.now.patterns.list }
     requires driven { project.now.options.pda ≡ true }
     requires demanded { pos 1 ≤ℤ demand }
-    requires in_range { unsigned_abs demand ≤ 10 ^ 15 }
+    requires in_range { IsInRange demand }
     ensures law { IsOutLawOf project.now demand result }
     ensures held { demand_held result ≡ demand }
 {
@@ -42,7 +42,7 @@ fn driven_law(project: &Project, demand: i64) -> OutLaw
 // The law of a demand.
 fn out_law(project: &Project, demand: i64) -> OutLaw
     requires options { HasOptions project.now.options project.now.patterns.list }
-    requires in_range { unsigned_abs demand ≤ 10 ^ 15 }
+    requires in_range { IsInRange demand }
     ensures law { IsOutLawOf project.now demand result }
     ensures held { demand_held result ≡ demand }
 {
@@ -64,7 +64,7 @@ fn demand_held(law: &OutLaw) -> i64
 // Makes a law that of a demand. Where it is, nothing is written.
 fn set_demand(project: &Project, demand: i64, law: &mut OutLaw)
     requires options { HasOptions project.now.options project.now.patterns.list }
-    requires in_range { unsigned_abs demand ≤ 10 ^ 15 }
+    requires in_range { IsInRange demand }
     requires held { IsHeld project.now law.old }
     ensures law { IsOutLawOf project.now demand law.new }
     ensures held { demand_held law.new ≡ demand }

@@ -15,8 +15,8 @@ ghost use Rattle.hyd_spec.specs.Law as exact;
 ghost use Rattle.hyd_spec.specs.LinkLaw as spec;
 ghost use Rattle.hyd_spec.specs.DemandsReservoirHeadsAndCurves.{is_us};
 ghost use Rattle.hyd_period_network.specs.ExactLaw.{one_way_law};
-ghost use Rattle.hyd_period_network.specs.LawsInSettings.{Stands, Represents, HasRoom, HasRoomFor, IsPlain, IsLawMade};
-ghost use Rattle.hyd_period_network.specs.LawsInSettings.{HasShutoff};
+ghost use Rattle.hyd_period_network.specs.LawsInSettings.{Stands, Represents, HasRoom, HasRoomFor, HasNoCurve};
+ghost use Rattle.hyd_period_network.specs.LawsInSettings.{HasShutoff, IsLawMade};
 ghost use Rattle.hyd_period_network.specs.LawsInSettings.{CanStand, AreLawsOf, IsShutBetween, restricted};
 
 use crate::curves::{closed_curve, curve_pump_law, curve_valve_law, knots_of, points_of};
@@ -55,7 +55,7 @@ fn limited(ticks: i64, valve: &OpenValve) -> LinkLaw
 
 // The law of a link that is fully open.
 fn open_law(kind: &LinkKind) -> LinkLaw
-    requires plain { IsPlain kind.now }
+    requires no_curve { HasNoCurve kind.now }
     requires made { IsLawMade kind.now }
     ensures { (us : Bool) (bends : List (ListView HeadPoint))
         → Represents result (spec.own_law us bends kind.now Open) }
@@ -76,7 +76,7 @@ fn open_law(kind: &LinkKind) -> LinkLaw
 
 // The law of a link at a speed.
 fn running_law(us: bool, kind: &LinkKind, speed: i64) -> LinkLaw
-    requires plain { IsPlain kind.now }
+    requires no_curve { HasNoCurve kind.now }
     requires made { IsLawMade kind.now }
     requires head { HasShutoff us kind.now }
     requires speed { IsSpeed speed }
@@ -128,8 +128,8 @@ fn limited_law(kind: &LinkKind, ticks: i64) -> LinkLaw
 }
 
 // The law of a link without a curve by straight lines in a state.
-fn plain_law(project: &Project, kind: &LinkKind, state: &LinkState) -> LinkLaw
-    requires plain { IsPlain kind.now }
+fn law_without_curve(project: &Project, kind: &LinkKind, state: &LinkState) -> LinkLaw
+    requires no_curve { HasNoCurve kind.now }
     requires can { CanStand project.now kind.now state.now }
     ensures { Represents result (spec.own_law (is_us project.now) project.now.bends.list kind.now state.now) }
 {
@@ -153,16 +153,16 @@ fn own_law(project: &Project, kind: &LinkKind, state: &LinkState, held: LinkLaw)
     ensures room { HasRoomFor project.now.bends.list kind.now result }
 {
     match kind {
-        LinkKind::Pipe(_) => plain_law(project, kind, state),
-        LinkKind::CheckPipe(_) => plain_law(project, kind, state),
-        LinkKind::Pump { .. } => plain_law(project, kind, state),
+        LinkKind::Pipe(_) => law_without_curve(project, kind, state),
+        LinkKind::CheckPipe(_) => law_without_curve(project, kind, state),
+        LinkKind::Pump { .. } => law_without_curve(project, kind, state),
         LinkKind::CurvePump { bend, pattern: _ } => curve_pump_law(
             points_of(project, *bend),
             state,
             knots_of(held),
         ),
-        LinkKind::Tcv { .. } => plain_law(project, kind, state),
-        LinkKind::Fcv { .. } => plain_law(project, kind, state),
+        LinkKind::Tcv { .. } => law_without_curve(project, kind, state),
+        LinkKind::Fcv { .. } => law_without_curve(project, kind, state),
         LinkKind::Gpv { bend } => curve_valve_law(points_of(project, *bend), state, knots_of(held)),
     }
 }

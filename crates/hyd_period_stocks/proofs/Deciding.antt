@@ -15,9 +15,9 @@ use Rattle.hyd_spec_certificates.specs.Decided.{nowhere}
 use Rattle.hyd_spec_certificates.specs.Valid.{AreStates}
 use Rattle.hyd_spec_reports.specs.Stops.{open_states}
 use Rattle.hyd_tank.specs.StockIntervals.{IsTankOfRange}
-use Rattle.hyd_lemmas.proofs.ListsAndOptions.{item_is, item_there}
+use Rattle.hyd_lemmas.proofs.ListsOptionsAndResults.{item_is, item_there, as_long}
 use Rattle.hyd_controls_and_rules.proofs.Positions as places
-use Rattle.hyd_tank_inflows.proofs.Numbered.{placed_first, as_long}
+use Rattle.hyd_tank_inflows.proofs.Numbered.{placed_first}
 
 -- the levels of a tank of a sound network
 pub range_of : (project : Project) → Sound project → (k : ℕ) (tank : Tank) → k < length project.tanks.list

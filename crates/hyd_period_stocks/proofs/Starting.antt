@@ -17,7 +17,7 @@ use Rattle.hyd_spec_certificates.specs.Valid.{AreStates}
 use Rattle.hyd_spec_certificates.specs.declared.LevelSpan.{LevelSpan}
 use Rattle.hyd_tank.specs.StockIntervals.{initial_stocks, AreHeld, volumes_of}
 use Rattle.hyd_tank.specs.declared.stock_intervals.VolumeSpan.{VolumeSpan}
-use Rattle.hyd_lemmas.proofs.ListsAndOptions.{item_is, item_there, same_from}
+use Rattle.hyd_lemmas.proofs.ListsOptionsAndResults.{item_is, item_there, same_from, somes_same}
 use Rattle.hyd_period_stocks.specs.TankStart.{stocks_among, IsFirstOpen}
 use Rattle.hyd_period_stocks.specs.declared.states.TankOpen.{TankOpen}
 use Rattle.hyd_theorems_on_histories.proofs.Beginning.{shared-same}
@@ -109,15 +109,6 @@ states_at_start project =
     (ap (state_of tank) (item_of (λ (t : Tank). exactly t.initial) project.tanks.list k tank nowhere at)
     ∙ shared-same (state tank)))
     ∙ plain state 0 project.tanks.list
-
-somes_same : {X : Type 0} (xs ys : List X) → map {B = Option X} Some xs ≡ map {B = Option X} Some ys → xs ≡ ys
-somes_same {X} [] [] e = refl
-somes_same {X} [] (y ∷ ys) e = absurd (cc)
-somes_same {X} (x ∷ xs) [] e = absurd (cc)
-somes_same {X} (x ∷ xs) (y ∷ ys) e =
-    let here : x ≡ y = cc in
-    let rest : map {B = Option X} Some xs ≡ map {B = Option X} Some ys = cc in
-    ap (λ (z : X). z ∷ xs) here ∙ ap (λ (zs : List X). y ∷ zs) (somes_same xs ys rest)
 
 -- none is open there
 pub none_at_start : (project : Project) (levels : List Interval) (result : Result (Unit {0}) TankOpen)

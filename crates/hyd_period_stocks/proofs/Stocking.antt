@@ -17,7 +17,7 @@ use Rattle.hyd_spec_certificates.specs.declared.LevelSpan.{LevelSpan}
 use Rattle.hyd_tank.specs.StockIntervals.{AreHeld, volumes_of}
 use Rattle.hyd_tank.specs.declared.stock_intervals.VolumeSpan.{VolumeSpan}
 use Rattle.hyd_period_facts.specs.declared.facts.Facts.{Facts}
-use Rattle.hyd_lemmas.proofs.ListsAndOptions.{item_is, same_from}
+use Rattle.hyd_lemmas.proofs.ListsOptionsAndResults.{item_is, same_from}
 use Rattle.hyd_tank_inflows.proofs.Numbered.{placed_first}
 use Rattle.hyd_watched_levels.specs.FactsBeforeEnd.{AreStarted, inflow_in}
 use Rattle.hyd_watched_levels.proofs.Reaching.{stocks_are, inflow_is}

@@ -12,8 +12,9 @@ ghost use Rattle.hyd_tank.specs.StockIntervals.{AreHeld, volumes_of};
 ghost use Rattle.hyd_period_stocks.specs.TankStart.{stocks_among};
 
 use crate::states::put_states;
-use crate::stocks::{add_level, add_volume};
+use crate::stocks::add_volume;
 use hyd_net::{List, Project};
+use hyd_period_facts::add_level;
 use hyd_spec::TankState;
 use hyd_spec_certificates::LevelSpan;
 use hyd_tank::{VolumeSpan, initial_stock};

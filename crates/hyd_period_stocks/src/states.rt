@@ -12,10 +12,11 @@ ghost use Rattle.hyd_spec_certificates.specs.Decided.{nowhere};
 ghost use Rattle.hyd_spec_certificates.specs.Valid.{AreStates};
 ghost use Rattle.hyd_period_stocks.specs.TankStart.{IsFirstOpen};
 
-use hyd_net::{List, Project, Tank};
+use hyd_net::{List, Project};
+use hyd_period_facts::level_at;
 use hyd_spec::TankState;
 use hyd_spec_certificates::LevelSpan;
-use hyd_tank::state_of;
+use hyd_tank::{state_of, tank_at};
 
 /// The first tank whose two ends of its level interval differ in state. Tanks are counted from 0.
 #[derive(Debug, Clone, Copy, PartialEq, Eq, Drop)]
@@ -26,20 +27,6 @@ pub struct TankOpen {
     pub lo: i64,
     /// The upper end.
     pub hi: i64,
-}
-
-fn tank_at(project: &Project, tank: u32) -> Tank
-    requires { tank < length project.now.tanks.list }
-    ensures { slice_get project.now.tanks.list tank ≡ Some result }
-{
-    project.tanks.as_slice()[tank as usize]
-}
-
-fn level_at(levels: &[LevelSpan], tank: u32) -> LevelSpan
-    requires { tank < length levels.now }
-    ensures { levels_of result ≡ slice_index_or (map levels_of levels.now) tank nowhere }
-{
-    levels[tank as usize]
 }
 
 // The state of one tank at its levels, where it is decided.

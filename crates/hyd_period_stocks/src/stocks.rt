@@ -15,7 +15,7 @@ ghost use Rattle.hyd_watched_levels.specs.FactsBeforeEnd.{HaveTanks, AreStarted}
 ghost use Rattle.hyd_period_stocks.specs.TankStart.{next_in, stocks_among};
 
 use hyd_net::{List, Project};
-use hyd_period_facts::Facts;
+use hyd_period_facts::{Facts, add_level};
 use hyd_spec_certificates::LevelSpan;
 use hyd_tank::{Stock, VolumeSpan, next_stock};
 use hyd_watched_levels::{inflow_at, stock_at};
@@ -34,15 +34,6 @@ fn next_of(project: &Project, facts: &Facts, tank: u32, seconds: u32) -> Stock
     let stock = stock_at(facts, tank);
     let inflow = inflow_at(facts, tank);
     next_stock(project, tank, stock, inflow, seconds)
-}
-
-/// Appends levels, for which there is room.
-pub(crate) fn add_level(levels: &mut List<LevelSpan>, level: LevelSpan)
-    requires { 0 < levels.old.spare }
-    ensures list { levels.new.list ≡ levels.old.list ++ level ∷ [] }
-    ensures spare { levels.old.spare ≤ levels.new.spare + 1 }
-{
-    levels.push(level).unwrap();
 }
 
 /// Appends volumes, for which there is room.

@@ -1,7 +1,7 @@
 //! What a period begins with.
 #![tactic(auto)]
 
-ghost use Rattle.std.specs.Prelude.{◌≡◌, ◌≤◌, [], length, IfOk};
+ghost use Rattle.std.specs.Prelude.{◌≡◌, ◌≤◌, length, IfOk};
 ghost use Rattle.hyd_net.specs.Sound.{Sound};
 
 use crate::initial::{put_initial, put_initial_states};
@@ -25,16 +25,6 @@ pub struct TankStart {
     pub tanks: List<TankState>,
 }
 
-/// The empty list, with room for so many items.
-fn with_room<T: Drop>(alloc: Global, items: usize) -> Result<List<T>, OutOfMemory>
-    ensures empty { IfOk result (λ list. list.list ≡ []) }
-    ensures room { IfOk result (λ list. items ≤ list.spare) }
-{
-    let mut list = List::new(alloc);
-    list.reserve(items)?;
-    Ok(list)
-}
-
 impl TankStart {
     ghost use Rattle.std.specs.Prelude.{◌^◌, ℕ, Some, map, slice_get, IfErr, OnOk};
     ghost use Rattle.hyd_spec.specs.ProgramTypes.{Tank};
@@ -56,9 +46,9 @@ impl TankStart {
     {
         let tanks = project.tanks.len();
         Ok(TankStart {
-            levels: with_room(alloc, tanks)?,
-            volumes: with_room(alloc, tanks)?,
-            tanks: with_room(alloc, tanks)?,
+            levels: List::with_room(alloc, tanks)?,
+            volumes: List::with_room(alloc, tanks)?,
+            tanks: List::with_room(alloc, tanks)?,
         })
     }
 

@@ -21,21 +21,10 @@ use hyd_cert::Record;
 use hyd_finders::Finder;
 use hyd_period_network::Net;
 use hyd_spec_certificates::{Problem, Side};
-use hyd_sweep::begin;
+use hyd_sweep::{begin, nearer};
 use hyd_vector_check::{head_of, is_in_box, passes};
 use std::alloc::{AllocError as OutOfMemory, Global};
 use std::marker::Model;
-
-// The head one tick nearer.
-fn nearer(side: Side, head: i64) -> i64
-    requires { IsInBox head }
-    ensures { result ≡ nearer side head }
-{
-    match side {
-        Side::Upper => head - 1,
-        Side::Lower => head + 1,
-    }
-}
 
 // The head one tick nearer, where both lie in the box.
 fn nearer_in_box(side: Side, head: i64) -> Option<i64>

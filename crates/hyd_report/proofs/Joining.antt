@@ -3,7 +3,7 @@ use Rattle.std.proofs.Common.{◌≡◌, ℕ, ◌+◌, ◌<◌, List, [], ◌∷
 use Rattle.std.proofs.Common.{append-nil}
 use Rattle.std.proofs.lemmas.List.{take_more, take-append-drop, map-append}
 use Rattle.hyd_spec.specs.Lists.{joined}
-use Rattle.hyd_lemmas.proofs.ListsAndOptions.{join-append}
+use Rattle.hyd_lemmas.proofs.ListsOptionsAndResults.{join-append}
 
 -- one piece more
 pub joined-more : {X : Type 0} (f : X → List ℕ) (xs : List X) (i : ℕ) (d : X) → i < length xs

@@ -28,7 +28,7 @@ use Rattle.hyd_report.specs.Printing.{printed, quantity_in, ArePrinted}
 use Rattle.hyd_report.specs.NodeAndLinkLines.{texts, junction_between, junction_line, reservoir_line, tank_at}
 use Rattle.hyd_report.specs.NodeAndLinkLines.{tank_line, no_link, link_line}
 use Rattle.std.proofs.lemmas.List.{map-append}
-use Rattle.hyd_lemmas.proofs.ListsAndOptions.{any_default, join-append}
+use Rattle.hyd_lemmas.proofs.ListsOptionsAndResults.{any_default, join-append}
 use Rattle.hyd_report.specs.declared.printed_intervals.Ends.{Ends}
 use Rattle.hyd_report.specs.declared.printed_intervals.Quantity.TheVariants.{Head, Pressure, Flow}
 

@@ -22,7 +22,7 @@ use Rattle.hyd_period_network.specs.NetView.{NetView}
 use Rattle.hyd_period_network.specs.NetAsPeriodNetwork.{grid_of, state_of, states_of, own_laws}
 use Rattle.hyd_period_network.specs.Periods.{IsNetOf}
 use Rattle.hyd_period_network.specs.LawsInSettings.{AreStates}
-use Rattle.hyd_lemmas.proofs.ListsAndOptions.{item_there}
+use Rattle.hyd_lemmas.proofs.ListsOptionsAndResults.{item_there}
 
 -- what a status word says of each kind, state and place of a link
 abbrev pub IsWord : NetView → ℕ → List ℤ → List ℤ → StatusWord → Type 0

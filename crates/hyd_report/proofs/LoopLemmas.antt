@@ -12,7 +12,7 @@ use Rattle.hyd_spec_reports.specs.ReportLine.{ReportLine, line_text}
 use Rattle.hyd_io.specs.Putting.{Puts}
 use Rattle.hyd_report.specs.NodeAndLinkLines.{texts}
 use Rattle.hyd_report.proofs.LineLemmas.{there, lines_more, lines_rest, lines_split}
-use Rattle.hyd_io.proofs.PutLemmas.{puts_then, puts_cut, puts_same}
+use Rattle.hyd_io.proofs.PutLemmas.{puts_then, puts_cut_off, puts_same}
 
 module _ {S : Type 0} {files : S → Option Files} {rest written printed target : S → Option (List ℕ)} {ready : S → Bool}
     {counts : S → Faults} {openings : S → Openings} {X : Type 0} (project : Project) (line : ℕ → X → ReportLine)
@@ -33,15 +33,15 @@ module _ {S : Type 0} {files : S → Option Files} {rest written printed target 
       (puts_then _ _ _ _ _ _ _ _ _ so_far here.1.1)
 
   -- a line is cut off
-  pub line_cut : (why : OutFault) → i < length xs
+  pub line_cut_off : (why : OutFault) → i < length xs
       → Puts files rest written printed target ready counts openings (texts project (map_from line 0 (take i xs))) (Ok
       (tt {0})) p q d e
       → IfSome (slice_get xs i) (λ x. Puts files rest written printed target ready counts openings (line_text project
       (line i x)) (Err why) q r e f)
       → Puts files rest written printed target ready counts openings (texts project (map_from line 0 xs))
       (Err why) p r d f
-  line_cut why within so_far step =
+  line_cut_off why within so_far step =
       let here = there xs i (λ x. Puts files rest written printed target ready counts openings (line_text project
       (line i x)) (Err why) q r e f) within step in
       puts_same _ _ _ _ _ _ _ (lines_split project line xs i here.0 here.1.0)
-      (puts_cut _ (lines_rest project line xs i) why _ _ _ _ (puts_then _ _ _ _ _ _ _ _ _ so_far here.1.1))
+      (puts_cut_off _ (lines_rest project line xs i) why _ _ _ _ (puts_then _ _ _ _ _ _ _ _ _ so_far here.1.1))

@@ -12,7 +12,7 @@ use Rattle.hyd_spec_reports.specs.Report.{Prints}
 use Rattle.hyd_report.specs.Printing.{in_ten_thousandths, printed, quantity_in}
 use Rattle.hyd_report.specs.declared.printed_intervals.Quantity.{Quantity}
 use Rattle.hyd_report.specs.declared.printed_intervals.Quantity.TheVariants.{Head, Pressure, Flow}
-use Rattle.hyd_lemmas.proofs.Quantities.{flow_above, head_above, pressure_above}
+use Rattle.hyd_lemmas.proofs.DenominatorsAboveZero.{flow_above, head_above, pressure_above}
 
 pub den_above : (project : Project) (quantity : Quantity) (t : ℤ) → 0 < (quantity_in project quantity t).den
 den_above project Head t = head_above (is_us project) t

@@ -1,5 +1,5 @@
 -- The lines that the program makes are the report of the period.
-use Rattle.std.proofs.Common.{◌≡◌, ℕ, zero, suc, ◌+◌, ℤ, Bool, true, false, MatchBool, List, [], ◌∷◌, ◌++◌, length, map}
+use Rattle.std.proofs.Common.{◌≡◌, ℕ, suc, ◌+◌, ℤ, Bool, true, false, MatchBool, List, [], ◌∷◌, ◌++◌, length, map}
 use Rattle.std.proofs.Common.{take, drop, Option, Some, if◌then◌else◌, refl, ap, subst, ◌∙◌, arith}
 use Rattle.std.specs.Prelude.{slice_get, slice_index_or}
 use Rattle.std.specs.Option.{option_map}
@@ -30,6 +30,7 @@ use Rattle.hyd_report.specs.NodeAndLinkLines.{junction_line, reservoir_line, tan
 use Rattle.hyd_report.specs.PeriodLines.{AreTankFacts, state_lines, middle_lines, end_lines, lines_of}
 use Rattle.hyd_report.proofs.PrintLemmas.{prints}
 use Rattle.hyd_report.proofs.ChangeLemmas.{changes_apart}
+use Rattle.hyd_lemmas.proofs.ListsOptionsAndResults.{numbered_at}
 
 each_line : {X : Type 0} (P : ℕ → X → ReportLine → Type 0) (f : ℕ → X → ReportLine) (n : ℕ) (xs : List X)
     → ((k : ℕ) (x : X) → slice_get xs k ≡ Some x → P (n + k) x (f (n + k) x)) → LineEach P n xs (map_from f n xs)
@@ -45,17 +46,6 @@ every_line : {X : Type 0} (P : ℕ → X → ReportLine → Type 0) (f : ℕ →
     → ((k : ℕ) (x : X) → slice_get xs k ≡ Some x → P k x (f k x)) → LineEach P 0 xs (map_from f 0 xs)
 every_line P f xs each = each_line P f 0 xs (λ k x at. let m : k ≡ 0 + k = omega arith in subst (λ j. P j x (f j x)) m
     (each k x at))
-
-map_from-at : {X Y : Type 0} (f : ℕ → X → Y) (n : ℕ) (xs : List X) (k : ℕ) (x : X) (d : Y) → slice_get xs k ≡ Some x
-    → slice_index_or (map_from f n xs) k d ≡ f (n + k) x
-map_from-at f n [] k x d at = absurd (cc)
-map_from-at f n (y ∷ ys) zero x d at =
-    let same : y ≡ x = cc in
-    let m : n ≡ n + 0 = omega arith in
-    ap (f n) same ∙ ap (λ j. f j x) m
-map_from-at f n (y ∷ ys) (suc k) x d at =
-    let m : suc n + k ≡ n + suc k = omega arith in
-    map_from-at f (suc n) ys k x d at ∙ ap (λ j. f j x) m
 
 module _ (project : Project) (grid : Grid) (states : List LinkState) (standing : Standing) (row : Record)
     (facts : Facts)
@@ -87,7 +77,7 @@ module _ (project : Project) (grid : Grid) (states : List LinkState) (standing :
   inflow_is k tank at =
       let m : 0 + k ≡ k = omega arith in
       ap (λ (xs : List Interval). slice_index_or xs k nowhere) are.inflows
-      ∙ (map_from-at (λ (j : ℕ) (t : Tank). inflow_of_tank project grid row j) 0 project.tanks.list k tank nowhere at
+      ∙ (numbered_at (λ (j : ℕ) (t : Tank). inflow_of_tank project grid row j) 0 project.tanks.list k tank nowhere at
       ∙ ap (inflow_of_tank project grid row) m)
 
   tank_here : (k : ℕ) (tank : Tank) → slice_get project.tanks.list k ≡ Some tank

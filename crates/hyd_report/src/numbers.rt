@@ -6,6 +6,7 @@ ghost use Rattle.hyd_num.specs.PrintedDecimals.{last_digits, setting_text};
 ghost use Rattle.hyd_spec_reports.specs.ReportLine.{clock_text};
 
 use crate::short_text::Text;
+use hyd_units::BUFFER_SIZE;
 use itoa::Buffer;
 
 /// Appends a number of at most 20 digits.
@@ -21,7 +22,7 @@ fn push_number(text: &mut Text, number: u64)
 /// Appends one digit.
 fn push_digit(text: &mut Text, digit: u64)
     requires digit { digit < 10 }
-    requires room { length text.old < 48 }
+    requires room { length text.old < BUFFER_SIZE }
     ensures text { text.new ≡ text.old ++ (48 + digit) ∷ [] }
     ensures room { length text.new ≡ length text.old + 1 }
 {
@@ -30,7 +31,7 @@ fn push_digit(text: &mut Text, digit: u64)
 
 /// Appends the last digits of a number, as many as there are places.
 fn push_last_digits(text: &mut Text, places: usize, number: u64)
-    requires { length text.old + places ≤ 48 }
+    requires { length text.old + places ≤ BUFFER_SIZE }
     ensures text { text.new ≡ text.old ++ last_digits places number }
     ensures room { length text.new ≡ length text.old + places }
 {

@@ -5,7 +5,7 @@ ghost use Rattle.std.specs.Prelude.{◌≡◌, ◌≤◌, ◌+◌, ◌++◌, [],
 use hyd_units::BUFFER_SIZE;
 use std::marker::Model;
 
-/// A short text of at most 48 bytes. Contracts see its bytes.
+/// A short text of as many bytes as its buffer takes at most. Contracts see its bytes.
 #[derive(Drop)]
 pub(crate) struct Text {
     buffer: [u8; BUFFER_SIZE],
@@ -19,6 +19,7 @@ impl Model for Text {
 
     ghost view = { λ t. take t.used t.buffer };
 
+    // `BUFFER_SIZE`, which an invariant can't name.
     ghost invariant = { λ t. t.used ≤ 48 };
 }
 
@@ -35,7 +36,7 @@ impl Text {
 
     /// The first `used` bytes of a buffer.
     pub(crate) fn of(buffer: [u8; BUFFER_SIZE], used: usize) -> Text
-        requires { used ≤ 48 }
+        requires { used ≤ BUFFER_SIZE }
         ensures { result ≡ take used buffer }
     {
         Text { buffer, used }
@@ -43,7 +44,7 @@ impl Text {
 
     /// Appends the bytes, for which there is room.
     pub(crate) fn push(&mut self, word: &[u8])
-        requires { length self.old + length word.now ≤ 48 }
+        requires { length self.old + length word.now ≤ BUFFER_SIZE }
         ensures { self.new ≡ self.old ++ word.now }
     {
         let end = self.used + word.len();

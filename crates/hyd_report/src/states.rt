@@ -11,6 +11,7 @@ use hyd_net::LinkState;
 use hyd_spec::TankState;
 use hyd_spec_certificates::Side;
 use hyd_spec_reports::StatusWord;
+use hyd_units::BUFFER_SIZE;
 
 /// SETTING and a number of billionths.
 fn setting(billionths: u64) -> Text
@@ -24,7 +25,7 @@ fn setting(billionths: u64) -> Text
 
 /// A word that stands alone.
 fn word(bytes: &[u8]) -> Text
-    requires { length bytes.now ≤ 48 }
+    requires { length bytes.now ≤ BUFFER_SIZE }
     ensures { result ≡ bytes.now }
 {
     let mut text = Text::new();

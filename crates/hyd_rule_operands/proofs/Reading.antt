@@ -14,9 +14,10 @@ use Rattle.hyd_spec_certificates.specs.PeriodNetwork.{GridLink}
 use Rattle.hyd_period_network.specs.NetView.{NetView}
 use Rattle.hyd_period_network.specs.Demands.{IsNetJunction}
 use Rattle.hyd_period_network.specs.Periods.{IsNetOf, ends_of}
-use Rattle.hyd_lemmas.proofs.ListsAndOptions.{item_is, item_there}
+use Rattle.hyd_lemmas.proofs.ListsOptionsAndResults.{item_is, item_there}
 use Rattle.hyd_period_network.proofs.Sounding.{long_zipped}
 use Rattle.hyd_bounds.specs.VectorsInOrder.{IsSpan}
+use Rattle.hyd_tank_inflows.proofs.Placing.{span_is}
 
 -- ---- counts of a net of a project
 
@@ -58,14 +59,6 @@ reservoir_is reservoirs r head within is =
     slice_get-get_or reservoirs r (pos 0) within ∙ ap (λ (h : ℤ). Some h) (sym is)
 
 -- ---- flows
-
-between : ℤ → ℤ → Interval
-between lo hi = record { lo = lo; hi = hi }
-
-span_is : (span : Span) (box : Interval) → IsSpan span box → flows_of span ≡ box
-unfolding between
-span_is span box is =
-    ap (λ (lo : ℤ). between lo span.hi) is.lo_is ∙ ap (λ (hi : ℤ). between box.lo hi) is.hi_is
 
 -- one flow more
 pub one_more : (box : GridLink → Interval) (links : List GridLink) (flows : List Span) (flow : Span) (i : ℕ)

@@ -1,6 +1,6 @@
 //! Heads and flows of a period.
 
-ghost use Rattle.std.specs.Prelude.{◌≡◌, ◌≤◌, [], pos, length, IfOk, All};
+ghost use Rattle.std.specs.Prelude.{pos, length, IfOk, All};
 ghost use Rattle.hyd_net.specs.Sound.{Sound};
 
 use crate::flows::put_flows;
@@ -24,16 +24,6 @@ pub struct Readings {
     pub flows: List<Span>,
 }
 
-/// The empty list, with room for so many items.
-fn with_room<T: Drop>(alloc: Global, items: usize) -> Result<List<T>, OutOfMemory>
-    ensures empty { IfOk result (λ list. list.list ≡ []) }
-    ensures room { IfOk result (λ list. items ≤ list.spare) }
-{
-    let mut list = List::new(alloc);
-    list.reserve(items)?;
-    Ok(list)
-}
-
 impl Readings {
     ghost use Rattle.hyd_spec_certificates.specs.Decided.{heads_below, heads_above};
     ghost use Rattle.hyd_cert.specs.RecordView.{row_of};
@@ -52,9 +42,9 @@ impl Readings {
     {
         let heads = project.junctions.len() + project.reservoirs.len();
         Ok(Readings {
-            low: with_room(alloc, heads)?,
-            high: with_room(alloc, heads)?,
-            flows: with_room(alloc, project.links.len())?,
+            low: List::with_room(alloc, heads)?,
+            high: List::with_room(alloc, heads)?,
+            flows: List::with_room(alloc, project.links.len())?,
         })
     }
 

@@ -8,9 +8,11 @@ use Rattle.std.proofs.lemmas.List.{length-map, get_or-map}
 use Rattle.std.proofs.lemmas.Option.{slice_get_within}
 use Rattle.hyd_spec.specs.ProgramTypes.{Project, Rule}
 use Rattle.hyd_spec.specs.Rules.{Readings}
-use Rattle.hyd_spec_certificates.specs.ThreeValuedLogic.{Verdict, Yes, is_yes, is_unknown}
+use Rattle.hyd_spec_certificates.specs.declared.Verdict.{Verdict}
+use Rattle.hyd_spec_certificates.specs.declared.Verdict.TheVariants.{Yes}
+use Rattle.hyd_spec_certificates.specs.ThreeValuedLogic.{is_yes, is_unknown}
 use Rattle.hyd_spec_certificates.specs.Decided.{rule_between}
-use Rattle.hyd_lemmas.proofs.ListsAndOptions.{item_is, item_there}
+use Rattle.hyd_lemmas.proofs.ListsOptionsAndResults.{item_is, item_there}
 use Rattle.hyd_controls_and_rules.proofs.Positions.{first_is}
 use Rattle.hyd_rule_values.specs.declared.truth_of_rules.RuleOpen.{RuleOpen}
 use Rattle.hyd_rule_values.specs.TruthOfRules.{IsKnown, IsOpen, AreKnown, IsFirstOpen}

@@ -4,7 +4,9 @@ use Rattle.std.specs.Prelude.{◌≡◌, ℕ, Bool, false, List, Some, map, slic
 use Rattle.std.specs.List.{list_any}
 use Rattle.hyd_spec.specs.ProgramTypes.{Project, Rule}
 use Rattle.hyd_spec.specs.Rules.{Readings}
-use Rattle.hyd_spec_certificates.specs.ThreeValuedLogic.{Verdict, Unknown, is_yes, is_unknown}
+use Rattle.hyd_spec_certificates.specs.declared.Verdict.{Verdict}
+use Rattle.hyd_spec_certificates.specs.declared.Verdict.TheVariants.{Unknown}
+use Rattle.hyd_spec_certificates.specs.ThreeValuedLogic.{is_yes, is_unknown}
 use Rattle.hyd_spec_certificates.specs.Decided.{rule_between, IsOpenClause}
 use Rattle.hyd_rule_values.specs.declared.truth_of_rules.RuleOpen.{RuleOpen}
 

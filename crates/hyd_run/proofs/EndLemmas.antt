@@ -45,12 +45,12 @@ begun project settings left header before now same start put =
     (so-far-begins project (sharpness_of settings) before now
     (subst (λ (h : Header). PutIn (header_text h) first_line before now) same put))
 
-pub begun-cut : (project : Project) (settings : Settings) (fault : OutFault) (header : Header) (before now : Moment)
+pub begun-cut-off : (project : Project) (settings : Settings) (fault : OutFault) (header : Header) (before now : Moment)
     → header ≡ header_for project
     → IsCutOff fault (header_text header) first_line before now → IsCutShort project settings fault before now
-begun-cut project settings fault header before now same cut =
+begun-cut-off project settings fault header before now same cut_off =
     first-cut-short project settings fault before now
-    (subst (λ (h : Header). IsCutOff fault (header_text h) first_line before now) same cut)
+    (subst (λ (h : Header). IsCutOff fault (header_text h) first_line before now) same cut_off)
 
 -- the last lines were put in, or a fault cut them off
 pub ended : (project shown : Project) (settings : Settings) (outcome : Outcome) (left : Standing) (start before
@@ -63,15 +63,15 @@ ended project shown settings outcome left start before now records same counted 
     (subst (λ (p : Project). PutIn (end_line records (is_finished outcome)) (last_line p left records outcome)
     before now) same put)
 
-pub ended-cut : (project shown : Project) (settings : Settings) (fault : OutFault) (outcome : Outcome) (left :
+pub ended-cut-off : (project shown : Project) (settings : Settings) (fault : OutFault) (outcome : Outcome) (left :
     Standing) (start before now : Moment) (records : ℕ)
     → shown ≡ project → records ≡ left.number → EndsSo project left settings.rounds outcome
     → IsCutOff fault (end_line records (is_finished outcome)) (last_line shown left records outcome) before now
     → IsSoFar project (sharpness_of settings) left start before → IsCutShort project settings fault start now
-ended-cut project shown settings fault outcome left start before now records same counted ends cut =
+ended-cut-off project shown settings fault outcome left start before now records same counted ends cut_off =
     last-cut-short project settings fault outcome left start before now records counted ends
     (subst (λ (p : Project). IsCutOff fault (end_line records (is_finished outcome)) (last_line p left records
-    outcome) before now) same cut)
+    outcome) before now) same cut_off)
 
 -- ---- what a run gives
 
@@ -99,7 +99,7 @@ module _ (project : Project) (settings : Settings) (start now : Moment) (sound :
   pub gives-rose : (result : Result RunEnd OutFault) → RunPuts result project settings start now
       → IfErr result (λ fault. OneRose fault start.told.counts now.told.counts)
   gives-rose (Ok end) puts = tt
-  gives-rose (Err fault) puts = puts.cut.rose
+  gives-rose (Err fault) puts = puts.cut_off.rose
 
   pub gives-steady : (result : Result RunEnd OutFault) → RunPuts result project settings start now
       → OnOk result (now.told.counts ≡ start.told.counts)
@@ -109,7 +109,7 @@ module _ (project : Project) (settings : Settings) (start now : Moment) (sound :
   pub gives-rest : (result : Result RunEnd OutFault) → RunPuts result project settings start now
       → LeavesRest start.told now.told
   gives-rest (Ok end) puts = puts.put.leaves
-  gives-rest (Err fault) puts = puts.cut.leaves
+  gives-rest (Err fault) puts = puts.cut_off.leaves
 
 -- what the last lines make of a run, as of the one that was begun
 pub ending-puts : (project p : Project) (settings s : Settings) (left : Standing) (outcome : Outcome)

@@ -123,12 +123,12 @@ module _ {S : Type 0} {files : S → Option Files} {rest written printed target 
   }
 
   -- the text at the certificate's pen was cut off, and the report's isn't begun
-  pub first-cut : (a b : List ℕ) (why : OutFault) (c c' r : PenState) (d e : S)
+  pub first-cut-off : (a b : List ℕ) (why : OutFault) (c c' r : PenState) (d e : S)
       → AreOpen (moment c r (told files rest written printed target ready counts openings d))
       → Puts files rest written printed target ready counts openings a (Err why) c c' d e
       → IsCutOff why a b (moment c r (told files rest written printed target ready counts openings d)) (moment c' r
       (told files rest written printed target ready counts openings e))
-  first-cut a b why c c' r d e unbroken first = record {
+  first-cut-off a b why c c' r d e unbroken first = record {
     written = first-out c.to (written d) (printed d) (written e) (printed e) (c.held ++ a) unbroken.certificate_to
         first.front;
     printed = subst (λ (o : Option (List ℕ)). PutOut (printed d) o (r.held ++ b))
@@ -157,9 +157,9 @@ put-then a b a' b' m n o first second = record {
 }
 
 -- the second pair was cut off
-pub cut-then : (why : OutFault) (a b a' b' : List ℕ) (m n o : Moment) → PutIn a b m n → IsCutOff why a' b' n o
+pub cut-off-then : (why : OutFault) (a b a' b' : List ℕ) (m n o : Moment) → PutIn a b m n → IsCutOff why a' b' n o
     → IsCutOff why (a ++ a') (b ++ b') m o
-cut-then why a b a' b' m n o first second = record {
+cut-off-then why a b a' b' m n o first second = record {
   written = subst (PutOut m.told.written o.told.written) (append_assoc m.certificate.held a a')
       (put_out_then m.told.written n.told.written o.told.written (m.certificate.held ++ a) n.certificate.held a'
       first.written second.written);
@@ -188,5 +188,5 @@ flush-moves (Err why) w w' h h' e f = tt
 pub flush-front : (result : Result (Unit {0}) OutFault) (w w' : Option (List ℕ)) (h : List ℕ)
     → OnErr result (PutOut w w' h)
     → OnErr result (PutOut w w' (h ++ []))
-flush-front (Ok done) w w' h cut = tt
-flush-front (Err why) w w' h cut = subst (PutOut w w') (sym (append-nil h)) cut
+flush-front (Ok done) w w' h cut_off = tt
+flush-front (Err why) w w' h cut_off = subst (PutOut w w') (sym (append-nil h)) cut_off

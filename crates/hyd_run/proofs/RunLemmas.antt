@@ -15,7 +15,7 @@ use Rattle.hyd_spec_reports.specs.PromisesOfRunsAndChecks.{Found, IsRun, IsRunFr
 use Rattle.hyd_spec_reports.specs.PromisesOfRunsAndChecks.{EndsSo, rows_of, lines_of, last_line, is_finished}
 use Rattle.hyd_spec_reports.specs.PromisesOfRunsAndChecks.{certificate_so_far, report_so_far}
 use Rattle.std.proofs.lemmas.List.{map-append}
-use Rattle.hyd_lemmas.proofs.ListsAndOptions.{join-append, join-more, all-more}
+use Rattle.hyd_lemmas.proofs.ListsOptionsAndResults.{join-append, join-more, all-more}
 use Rattle.hyd_theorems_on_definitions.proofs.Appending.{run_more}
 use Rattle.hyd_theorems_on_histories.proofs.Running.{every_history}
 use Rattle.hyd_cert.specs.Lines.{Header, header_words}
@@ -28,7 +28,7 @@ use Rattle.hyd_io.proofs.ToldLemmas.{moves_whole}
 use Rattle.hyd_sim.specs.declared.settings.Settings.{Settings}
 use Rattle.hyd_run.specs.Pens.{Moment, PutIn, IsCutOff}
 use Rattle.hyd_run.specs.Runs.{sharpness_of, first_line, IsStep, IsSoFar, IsWhole, IsCutShort, IsPutOut, IsBrokenOff}
-use Rattle.hyd_run.proofs.PenLemmas.{put-then, cut-then}
+use Rattle.hyd_run.proofs.PenLemmas.{put-then, cut-off-then}
 
 -- ---- texts
 
@@ -83,10 +83,10 @@ report-more project left next founds found =
 pub put-as : (a b a' b' : List ℕ) (m n : Moment) → a ≡ a' → b ≡ b' → PutIn a b m n → PutIn a' b' m n
 put-as a b a' b' m n e f put = subst (λ (x : List ℕ). PutIn x b' m n) e (subst (λ (y : List ℕ). PutIn a y m n) f put)
 
-pub cut-as : (why : OutFault) (a b a' b' : List ℕ) (m n : Moment) → a ≡ a' → b ≡ b' → IsCutOff why a b m n
+pub cut-off-as : (why : OutFault) (a b a' b' : List ℕ) (m n : Moment) → a ≡ a' → b ≡ b' → IsCutOff why a b m n
     → IsCutOff why a' b' m n
-cut-as why a b a' b' m n e f cut = subst (λ (x : List ℕ). IsCutOff why x b' m n) e (subst (λ (y : List ℕ). IsCutOff
-    why a y m n) f cut)
+cut-off-as why a b a' b' m n e f cut_off = subst (λ (x : List ℕ). IsCutOff why x b' m n) e (subst (λ (y : List ℕ).
+    IsCutOff why a y m n) f cut_off)
 
 -- ---- a run so far
 
@@ -138,37 +138,37 @@ so-far-more project sharpness left next start before now found step put so_far =
       (put-then _ _ _ _ start before now so_far.put put);
 }
 
-pub so-far-cut : (project : Project) (settings : Settings) (fault : OutFault) (left next : Standing) (start before
+pub so-far-cut-off : (project : Project) (settings : Settings) (fault : OutFault) (left next : Standing) (start before
     now : Moment) (found : Found)
     → IsStep project (sharpness_of settings) left next found
     → IsCutOff fault (record_text found.row) (texts project found.lines) before now
     → IsSoFar project (sharpness_of settings) left start before → IsCutShort project settings fault start now
-so-far-cut project settings fault left next start before now found step cut so_far = record {
+so-far-cut-off project settings fault left next start before now found step cut_off so_far = record {
   founds = so_far.founds ++ (found ∷ []);
   left = next;
   is_run = run-with project so_far.founds left next (sharpness_of settings) found step so_far.is_run;
   sharp = all-more (IsSharpFound project (sharpness_of settings)) so_far.founds found so_far.sharp step.sharp;
   last = None;
   ends_so = tt;
-  cut = cut-as fault _ _ _ _ start now (certificate-more project so_far.founds found) (report-more project left next
-      so_far.founds found)
-      (cut-then fault _ _ _ _ start before now so_far.put cut);
+  cut_off = cut-off-as fault _ _ _ _ start now (certificate-more project so_far.founds found) (report-more project left
+      next so_far.founds found)
+      (cut-off-then fault _ _ _ _ start before now so_far.put cut_off);
 }
 
 pub first-cut-short : (project : Project) (settings : Settings) (fault : OutFault) (before now : Moment)
     → IsCutOff fault (header_line (version_of project) (junction_count project) (tank_count project)) first_line
     before now
     → IsCutShort project settings fault before now
-first-cut-short project settings fault before now cut = record {
+first-cut-short project settings fault before now cut_off = record {
   founds = [];
   left = initial_standing project;
   is_run = IsRunFrom.none;
   sharp = tt;
   last = None;
   ends_so = tt;
-  cut = cut-as fault _ _ _ _ before now
+  cut_off = cut-off-as fault _ _ _ _ before now
       (sym (append-nil (header_line (version_of project) (junction_count project) (tank_count project)))) (sym
-      (append-nil first_line)) cut;
+      (append-nil first_line)) cut_off;
 }
 
 -- ---- its end
@@ -200,7 +200,7 @@ pub last-cut-short : (project : Project) (settings : Settings) (fault : OutFault
     → records ≡ left.number → EndsSo project left settings.rounds outcome
     → IsCutOff fault (end_line records (is_finished outcome)) (last_line project left records outcome) before now
     → IsSoFar project (sharpness_of settings) left start before → IsCutShort project settings fault start now
-last-cut-short project settings fault outcome left start before now records counted ends cut so_far =
+last-cut-short project settings fault outcome left start before now records counted ends cut_off so_far =
     let same : records ≡ length so_far.founds = counted ∙ sym so_far.each in
     record {
       founds = so_far.founds;
@@ -209,11 +209,11 @@ last-cut-short project settings fault outcome left start before now records coun
       sharp = so_far.sharp;
       last = Some outcome;
       ends_so = ends;
-      cut = cut-as fault _ _ _ _ start now (certificate-last project so_far.founds outcome) (report-last project
+      cut_off = cut-off-as fault _ _ _ _ start now (certificate-last project so_far.founds outcome) (report-last project
           left so_far.founds outcome)
-          (cut-then fault _ _ _ _ start before now so_far.put
+          (cut-off-then fault _ _ _ _ start before now so_far.put
           (subst (λ (n : ℕ). IsCutOff fault (end_line n (is_finished outcome)) (last_line project left n outcome)
-          before now) same cut));
+          before now) same cut_off));
     }
 
 -- the pens are emptied, or a fault cuts that off
@@ -231,19 +231,19 @@ whole-emptied project settings outcome start before now whole put = record {
   put = put-as _ _ _ _ start now (append-nil _) (append-nil _) (put-then _ _ _ _ start before now whole.put put);
 }
 
-pub whole-cut : (project : Project) (settings : Settings) (fault : OutFault) (outcome : Outcome) (start before now :
+pub whole-cut-off : (project : Project) (settings : Settings) (fault : OutFault) (outcome : Outcome) (start before now :
     Moment)
     → IsWhole project settings outcome start before → IsCutOff fault [] [] before now
     → IsCutShort project settings fault start now
-whole-cut project settings fault outcome start before now whole cut = record {
+whole-cut-off project settings fault outcome start before now whole cut_off = record {
   founds = whole.founds;
   left = whole.left;
   is_run = whole.is_run;
   sharp = whole.sharp;
   last = Some outcome;
   ends_so = whole.ends_so;
-  cut = cut-as fault _ _ _ _ start now (append-nil _) (append-nil _) (cut-then fault _ _ _ _ start before now
-      whole.put cut);
+  cut_off = cut-off-as fault _ _ _ _ start now (append-nil _) (append-nil _) (cut-off-then fault _ _ _ _ start before
+      now whole.put cut_off);
 }
 
 -- ---- what is put out
@@ -317,9 +317,9 @@ pub broken-off : (project : Project) (settings : Settings) (fault : OutFault) (s
     → IsBrokenOff project settings start.told now.told
 broken-off project settings fault start now sound c r short =
     let w = out-whole start.told.written now.told.written start.certificate.held
-    (certificate_so_far project short.founds short.last) c short.cut.written in
+    (certificate_so_far project short.founds short.last) c short.cut_off.written in
     let p = out-whole start.told.printed now.told.printed start.report.held
-    (report_so_far project short.left short.founds short.last) r short.cut.printed in
+    (report_so_far project short.left short.founds short.last) r short.cut_off.printed in
     record {
       certificate = w.1.front;
       report = p.1.front;

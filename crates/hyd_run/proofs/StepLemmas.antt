@@ -30,7 +30,7 @@ use Rattle.hyd_run.specs.Pens.{Moment, PutIn, IsCutOff}
 use Rattle.hyd_run.specs.Runs.{sharpness_of, IsStep, IsSoFar, IsCutShort, DidPeriod, LostPeriod, IsOver, periods_left}
 use Rattle.hyd_spec_reports.specs.PromisesOfRunsAndChecks.{Outcome}
 use Rattle.hyd_run.proofs.PeriodLemmas.{tank-facts-of, few-periods, row-fits, grid-count, number-next}
-use Rattle.hyd_run.proofs.RunLemmas.{so-far-more, so-far-cut}
+use Rattle.hyd_run.proofs.RunLemmas.{so-far-more, so-far-cut-off}
 
 -- what a period found
 abbrev pub found-of : SimView → SimView → Found
@@ -114,18 +114,18 @@ steps-more project settings before now start m n of_project same did =
     did.step
     did.put))
 
-pub steps-cut : (project : Project) (settings : Settings) (fault : OutFault) (before now : SimView) (start m n :
+pub steps-cut-off : (project : Project) (settings : Settings) (fault : OutFault) (before now : SimView) (start m n :
     Moment) → now.project ≡ project
     → now.settings ≡ settings → LostPeriod fault before now m n
     → IsSoFar project (sharpness_of settings) (standing_of before) start m
     → IsCutShort project settings fault start n
-steps-cut project settings fault before now start m n of_project same lost =
+steps-cut-off project settings fault before now start m n of_project same lost =
     subst (λ (p : Project). IsSoFar p (sharpness_of settings) (standing_of before) start m
     → IsCutShort p settings fault start n) of_project
     (subst (λ (s : Settings). IsSoFar now.project (sharpness_of s) (standing_of before) start m
     → IsCutShort now.project s fault start n) same
-    (so-far-cut now.project now.settings fault (standing_of before) (standing_of now) start m n lost.found lost.step
-    lost.cut))
+    (so-far-cut-off now.project now.settings fault (standing_of before) (standing_of now) start m n lost.found lost.step
+    lost.cut_off))
 
 -- the end of a run
 pub steps-end : (project : Project) (settings : Settings) (outcome : Outcome) (before now : SimView) (m n : Moment)
@@ -190,8 +190,8 @@ module _ (before now : SimView) (is : IsSim now) (period : IsPeriod before now) 
       → IsCutOff fault (record_text (row_of row)) (texts project (lines_of project (grid_of net) (states_of net)
       (row_of row) facts)) m o
       → LostPeriod fault before now m o
-  lost-there fault m o number time seconds cut = record {
+  lost-there fault m o number time seconds cut_off = record {
     found = found-of before now;
     step = step-there number time seconds;
-    cut = rw (p, n, r, f) at cut;
+    cut_off = rw (p, n, r, f) at cut_off;
   }

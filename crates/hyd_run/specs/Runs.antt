@@ -105,8 +105,8 @@ pub record IsCutShort (project : Project) (settings : Settings) (fault : OutFaul
     pub sharp : AllByRecursion (IsSharpFound project (sharpness_of settings)) founds
     pub last : Option Outcome
     pub ends_so : MatchOption last ⊤ (EndsSo project left settings.rounds)
-    pub cut : IsCutOff fault (certificate_so_far project founds last) (report_so_far project left founds last) before
-        now
+    pub cut_off : IsCutOff fault (certificate_so_far project founds last) (report_so_far project left founds last)
+        before now
 
 -- ---- a step
 
@@ -125,7 +125,7 @@ pub record DidPeriod (sim now : SimView) (before after : Moment) : Type 0 where
 pub record LostPeriod (fault : OutFault) (sim now : SimView) (before after : Moment) : Type 0 where
   pub found : Found
   pub step : IsStep now.project (sharpness_of now.settings) (standing_of sim) (standing_of now) found
-  pub cut : IsCutOff fault (record_text found.row) (texts now.project found.lines) before after
+  pub cut_off : IsCutOff fault (record_text found.row) (texts now.project found.lines) before after
 
 -- The run is over, at a standing that stays, and nothing was put in.
 pub record IsOver (outcome : Outcome) (sim now : SimView) (before after : Moment) : Type 0 where

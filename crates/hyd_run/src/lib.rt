@@ -8,5 +8,7 @@ mod period_and_last_lines;
 mod steps;
 mod whole_run;
 
-pub use outcome::RunEnd;
+pub use outcome::{RunEnd, is_finished};
+pub use pens::{empty, put_first};
+pub use period_and_last_lines::put_last_line;
 pub use whole_run::run;

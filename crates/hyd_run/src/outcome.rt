@@ -1,4 +1,9 @@
 //! How a run ends.
+#![tactic(auto)]
+
+ghost use Rattle.std.specs.Prelude.{◌≡◌};
+ghost use Rattle.hyd_spec_reports.specs.PromisesOfRunsAndChecks.{is_finished};
+ghost use Rattle.hyd_run.specs.Runs.{outcome_of};
 
 use hyd_spec_reports::StopCause;
 
@@ -9,4 +14,14 @@ pub enum RunEnd {
     Finished,
     /// The run can't go on.
     Stopped(StopCause),
+}
+
+/// Whether a run has finished.
+pub fn is_finished(end: RunEnd) -> bool
+    ensures { result ≡ is_finished (outcome_of end) }
+{
+    match end {
+        RunEnd::Finished => true,
+        RunEnd::Stopped(_) => false,
+    }
 }

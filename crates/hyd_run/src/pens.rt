@@ -12,8 +12,8 @@ ghost use Rattle.hyd_run.specs.Runs.{first_line};
 use hyd_cert::{Record, put_head};
 use hyd_io::{Desk, OutFault, Pen};
 
-// Puts the first line of a report.
-fn put_first<D: Desk>(pen: &mut Pen, desk: &mut D) -> Result<(), OutFault>
+/// Puts the first line of a report.
+pub fn put_first<D: Desk>(pen: &mut Pen, desk: &mut D) -> Result<(), OutFault>
     requires { OnCert pen.old.to (IsTrue (D.ready desk.old)) }
     ensures { Puts D.files D.rest D.written D.printed D.target D.ready D.counts D.openings
         first_line result pen.old pen.new desk.old desk.new }
@@ -21,8 +21,8 @@ fn put_first<D: Desk>(pen: &mut Pen, desk: &mut D) -> Result<(), OutFault>
     pen.put(desk, b"HYD 1\n")
 }
 
-// Puts out all that a pen holds.
-fn empty<D: Desk>(pen: &mut Pen, desk: &mut D) -> Result<(), OutFault>
+/// Puts out all that a pen holds.
+pub fn empty<D: Desk>(pen: &mut Pen, desk: &mut D) -> Result<(), OutFault>
     requires { OnCert pen.old.to (IsTrue (D.ready desk.old)) }
     ensures puts { Puts D.files D.rest D.written D.printed D.target D.ready D.counts D.openings
         [] result pen.old pen.new desk.old desk.new }

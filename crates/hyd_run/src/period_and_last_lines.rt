@@ -1,7 +1,7 @@
 //! The record and the report of one period, and the last lines of a run.
 #![tactic(auto)]
 
-ghost use Rattle.std.specs.Prelude.{◌≡◌, ◌<◌, ◌^◌};
+ghost use Rattle.std.specs.Prelude.{◌≡◌, ◌<◌};
 ghost use Rattle.hyd_io.specs.Output.{OnCert};
 ghost use Rattle.std.specs.Prelude.{IsTrue};
 ghost use Rattle.hyd_net.specs.Sound.{Sound};
@@ -22,31 +22,13 @@ ghost use Rattle.hyd_io.specs.Putting.{Puts};
 ghost use Rattle.hyd_run.specs.Pens.{told, moment, AreOpen, PutsIn};
 ghost use Rattle.hyd_run.specs.Runs.{outcome_of};
 
-use crate::outcome::RunEnd;
+use crate::outcome::{RunEnd, is_finished};
 use hyd_cert::{Record, put_end, put_record};
 use hyd_io::{Desk, OutFault, Pen};
 use hyd_net::Project;
 use hyd_period_facts::Facts;
 use hyd_period_network::Net;
 use hyd_report::{put_done, put_report, put_stop};
-
-// A number is below 2^32.
-fn is_small(number: u32)
-    ensures { number < 2 ^ 32 }
-{
-    let _ = number;
-}
-
-// The numbers of a record are below 2^32.
-pub(crate) fn has_small_numbers(row: &Record)
-    ensures number { row.now.number < 2 ^ 32 }
-    ensures time { row.now.time < 2 ^ 32 }
-    ensures length { row.now.length < 2 ^ 32 }
-{
-    is_small(row.number);
-    is_small(row.time);
-    is_small(row.length);
-}
 
 /// Puts the record of a period and its report. Net, record and facts are those of one period, and the vectors are its
 /// certificates.
@@ -85,18 +67,8 @@ pub(crate) fn put_period<D: Desk>(
     put_report(project, net, row, facts, report, desk)
 }
 
-// Whether a run has finished.
-fn is_finished(end: RunEnd) -> bool
-    ensures { result ≡ is_finished (outcome_of end) }
-{
-    match end {
-        RunEnd::Finished => true,
-        RunEnd::Stopped(_) => false,
-    }
-}
-
-// Puts the last line of a report.
-fn put_last_line<D: Desk>(
+/// Puts the last line of a report.
+pub fn put_last_line<D: Desk>(
     project: &Project,
     time: u32,
     records: u32,

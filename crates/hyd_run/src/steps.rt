@@ -6,7 +6,8 @@ ghost use Rattle.hyd_run.specs.Pens.{told, moment, AreOpen};
 ghost use Rattle.hyd_run.specs.Runs.{StepPuts, StepsPut};
 
 use crate::outcome::RunEnd;
-use crate::period_and_last_lines::{has_small_numbers, put_period};
+use crate::period_and_last_lines::put_period;
+use hyd_cert::has_small_numbers;
 use hyd_finders::Finder;
 use hyd_io::{Desk, OutFault, Pen};
 use hyd_sim::{Sim, Step};

@@ -22,7 +22,6 @@ use Rattle.hyd_cert.specs.declared.record.Record.{Record as Row}
 use Rattle.hyd_period_facts.specs.declared.facts.Facts.{Facts}
 use Rattle.hyd_period_network.specs.NetAsPeriodNetwork.{grid_of}
 use Rattle.hyd_period_network.specs.NetView.{NetView}
-use Rattle.hyd_tank_inflows.proofs.Numbered.{as_long}
 use Rattle.hyd_period_end.specs.FactsBeforeVectors.{AreBegun, AreReady}
 use Rattle.hyd_period_end.specs.OpenMatters.{SharesVectors, IsOpenAt}
 use Rattle.hyd_period_end.specs.declared.period_end.PeriodEnd.{PeriodEnd}
@@ -39,6 +38,7 @@ use Rattle.hyd_sim.specs.declared.standing.Standing.{Standing as Here}
 use Rattle.hyd_sim.proofs.Lacking.{lacks-one, same-as-given}
 use Rattle.hyd_sim.proofs.Proposed.{shares, none-open-at, same-row, same-next}
 use Rattle.hyd_sim.proofs.Running.{at-later, lack-stops, open-stops, tight-of, tight-row}
+use Rattle.hyd_lemmas.proofs.ListsOptionsAndResults.{as_long}
 
 -- ---- narrow records
 

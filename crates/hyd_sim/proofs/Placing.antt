@@ -18,7 +18,7 @@ use Rattle.hyd_theorems_on_histories.specs.Agreement.{IsKept}
 use Rattle.hyd_theorems_on_nesting.specs.Nesting.{IsTidy}
 use Rattle.hyd_period_network.specs.Periods.{AreLevels, IsSpanOf}
 use Rattle.hyd_bounds.specs.VectorsInOrder.{TanksInOrder}
-use Rattle.hyd_lemmas.proofs.ListsAndOptions.{item_is, item_there}
+use Rattle.hyd_lemmas.proofs.ListsOptionsAndResults.{item_is, item_there}
 
 mapped-at : (levels : List LevelSpan) (k : ℕ) (d : LevelSpan) → k < length levels
     → slice_index_or (map levels_of levels) k nowhere ≡ levels_of (slice_index_or levels k d)

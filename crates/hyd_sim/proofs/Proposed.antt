@@ -11,6 +11,7 @@ use Rattle.hyd_spec_certificates.specs.RecordAndStanding.{Record, Standing, Vect
 use Rattle.hyd_spec_certificates.specs.Valid.{IsValid, LeadsOn, Continues, continues, finishes, levels_next}
 use Rattle.hyd_theorems_on_definitions.proofs.OneLength.{one_length}
 use Rattle.hyd_theorems_on_definitions.proofs.OneStanding.{one_standing}
+use Rattle.hyd_theorems_on_definitions.proofs.CertificateLines.{vectors-equal}
 use Rattle.hyd_period_end.specs.OpenMatters.{SharesVectors, IsOpenAt, EndsWith, IsFirstControl}
 use Rattle.hyd_period_end.specs.declared.undecided.Open.{Open}
 use Rattle.hyd_period_end.specs.declared.undecided.Open.TheVariants.{Rule, Event, Tank, Control}
@@ -32,16 +33,13 @@ same-pinned (x ∷ xs) (y ∷ ys) e each =
     let rest = same-pinned xs ys (omega (arith, e)) (λ k less. each (suc k) (omega (arith, less))) in
     cc
 
-both-sides : (x y : Vectors) → x.upper ≡ y.upper → x.lower ≡ y.lower → x ≡ y
-both-sides x y upper lower = λ i. record { upper = upper i; lower = lower i }
-
 -- records with the same vectors share them
 pub shares : (tanks : ℕ) (row w : Record) → length row.pinned ≡ tanks → length w.pinned ≡ tanks
     → HaveSame tanks row w → SharesVectors w row
 shares tanks row w own other same = record {
-  main = both-sides w.main row.main (sym (same Main Upper tt)) (sym (same Main Lower tt));
+  main = vectors-equal w.main row.main (sym (same Main Upper tt)) (sym (same Main Lower tt));
   pinned = same-pinned w.pinned row.pinned (other ∙ sym own)
-      (λ k less. both-sides (slice_index_or w.pinned k no_vectors) (slice_index_or row.pinned k no_vectors)
+      (λ k less. vectors-equal (slice_index_or w.pinned k no_vectors) (slice_index_or row.pinned k no_vectors)
       (sym (same (Pinned k) Upper (omega (arith, less, other))))
       (sym (same (Pinned k) Lower (omega (arith, less, other)))));
 }

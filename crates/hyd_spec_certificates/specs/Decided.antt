@@ -26,7 +26,9 @@ use Rattle.hyd_spec_certificates.specs.PeriodNetwork.{Grid, all_heads}
 use Rattle.hyd_spec_certificates.specs.FlowIntervals.{flow_box, inflow_box}
 use Rattle.hyd_spec_certificates.specs.RecordAndStanding.{Record, Standing}
 use Rattle.hyd_spec_certificates.specs.Stocks.{Stocks, carried_levels, may_reach, must_reach}
-use Rattle.hyd_spec_certificates.specs.ThreeValuedLogic.{Verdict, Yes, No, Unknown, at_both_ends, is_yes, is_unknown}
+use Rattle.hyd_spec_certificates.specs.declared.Verdict.{Verdict}
+use Rattle.hyd_spec_certificates.specs.declared.Verdict.TheVariants.{Yes, No, Unknown}
+use Rattle.hyd_spec_certificates.specs.ThreeValuedLogic.{at_both_ends, is_yes, is_unknown}
 use Rattle.hyd_spec_certificates.specs.ThreeValuedLogic.{some_holds}
 use Rattle.hyd_spec_certificates.specs.ThreeValuedLogic.{all_hold}
 

@@ -1,12 +1,8 @@
 -- Verdicts, by three-valued logic: what holds of all points of the intervals, of none, or is open.
 -- Source: Kleene 1952 (strong three-valued logic).
 use Rattle.std.specs.Prelude.{Bool, true, false, List, [], ◌∷◌}
-
--- It holds, it doesn't, or it is open.
-pub data Verdict : Type 0 where
-  Yes : Verdict
-  No : Verdict
-  Unknown : Verdict
+use Rattle.hyd_spec_certificates.specs.declared.Verdict.{Verdict}
+use Rattle.hyd_spec_certificates.specs.declared.Verdict.TheVariants.{Yes, No, Unknown}
 
 -- What is so at both ends of an interval is so; what differs is open.
 abbrev pub at_both_ends : Bool → Bool → Verdict

@@ -1,7 +1,8 @@
 -- Valid records: what a record claims at a standing, and the standing that it leads on to.
 -- Source: this program's.
-use Rattle.std.specs.Prelude.{◌≡◌, ◌≢◌, ℕ, suc, ◌+◌, ◌<◌, ◌≤◌, ◌^◌, ℤ, Bool, true, false, IsFalse, List, [], ◌∷◌, Some}
+use Rattle.std.specs.Prelude.{◌≡◌, ◌≢◌, ℕ, suc, ◌+◌, ◌<◌, ◌≤◌, ℤ, Bool, true, false, IsFalse, List, [], ◌∷◌, Some}
 use Rattle.std.specs.Prelude.{map, length, slice_index_or, unsigned_abs, All, Contains, ⊤}
+use Rattle.hyd_net.specs.NumberRanges.{flow_limit}
 use Rattle.hyd_spec.specs.ProgramTypes.{Project, Tank, LinkState, Control, AtLevel}
 use Rattle.hyd_spec.specs.declared.TankState.{TankState}
 use Rattle.hyd_spec_certificates.specs.declared.Problem.{Problem}
@@ -33,9 +34,9 @@ abbrev pub IsGridAt : Project → Standing → Grid → Type 0
 IsGridAt project standing grid =
     IsGrid project standing.time standing.levels standing.tanks (links_at project standing) grid
 
--- A demand's magnitude is at most this, in flow ticks.
+-- A demand's magnitude is at most this, in flow ticks: as great as a flow of a file.
 abbrev pub demand_limit : ℕ
-demand_limit = 10 ^ 15
+demand_limit = flow_limit
 
 -- All demands at a time are in range.
 abbrev pub DemandsAreInRange : Project → ℕ → Type 0

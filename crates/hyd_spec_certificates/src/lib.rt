@@ -44,6 +44,17 @@ pub struct LevelSpan {
     pub hi: i64,
 }
 
+/// What holds of all points of the intervals, of none, or is open (Kleene 1952, strong three-valued logic).
+#[derive(Debug, Clone, Copy, PartialEq, Eq, Drop)]
+pub enum Verdict {
+    /// It holds.
+    Yes,
+    /// It doesn't.
+    No,
+    /// It is open.
+    Unknown,
+}
+
 /// What a period's intervals leave of a rule at an instant.
 #[derive(Debug, Clone, Copy, PartialEq, Eq, Drop)]
 pub enum Truth {

@@ -9,6 +9,7 @@ use lib.Signed.{le_z, lt_z}
 use Rattle.hyd_num.specs.FileQuantity.{head_ticks, flow_ticks}
 use Rattle.hyd_num.specs.Rational.{whole, is_at_most}
 use Rattle.hyd_num.specs.declared.flow_units.FlowUnit.{FlowUnit}
+use Rattle.hyd_net.specs.NumberRanges.{head_limit, flow_limit}
 use Rattle.hyd_net.specs.Curves.{value_at, head_knots, volume_at}
 use Rattle.hyd_net.specs.declared.curves.VolumePoint.{VolumePoint}
 use Rattle.hyd_net.specs.declared.curves.HeadPoint.{HeadPoint}
@@ -20,13 +21,13 @@ use Rattle.hyd_spec_input.specs.Tables.{Point}
 abbrev pub is_within : ℕ → ℤ → Bool
 is_within most z = le_z (neg_ℤ (pos most)) z && le_z z (pos most)
 
--- a head in range: at most 10^17 ticks up or down
+-- a head in range up or down
 abbrev pub is_head : ℤ → Bool
-is_head ticks = is_within (10 ^ 17) ticks
+is_head ticks = is_within head_limit ticks
 
--- a flow in range after the cut: at most 10^15 ticks either way
+-- a flow in range after the cut, either way
 abbrev pub is_flow : FlowUnit → ℤ → Bool
-is_flow unit nano = is_within (10 ^ 15) (flow_ticks unit nano)
+is_flow unit nano = is_within flow_limit (flow_ticks unit nano)
 
 -- ---- points in ticks
 
@@ -121,7 +122,7 @@ abbrev pub is_faster : HeadPoint → HeadPoint → Bool
 is_faster a b = lt_z a.flow b.flow && lt_z a.head b.head
 
 abbrev pub has_flow : HeadPoint → Bool
-has_flow point = is_within (10 ^ 15) point.flow
+has_flow point = is_within flow_limit point.flow
 
 -- a pump's curve of four and more points: flows of at least 0 that rise, heads that fall to at least 0, and at flow
 -- 0, by the line of the first two points, a head of at most 10^16 ticks

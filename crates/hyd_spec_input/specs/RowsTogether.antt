@@ -36,6 +36,7 @@ use Rattle.hyd_spec_input.specs.declared.Attribute.{Attribute}
 use Rattle.hyd_spec_input.specs.declared.Attribute.TheVariants.{Pressure, Level}
 use Rattle.hyd_spec_input.specs.declared.RuleWord.{RuleWord}
 use Rattle.hyd_spec_input.specs.declared.RuleWord.TheVariants.{Rule, And, Then, Else, Priority}
+use Rattle.hyd_net.specs.NumberRanges.{head_limit}
 use Rattle.hyd_net.specs.declared.refusal_cause.Cause.{Cause}
 use Rattle.hyd_net.specs.declared.refusal_cause.Cause.TheVariants.{Syntax, Range, DuplicateId, UnknownName, Unsupported}
 use Rattle.hyd_net.specs.declared.refusal_cause.Cause.TheVariants.{Limit}
@@ -374,7 +375,7 @@ rule_line rows k row =
 -- a pressure is a head
 abbrev pub pressure : List Row → ℤ → Option Cause
 pressure rows nano =
-    unless (le_z (pressure_numerator (us rows) nano) (pos (10 ^ 17 * pressure_denominator (us rows)))) Range
+    unless (le_z (pressure_numerator (us rows) nano) (pos (head_limit * pressure_denominator (us rows)))) Range
 
 -- where demands depend on pressure, the required pressure exceeds the minimum by a tenth of a unit at least; this is
 -- judged at the greater of their lines

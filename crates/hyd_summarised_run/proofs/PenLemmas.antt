@@ -9,7 +9,7 @@ use Rattle.hyd_io.specs.Output.{PenState}
 use Rattle.hyd_io.specs.Putting.{Puts}
 use Rattle.hyd_io.proofs.PutLemmas.{puts_nothing}
 use Rattle.hyd_run.specs.Pens.{told, moment, AreOpen, PutsIn}
-use Rattle.hyd_run.proofs.PenLemmas.{both-put, first-cut}
+use Rattle.hyd_run.proofs.PenLemmas.{both-put, first-cut-off}
 
 module _ {S : Type 0} {files : S → Option Files} {rest written printed target : S → Option (List ℕ)} {ready : S → Bool}
     {counts : S → Faults} {openings : S → Openings} where
@@ -21,7 +21,7 @@ module _ {S : Type 0} {files : S → Option Files} {rest written printed target 
       (moment c' r (told files rest written printed target ready counts openings e))
   cert-put a (Ok done) c c' r d e unbroken put =
       both-put a [] (Ok (tt {0})) c c' r r d e e unbroken put (puts_nothing r e unbroken.report_fault)
-  cert-put a (Err why) c c' r d e unbroken put = first-cut a [] why c c' r d e unbroken put
+  cert-put a (Err why) c c' r d e unbroken put = first-cut-off a [] why c c' r d e unbroken put
 
   -- at the report's
   pub report-put : (b : List ℕ) (result : Result (Unit {0}) OutFault) (c r r' : PenState) (d e : S)

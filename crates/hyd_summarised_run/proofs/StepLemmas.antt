@@ -66,8 +66,8 @@ module _ (before now : SimView) (is : IsSim now) (period : IsPeriod before now) 
   pub lost-there : (fault : OutFault) (row : Row) (m o : Moment) → row ≡ now.row → row.number < 2 ^ 32
       → row.time < 2 ^ 32 → row.length < 2 ^ 32 → IsCutOff fault (record_text (row_of row)) [] m o
       → LosesPeriod fault before now m o
-  lost-there fault row m o r number time seconds cut = record {
+  lost-there fault row m o r number time seconds cut_off = record {
     found = found-of before now;
     step = step-of (rw r at number) (rw r at time) (rw r at seconds);
-    cut = rw r at cut;
+    cut_off = rw r at cut_off;
   }

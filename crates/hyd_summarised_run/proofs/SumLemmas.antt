@@ -11,7 +11,7 @@ use Rattle.hyd_spec_reports.specs.PromisesOfRunsAndChecks.{Found, IsRunFrom, Sha
 use Rattle.hyd_spec_reports.specs.PromisesOfRunsAndChecks.{lines_of, last_line, report_so_far, is_finished}
 use Rattle.hyd_spec_reports.specs.PromisesOfRunsAndChecks.{certificate_so_far}
 use Rattle.hyd_spec_summary.specs.Summary.{event_count, summary_line, summary_text}
-use Rattle.hyd_lemmas.proofs.ListsAndOptions.{join-more, all-more}
+use Rattle.hyd_lemmas.proofs.ListsOptionsAndResults.{join-more, all-more}
 use Rattle.hyd_theorems_on_histories.proofs.Running.{every_history}
 use Rattle.hyd_cert.specs.Lines.{Header, header_text}
 use Rattle.hyd_io.specs.declared.output.OutFault.{OutFault}
@@ -24,11 +24,11 @@ use Rattle.hyd_sim.specs.declared.settings.Settings.{Settings}
 use Rattle.hyd_run.specs.Pens.{Moment, PutIn, IsCutOff, OneRose, LeavesRest}
 use Rattle.hyd_run.specs.Runs.{sharpness_of, fresh, outcome_of, IsStep, IsOver}
 use Rattle.hyd_run.specs.declared.outcome.RunEnd.{RunEnd}
-use Rattle.hyd_run.proofs.PenLemmas.{put-then, cut-then}
+use Rattle.hyd_run.proofs.PenLemmas.{put-then, cut-off-then}
 use Rattle.hyd_summarised_run.specs.SummarisedRuns.{IsSummed, IsSumBrokenOff, SumsSoFar, SumsWhole, SumsCutShort}
 use Rattle.hyd_summarised_run.specs.SummarisedRuns.{SumsPeriod, LosesPeriod, summary_so_far, IsWritten, RunSumsIn}
 use Rattle.hyd_run.proofs.RunLemmas.{rows-with, moved-whole, put-as, certificate-more, run-with, certificate-last}
-use Rattle.hyd_run.proofs.RunLemmas.{certificate-is, out-whole, cut-as}
+use Rattle.hyd_run.proofs.RunLemmas.{certificate-is, out-whole, cut-off-as}
 use Rattle.hyd_summarised_run.proofs.EventLemmas.{events-append}
 
 -- ---- texts put in, in other words
@@ -40,9 +40,9 @@ nothing-before (c ∷ front) held e = absurd (cc)
 -- what was put in, with nothing held, was written, and it is still when the other pen is cut off
 written-still : (a b : List ℕ) (why : OutFault) (c : List ℕ) (m n o : Moment) → PutIn a b m n
     → n.certificate.held ≡ [] → IsCutOff why [] c n o → IsWritten a m o
-written-still a b why c m n o put emptied cut =
-    let later = cut.written.1 in
-    let none : later.front ≡ [] = nothing-before later.front cut.written.0
+written-still a b why c m n o put emptied cut_off =
+    let later = cut_off.written.1 in
+    let none : later.front ≡ [] = nothing-before later.front cut_off.written.0
     (ap (λ h. h ++ []) (sym emptied) ∙ later.whole) in
     let still : o.told.written ≡ n.told.written = later.out ∙ (ap (append_known n.told.written) none
     ∙ append_known-nil n.told.written) in
@@ -53,13 +53,13 @@ written-still a b why c m n o put emptied cut =
     }
 
 -- what would have been printed next isn't printed either
-cut-more : (why : OutFault) (a b : List ℕ) (m n : Moment) → IsCutOff why a [] m n → IsCutOff why a b m n
-cut-more why a b m n cut = record {
-  written = cut.written;
+cut-off-more : (why : OutFault) (a b : List ℕ) (m n : Moment) → IsCutOff why a [] m n → IsCutOff why a b m n
+cut-off-more why a b m n cut_off = record {
+  written = cut_off.written;
   printed = subst (λ (all : List ℕ). PutOut m.told.printed n.told.printed (all ++ b)) (append-nil m.report.held)
-      (put_out_more m.told.printed n.told.printed (m.report.held ++ []) b cut.printed);
-  rose = cut.rose;
-  leaves = cut.leaves;
+      (put_out_more m.told.printed n.told.printed (m.report.held ++ []) b cut_off.printed);
+  rose = cut_off.rose;
+  leaves = cut_off.leaves;
 }
 
 -- ---- a run so far
@@ -94,24 +94,24 @@ begun project settings left header before now same start put =
     (begins project (sharpness_of settings) before now
     (subst (λ (h : Header). PutIn (header_text h) [] before now) same put))
 
-pub begun-cut : (project : Project) (settings : Settings) (fault : OutFault) (header : Header) (before now : Moment)
+pub begun-cut-off : (project : Project) (settings : Settings) (fault : OutFault) (header : Header) (before now : Moment)
     → header ≡ header_for project → IsCutOff fault (header_text header) [] before now
     → SumsCutShort project settings fault before now
-begun-cut project settings fault header before now same cut = record {
+begun-cut-off project settings fault header before now same cut_off = record {
   founds = [];
   left = initial_standing project;
   is_run = IsRunFrom.none;
   sharp = tt;
   last = None;
   ends_so = tt;
-  cut = off;
+  cut_off = off;
   in_order = inl off;
 }
   where
     off : IsCutOff fault (certificate_so_far project [] None) [] before now
-    off = cut-as fault _ [] _ [] before now
+    off = cut-off-as fault _ [] _ [] before now
         (sym (append-nil (header_line (version_of project) (junction_count project) (tank_count project)))) refl
-        (subst (λ (h : Header). IsCutOff fault (header_text h) [] before now) same cut)
+        (subst (λ (h : Header). IsCutOff fault (header_text h) [] before now) same cut_off)
 
 -- a period more, of the run that was begun
 pub more-done : (project : Project) (settings : Settings) (before now : SimView) (start m n : Moment)
@@ -147,7 +147,7 @@ more-lost project settings fault before now start m n events p s lost so_far = r
   sharp = all-more (IsSharpFound project (sharpness_of settings)) so_far.founds lost.found so_far.sharp step.sharp;
   last = None;
   ends_so = tt;
-  cut = off;
+  cut_off = off;
   in_order = inl off;
 }
   where
@@ -155,8 +155,8 @@ more-lost project settings fault before now start m n events p s lost so_far = r
     step = rw (← p, ← s) lost.step
 
     off : IsCutOff fault (certificate_so_far project (so_far.founds ++ (lost.found ∷ [])) None) [] start n
-    off = cut-as fault _ [] _ [] start n (certificate-more project so_far.founds lost.found) refl
-        (cut-then fault _ [] _ [] start m n so_far.put lost.cut)
+    off = cut-off-as fault _ [] _ [] start n (certificate-more project so_far.founds lost.found) refl
+        (cut-off-then fault _ [] _ [] start m n so_far.put lost.cut_off)
 
 pub over-stays : (project : Project) (settings : Settings) (outcome : Outcome) (before now : SimView) (events : ℕ)
     (start m n : Moment) → IsOver outcome before now m n
@@ -183,24 +183,24 @@ module _ (project : Project) (settings : Settings) (outcome : Outcome) (left : S
       (subst (λ (n : ℕ). PutIn (end_line n (is_finished outcome)) [] before now) same put))
 
   -- or cut off
-  pub close-cut : (fault : OutFault) (now : Moment)
+  pub close-cut-off : (fault : OutFault) (now : Moment)
       → IsCutOff fault (end_line records (is_finished outcome)) [] before now
       → SumsCutShort project settings fault start now
-  close-cut fault now cut = record {
+  close-cut-off fault now cut_off = record {
     founds = so_far.founds;
     left = left;
     is_run = so_far.is_run;
     sharp = so_far.sharp;
     last = Some outcome;
     ends_so = ends;
-    cut = cut-more fault _ (summary_text project left so_far.founds outcome) start now off;
+    cut_off = cut-off-more fault _ (summary_text project left so_far.founds outcome) start now off;
     in_order = inl off;
   }
     where
       off : IsCutOff fault (certificate_so_far project so_far.founds (Some outcome)) [] start now
-      off = cut-as fault _ [] _ [] start now (certificate-last project so_far.founds outcome) refl
-          (cut-then fault _ [] _ [] start before now so_far.put
-          (subst (λ (n : ℕ). IsCutOff fault (end_line n (is_finished outcome)) [] before now) same cut))
+      off = cut-off-as fault _ [] _ [] start now (certificate-last project so_far.founds outcome) refl
+          (cut-off-then fault _ [] _ [] start before now so_far.put
+          (subst (λ (n : ℕ). IsCutOff fault (end_line n (is_finished outcome)) [] before now) same cut_off))
 
   -- the summary in the words of what was found
   text-is : summary_line (junction_count project) (length project.links.list) records events
@@ -229,23 +229,24 @@ module _ (project : Project) (settings : Settings) (outcome : Outcome) (left : S
         (closed closed-at put) summed);
   }
 
-  pub summary-cut : (fault : OutFault) (closed-at now : Moment)
+  pub summary-cut-off : (fault : OutFault) (closed-at now : Moment)
       → PutIn (end_line records (is_finished outcome)) [] before closed-at → closed-at.certificate.held ≡ []
       → IsCutOff fault [] (summary_line (junction_count project) (length project.links.list) records events
       ++ last_line project left records outcome) closed-at now
       → SumsCutShort project settings fault start now
-  summary-cut fault closed-at now put emptied cut = record {
+  summary-cut-off fault closed-at now put emptied cut_off = record {
     founds = so_far.founds;
     left = left;
     is_run = so_far.is_run;
     sharp = so_far.sharp;
     last = Some outcome;
     ends_so = ends;
-    cut = cut-as fault _ _ _ _ start now (append-nil (certificate_so_far project so_far.founds (Some outcome))) text-is
-        (cut-then fault (certificate_so_far project so_far.founds (Some outcome)) [] [] _ start closed-at now
-        (closed closed-at put) cut);
+    cut_off = cut-off-as fault _ _ _ _ start now (append-nil (certificate_so_far project so_far.founds (Some outcome)))
+        text-is
+        (cut-off-then fault (certificate_so_far project so_far.founds (Some outcome)) [] [] _ start closed-at now
+        (closed closed-at put) cut_off);
     in_order = inr (written-still (certificate_so_far project so_far.founds (Some outcome)) [] fault _ start closed-at
-        now (closed closed-at put) emptied cut);
+        now (closed closed-at put) emptied cut_off);
   }
 
 -- what the last lines make of a run, as of the one that was begun
@@ -337,7 +338,7 @@ module _ (project : Project) (settings : Settings) (start now : Moment) (sound :
   in-summary fault short whole =
       let a = certificate_so_far project short.founds short.last in
       let p = out-whole start.told.printed now.told.printed start.report.held
-      (summary_so_far project short.left short.founds short.last) r-held short.cut.printed in
+      (summary_so_far project short.left short.founds short.last) r-held short.cut_off.printed in
       record {
         certificate = a;
         summary = p.1.front;
@@ -380,7 +381,7 @@ module _ (project : Project) (settings : Settings) (start now : Moment) (sound :
   pub gives-rose : (result : Result RunEnd OutFault) → RunSumsIn result project settings start now
       → IfErr result (λ fault. OneRose fault start.told.counts now.told.counts)
   gives-rose (Ok end) puts = tt
-  gives-rose (Err fault) puts = puts.cut.rose
+  gives-rose (Err fault) puts = puts.cut_off.rose
 
   pub gives-steady : (result : Result RunEnd OutFault) → RunSumsIn result project settings start now
       → OnOk result (now.told.counts ≡ start.told.counts)
@@ -390,4 +391,4 @@ module _ (project : Project) (settings : Settings) (start now : Moment) (sound :
   pub gives-rest : (result : Result RunEnd OutFault) → RunSumsIn result project settings start now
       → LeavesRest start.told now.told
   gives-rest (Ok end) puts = puts.put.leaves
-  gives-rest (Err fault) puts = puts.cut.leaves
+  gives-rest (Err fault) puts = puts.cut_off.leaves

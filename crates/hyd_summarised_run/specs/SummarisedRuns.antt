@@ -93,7 +93,8 @@ pub record SumsCutShort (project : Project) (settings : Settings) (fault : OutFa
   pub sharp : AllByRecursion (IsSharpFound project (sharpness_of settings)) founds
   pub last : Option Outcome
   pub ends_so : MatchOption last ⊤ (EndsSo project left settings.rounds)
-  pub cut : IsCutOff fault (certificate_so_far project founds last) (summary_so_far project left founds last) before now
+  pub cut_off : IsCutOff fault (certificate_so_far project founds last) (summary_so_far project left founds last) before
+      now
   pub in_order : IsCutOff fault (certificate_so_far project founds last) [] before now
       ⊎ IsWritten (certificate_so_far project founds last) before now
 
@@ -113,7 +114,7 @@ pub record SumsPeriod (events : ℕ) (sim now : SimView) (before after : Moment)
 pub record LosesPeriod (fault : OutFault) (sim now : SimView) (before after : Moment) : Type 0 where
   pub found : Found
   pub step : IsStep now.project (sharpness_of now.settings) (standing_of sim) (standing_of now) found
-  pub cut : IsCutOff fault (record_text found.row) [] before after
+  pub cut_off : IsCutOff fault (record_text found.row) [] before after
 
 -- What a step does.
 abbrev pub StepSums : Result Turn OutFault → SimView → SimView → Moment → Moment → Type 0

@@ -15,24 +15,13 @@ ghost use Rattle.hyd_run.specs.Pens.{Moment, told, moment, AreOpen, PutsIn};
 ghost use Rattle.hyd_run.specs.Runs.{fresh, outcome_of, sharpness_of};
 ghost use Rattle.hyd_summarised_run.specs.SummarisedRuns.{aside, SumsSoFar, RunSumsIn};
 
-use crate::pens::empty;
 use crate::steps::Ended;
-use crate::summary::{Counts, put_counts, put_last_line};
+use crate::summary::{Counts, put_counts};
 use hyd_cert::put_end;
 use hyd_io::{Desk, OutFault, Pen};
 use hyd_net::Project;
-use hyd_run::RunEnd;
+use hyd_run::{RunEnd, empty, is_finished, put_last_line};
 use hyd_sim::Sim;
-
-// Whether a run has finished.
-fn is_finished(end: RunEnd) -> bool
-    ensures { result ≡ is_finished (outcome_of end) }
-{
-    match end {
-        RunEnd::Finished => true,
-        RunEnd::Stopped(_) => false,
-    }
-}
 
 // Puts the END line, and empties the pen.
 fn close_certificate<D: Desk>(

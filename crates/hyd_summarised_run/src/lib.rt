@@ -2,7 +2,7 @@
 #![tactic(auto)]
 
 mod ending;
-mod pens;
+mod numbers;
 mod steps;
 mod summary;
 mod whole_run;

@@ -4,7 +4,7 @@ ghost use Rattle.std.specs.Prelude.{◌≡◌, ◌<◌, ◌^◌, OnOk};
 ghost use Rattle.hyd_run.specs.Pens.{told, AreOpen};
 ghost use Rattle.hyd_summarised_run.specs.SummarisedRuns.{aside, StepSums, StepsSum};
 
-use hyd_cert::{Record, put_record};
+use hyd_cert::{has_small_numbers, put_record};
 use hyd_finders::Finder;
 use hyd_io::{Desk, OutFault, Pen};
 use hyd_run::RunEnd;
@@ -27,29 +27,11 @@ pub(crate) struct Ended {
     pub(crate) events: u128,
 }
 
-// A number is below 2^32.
-fn is_small(number: u32)
-    ensures { number < 2 ^ 32 }
-{
-    let _ = number;
-}
-
 // A count of what lies in memory is below 2^64.
 fn is_count(count: usize)
     ensures { count < 2 ^ 64 }
 {
     let _ = count;
-}
-
-// The numbers of a record are below 2^32.
-fn has_small_numbers(row: &Record)
-    ensures number { row.now.number < 2 ^ 32 }
-    ensures time { row.now.time < 2 ^ 32 }
-    ensures length { row.now.length < 2 ^ 32 }
-{
-    is_small(row.number);
-    is_small(row.time);
-    is_small(row.length);
 }
 
 // Does the period that is due and puts its record, or answers how the run ended.

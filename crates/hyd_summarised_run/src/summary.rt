@@ -1,19 +1,12 @@
 //! The summary.
 
-ghost use Rattle.std.specs.Prelude.{◌≡◌, ◌++◌, IsTrue, codes, decimal};
+ghost use Rattle.std.specs.Prelude.{◌++◌, IsTrue, codes, decimal};
 ghost use Rattle.hyd_io.specs.Output.{OnCert};
-ghost use Rattle.hyd_net.specs.Sound.{Sound};
-ghost use Rattle.hyd_spec_certificates.specs.RecordAndStanding.{Standing};
-ghost use Rattle.hyd_spec_reports.specs.PromisesOfRunsAndChecks.{last_line};
 ghost use Rattle.hyd_spec_summary.specs.Summary.{summary_line};
 ghost use Rattle.hyd_io.specs.Putting.{Puts};
-ghost use Rattle.hyd_run.specs.Runs.{outcome_of};
 
-use crate::pens::put_number;
+use crate::numbers::put_number;
 use hyd_io::{Desk, OutFault, Pen};
-use hyd_net::Project;
-use hyd_report::{put_done, put_stop};
-use hyd_run::RunEnd;
 
 // Puts a text and the number behind it.
 fn put_counted<D: Desk>(
@@ -111,25 +104,4 @@ pub(crate) fn put_counts<D: Desk>(
         Err(fault) => return Err(fault),
     }
     put_run_counts(counts.periods, counts.events, pen, desk)
-}
-
-/// Puts the last line of a report.
-pub(crate) fn put_last_line<D: Desk>(
-    project: &Project,
-    time: u32,
-    records: u32,
-    end: RunEnd,
-    pen: &mut Pen,
-    desk: &mut D,
-) -> Result<(), OutFault>
-    requires sound { Sound project.now }
-    requires ready { OnCert pen.old.to (IsTrue (D.ready desk.old)) }
-    ensures { (standing : Standing) → standing.time ≡ time
-        → Puts D.files D.rest D.written D.printed D.target D.ready D.counts D.openings
-        (last_line project.now standing records (outcome_of end)) result pen.old pen.new desk.old desk.new }
-{
-    match end {
-        RunEnd::Finished => put_done(records, pen, desk),
-        RunEnd::Stopped(cause) => put_stop(project, time, &cause, pen, desk),
-    }
 }

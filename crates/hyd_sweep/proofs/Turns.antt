@@ -16,10 +16,10 @@ use Rattle.hyd_spec_certificates.specs.SearchSteps.{IsStart, IsLeap, Fails}
 use Rattle.hyd_theorems_on_definitions.specs.TermsOfTheorems.{IsSteady}
 use Rattle.hyd_theorems_on_definitions.specs.Sides.{along}
 use Rattle.hyd_lemmas.proofs.Integers.{same-or-not}
+use Rattle.hyd_lemmas.proofs.ListsOptionsAndResults.{item_there}
 use Rattle.hyd_theorems_on_raises.proofs.Leading.{beyond-is, lead, IsLeading, passes-leading, fails-leading}
 use Rattle.hyd_theorems_on_raises.proofs.Raising.{beyond-self, by-beyond, set-here, set-there}
 use Rattle.hyd_theorems_on_raises.proofs.Sweeping.{one-vector, vector-self, vector-trans}
-use Rattle.hyd_vector_check.proofs.Lookups.{junction-there}
 use Rattle.hyd_sweep.specs.Leaps.{nearer, IsTurn, IsLeapInTurn, LeadsOn}
 
 pub along-nearer : (side : Side) (h : ℤ) → along side (nearer side h) ≡ along side h -ℤ pos 1
@@ -229,7 +229,7 @@ module _ (held : Option HeldJunction) (grid : Grid) (steady : IsSteady grid) (pr
               let inside = best.below in
               let most = best.each m lt in
               let long = leap.one_each in let other = start.one_each in
-              let at = junction-there grid.junctions i (omega (arith, inside, long, other)) in
+              let at = item_there grid.junctions i (omega (arith, inside, long, other)) in
               elim (same-or-not (head_at v i) (head_at u i)) [
                 | inl e ↦ stays e
                 | inr moved ↦ elim (leap.moves i (omega (arith, inside, long)) at.0 at.1) [

@@ -16,7 +16,6 @@ use Rattle.hyd_spec_certificates.specs.Certificate.{IsInBox, Suits, IsCertificat
 use Rattle.hyd_theorems_on_definitions.specs.TermsOfTheorems.{IsSteady}
 use Rattle.hyd_spec_certificates.specs.SearchSteps.{IsStart, Climbs, done, raised, HasRounds, HasParts, LiesBeyond}
 use Rattle.hyd_theorems_on_definitions.specs.Sides.{along}
-use Rattle.hyd_vector_check.proofs.Lookups.{junction-there}
 use Rattle.hyd_theorems_on_raises.proofs.Leading.{beyond-is}
 use Rattle.hyd_theorems_on_raises.proofs.Raising.{set-in-box, set-here, along-one, no-value, start-tight, inside-of}
 use Rattle.hyd_theorems_on_raises.proofs.Sweeping.{vector-self, climb-on, climb-start, climb-so-far, so-far-begins}
@@ -27,6 +26,7 @@ use Rattle.hyd_sweep.specs.declared.answers.Raised.TheVariants.{Passed, Moved, N
 use Rattle.hyd_sweep.specs.declared.answers.Swept.TheVariants.{NoCertificate, RoundsSpent}
 use Rattle.hyd_sweep.specs.Sweeps.{RaisesTo, RaiseGives, AreRaises, no_raise, one_raise, FollowGives, FollowLeads}
 use Rattle.hyd_sweep.specs.Sweeps.{NamesEach, RoundGives, SweepGives, numbers, IsFollowing}
+use Rattle.hyd_lemmas.proofs.ListsOptionsAndResults.{item_there}
 
 -- what is named by the numbers below n
 pub numbered : (n i : ℕ) → i < n → Contains (numbers n) i
@@ -82,7 +82,7 @@ module _ (held : Option HeldJunction) (grid : Grid) (steady : IsSteady grid) (pr
       → AreRaises held grid problem side order old u → RaisesTo held grid problem side u i x
       → AreRaises held grid problem side (order ++ (i ∷ [])) old (slice_set u i x)
   one-raise-more order old u i x inside so_far raises =
-      let at = junction-there grid.junctions i inside in
+      let at = item_there grid.junctions i inside in
       raises-append order (i ∷ []) old u (slice_set u i x) so_far (one_raise at.1 (raises at.0 at.1) no_raise)
 
   pub following-passed : (order : List ℕ) (old u new : List ℤ) (moved : Bool) (i : ℕ) → i < length grid.junctions
@@ -108,7 +108,7 @@ module _ (held : Option HeldJunction) (grid : Grid) (steady : IsSteady grid) (pr
       new true
   following-moved order old u new moved i inside long so_far gives =
       let x = gives.0 in
-      let at = junction-there grid.junctions i inside in
+      let at = item_there grid.junctions i inside in
       let raise = gives.1.1.1 at.0 at.1 in
       let in-u : i < length u = (let l = so_far.one_each in omega (arith, l, inside)) in
       let here = ap (along side) (set-here u i x in-u) in
@@ -169,7 +169,7 @@ module _ (held : Option HeldJunction) (grid : Grid) (steady : IsSteady grid) (pr
   pub sweep-none : (n : ℕ) (old u w : List ℤ) (j : ℕ) → IsStart held grid problem side u
       → RoundGives held grid problem side u w (Some j) → SweepGives held grid problem side n old w (NoCertificate j)
   sweep-none n old u w j start gives =
-      let at = junction-there grid.junctions j gives.0 in
+      let at = item_there grid.junctions j gives.0 in
       let next = climb-start held grid steady problem side (numbers j) u w (raises-climb (numbers j) u w gives.1.0)
       start in (
         gives.0,
@@ -237,7 +237,7 @@ module _ (held : Option HeldJunction) (grid : Grid) (steady : IsSteady grid) (pr
       → IsCertificateHolding held grid problem side w → ⊥
   gives-none order old new inside gives start w =
       let i = slice_index_or order gives.0 0 in
-      let at = junction-there grid.junctions i (inside gives.0 gives.1.0) in
+      let at = item_there grid.junctions i (inside gives.0 gives.1.0) in
       no-value held grid steady problem side new i at.0 (gives-start order old new NoValue gives start) at.1
       (gives.1.1.1 at.0 at.1) w
 

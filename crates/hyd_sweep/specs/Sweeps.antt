@@ -1,6 +1,6 @@
 -- What raises and sweeps give.
 -- Source: this program's; rounds in any order are chaotic iterations (Chazan and Miranker 1969).
-use Rattle.std.specs.Prelude.{◌≡◌, ◌≢◌, ℕ, ◌<◌, ◌≤◌, ℤ, pos, neg_ℤ, ◌+ℤ◌, ◌-ℤ◌, List, [], ◌∷◌, ◌++◌, length, take, All}
+use Rattle.std.specs.Prelude.{◌≡◌, ◌≢◌, ℕ, ◌<◌, ◌≤◌, ℤ, pos, ◌+ℤ◌, ◌-ℤ◌, List, [], ◌∷◌, ◌++◌, length, take, All}
 use Rattle.std.specs.Prelude.{Contains, slice_get, slice_set, slice_index_or, Option, Some, None, suc, zero, ⊤, ◌<ℤ◌}
 use Rattle.std.specs.Prelude.{Bool, true, false}
 use Rattle.std.specs.List.{AllByRecursion}
@@ -11,7 +11,7 @@ use Rattle.hyd_spec_certificates.specs.declared.Side.{Side}
 use Rattle.hyd_spec_certificates.specs.declared.Side.TheVariants.{Upper, Lower}
 use Rattle.hyd_spec_certificates.specs.declared.HeldJunction.{HeldJunction}
 use Rattle.hyd_spec_certificates.specs.PeriodNetwork.{Grid, GridJunction}
-use Rattle.hyd_spec_certificates.specs.Certificate.{box_limit, IsInBox, Suits, IsCertificateHolding, IsCandidateHolding}
+use Rattle.hyd_spec_certificates.specs.Certificate.{IsInBox, Suits, IsCertificateHolding, IsCandidateHolding}
 use Rattle.hyd_spec_certificates.specs.Certificate.{IsRaisedHolding, AreRoundsHolding, IsTightHolding}
 use Rattle.hyd_spec_certificates.specs.SearchSteps.{IsStart, LiesBeyond, HasParts, HasRounds, JoinsNone}
 use Rattle.hyd_theorems_on_definitions.specs.Sides.{along}
@@ -35,13 +35,6 @@ IsHeldAt held i h = held ≡ Some (record { junction = i; head = h })
 abbrev pub HoldsInBox : Option HeldJunction → Type 0
 HoldsInBox None = ⊤
 HoldsInBox (Some held) = IsInBox held.head
-
--- ---- the box
-
--- the head at the near end of the box: the floor for UPPER, the ceiling for LOWER
-abbrev pub near_end : Side → ℤ
-near_end Upper = neg_ℤ (pos box_limit)
-near_end Lower = pos box_limit
 
 -- ---- one junction
 

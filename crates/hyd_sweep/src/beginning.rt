@@ -7,7 +7,7 @@ ghost use Rattle.hyd_spec_certificates.specs.declared.HeldJunction.{HeldJunction
 ghost use Rattle.hyd_spec_certificates.specs.PeriodNetwork.{Grid};
 ghost use Rattle.hyd_spec_certificates.specs.SearchSteps.{IsStart};
 ghost use Rattle.hyd_spec_reports.specs.Stops.{beginning};
-ghost use Rattle.hyd_sweep.specs.Sweeps.{near_end};
+ghost use Rattle.hyd_theorems_on_definitions.specs.Sides.{near_end};
 
 use hyd_spec_certificates::{BOX_LIMIT, Side};
 

@@ -35,7 +35,7 @@ pub(crate) fn further(side: Side, head: i64, ticks: u64) -> i64
 }
 
 /// The head one tick nearer.
-pub(crate) fn nearer(side: Side, head: i64) -> i64
+pub fn nearer(side: Side, head: i64) -> i64
     requires { IsInBox head }
     ensures { result ≡ nearer side head }
 {

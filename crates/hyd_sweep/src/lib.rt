@@ -14,6 +14,7 @@ mod sweeper;
 
 pub use answers::{Raised, Swept};
 pub use beginning::begin;
+pub use heads_along_side::nearer;
 pub use leaps::leap;
 pub use raises_in_order::{follow, follow_sub, follow_super};
 pub use raising::{raise, raise_sub, raise_super};

@@ -4,7 +4,7 @@
 ghost use Rattle.std.specs.Prelude.{◌≡◌, ◌<◌, ◌≤◌, ◌+◌, ◌-◌, ◌*◌, ◌^◌, ◌-ℤ◌, ◌≤ℤ◌, ℕ, pos, suc, length, unsigned_abs};
 ghost use Rattle.std.specs.Prelude.{All, if◌then◌else◌};
 ghost use Rattle.hyd_spec.specs.Assignment.{head_at};
-ghost use Rattle.hyd_spec_certificates.specs.Certificate.{IsInBox};
+ghost use Rattle.hyd_spec_certificates.specs.Certificate.{box_limit, IsInBox};
 ghost use Rattle.hyd_theorems_on_definitions.specs.Sides.{along};
 ghost use Rattle.hyd_period_network.specs.NetAsPeriodNetwork.{grid_of};
 ghost use Rattle.hyd_period_network.specs.NetInvariant.{HasProblem};
@@ -14,7 +14,7 @@ ghost use Rattle.hyd_sweep.specs.Strides.{IsStride, reach, LiesWithin};
 
 use crate::leaps::leap;
 use hyd_period_network::Net;
-use hyd_spec_certificates::{HeldJunction, Problem, Side};
+use hyd_spec_certificates::{BOX_LIMIT, HeldJunction, Problem, Side};
 use hyd_vector_check::head_of;
 
 // More tries aren't made after a round: 18 longer strides, as many shorter ones, and three below 1.
@@ -27,7 +27,7 @@ const LONGEST: u64 = 1 << 18;
 const PARTS: u64 = 8;
 
 // Farther than from one end of the box to the other, in head ticks.
-const PAST_BOX: u128 = 3_000_000_000_000_000_000;
+const PAST_BOX: u128 = 3 * BOX_LIMIT as u128;
 
 /// How far the next leap goes: so many parts of the way that a round went.
 #[derive(Clone, Copy, Drop)]
@@ -90,7 +90,7 @@ impl Stride {
     // So far on along a way, in ticks, or past the box in any case.
     fn ticks(self, way: u64) -> u64
         requires { IsStride self }
-        ensures within { result ≤ 3 * 10 ^ 18 }
+        ensures within { result ≤ 3 * box_limit }
         ensures most { result ≤ self.times * way }
     {
         let ticks = u128::from(self.times) * u128::from(way) / u128::from(self.parts);

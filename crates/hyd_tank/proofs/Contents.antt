@@ -12,15 +12,12 @@ use Rattle.hyd_spec_certificates.specs.Stocks.{end_of}
 use Rattle.hyd_lemmas.proofs.Integers.{floor_low, floor_greatest, ceiling_high, ceiling_least}
 use Rattle.hyd_theorems_on_definitions.proofs.Leading.{one-within}
 use Rattle.hyd_theorems_on_definitions.proofs.Placing.{above-yes, above-no, below-yes, below-no}
+use Rattle.hyd_theorems_on_definitions.proofs.Vessels.{some-area}
 use Rattle.hyd_net.specs.NumberRanges.{Lies}
 use Rattle.hyd_tank.specs.Contents.{bounds_of, in_ticks, held_in, IsBetween}
 use Rattle.hyd_tank.specs.declared.content.Bounds.{Bounds as Limits}
 
 -- ---- parts
-
-pub some_parts : (b : ℤ) → pos 1 ≤ℤ b → 0 < unsigned_abs b
-some_parts (pos n) h = omega (arith, ints, h)
-some_parts (negsuc n) h = absurd (omega (arith, ints, h))
 
 breadth-is : (b : ℤ) → pos 1 ≤ℤ b → b ≡ pos (unsigned_abs b)
 breadth-is (pos n) h = refl
@@ -203,7 +200,7 @@ module _ (b : ℤ) (bounds : Limits) (n : ℤ) (some : pos 1 ≤ℤ b) (apart : 
   parts-apart : (pos (unsigned_abs b) *ℤ bounds.least) <ℤ (pos (unsigned_abs b) *ℤ bounds.most)
   parts-apart =
       let l = times_rises (unsigned_abs b) (bounds.least +ℤ pos 1) bounds.most (omega (arith, ints, apart)) in
-      let positive = some_parts b some in
+      let positive = some-area b some in
       omega (arith, ints, l, positive, times_plus (unsigned_abs b) bounds.least (pos 1), times_one (unsigned_abs b))
 
   -- the held number has the bounds of the number, and is that number between them

@@ -1,6 +1,6 @@
 -- How full a tank is at a level, and at both ends of an interval.
 use Rattle.std.proofs.Common.{◌≡◌, ℤ, pos, ◌+ℤ◌, ◌-ℤ◌, ◌*ℤ◌, ◌≤ℤ◌, ◌<ℤ◌, Bool, false, refl, ap, ◌∙◌, arith, Some, None}
-use Rattle.std.specs.Prelude.{int_le, if◌then◌else◌}
+use Rattle.std.specs.Prelude.{int_le}
 use Rattle.std.proofs.lemmas.Int.{ints}
 use Rattle.hyd_spec.specs.ProgramTypes.{Tank}
 use Rattle.hyd_spec.specs.Scale.{at_scale}
@@ -10,32 +10,30 @@ use Rattle.hyd_spec.specs.declared.TankState.TheVariants.{Full, Between, Empty}
 use Rattle.hyd_spec_certificates.specs.Stocks.{shared_state}
 use Rattle.hyd_num.proofs.Integers.{one_times}
 use Rattle.hyd_lemmas.proofs.Trials.{le-from, le-not}
-
-abbrev by-tests : Bool → Bool → TankState
-by-tests full empty = if full then Full else if empty then Empty else Between
+use Rattle.hyd_theorems_on_definitions.proofs.Levelling.{state_by}
 
 module _ (tank : Tank) (level : ℤ) where
   pub full_is : (tank.maximum -ℤ state_band) ≤ℤ level → tank_state 1 tank level ≡ Full
-  full_is h = ap (λ (b : Bool). by-tests b (int_le level (at_scale 1 (tank.minimum +ℤ state_band))))
+  full_is h = ap (λ (b : Bool). state_by b (int_le level (at_scale 1 (tank.minimum +ℤ state_band))))
       (le-from (pos 1 *ℤ (tank.maximum -ℤ state_band)) level
       (omega (arith, ints, h, one_times (tank.maximum -ℤ state_band))))
 
   pub empty_is : level <ℤ (tank.maximum -ℤ state_band) → level ≤ℤ (tank.minimum +ℤ state_band)
       → tank_state 1 tank level ≡ Empty
   empty_is s h =
-      ap (λ (b : Bool). by-tests b (int_le level (at_scale 1 (tank.minimum +ℤ state_band))))
+      ap (λ (b : Bool). state_by b (int_le level (at_scale 1 (tank.minimum +ℤ state_band))))
       (le-not (pos 1 *ℤ (tank.maximum -ℤ state_band)) level (omega
       (arith, ints, s, one_times (tank.maximum -ℤ state_band))))
-      ∙ ap (λ (b : Bool). by-tests false b) (le-from level (pos 1 *ℤ (tank.minimum +ℤ state_band))
+      ∙ ap (λ (b : Bool). state_by false b) (le-from level (pos 1 *ℤ (tank.minimum +ℤ state_band))
       (omega (arith, ints, h, one_times (tank.minimum +ℤ state_band))))
 
   pub between_is : level <ℤ (tank.maximum -ℤ state_band) → (tank.minimum +ℤ state_band) <ℤ level
       → tank_state 1 tank level ≡ Between
   between_is s h =
-      ap (λ (b : Bool). by-tests b (int_le level (at_scale 1 (tank.minimum +ℤ state_band))))
+      ap (λ (b : Bool). state_by b (int_le level (at_scale 1 (tank.minimum +ℤ state_band))))
       (le-not (pos 1 *ℤ (tank.maximum -ℤ state_band)) level (omega
       (arith, ints, s, one_times (tank.maximum -ℤ state_band))))
-      ∙ ap (λ (b : Bool). by-tests false b) (le-not level (pos 1 *ℤ (tank.minimum +ℤ state_band))
+      ∙ ap (λ (b : Bool). state_by false b) (le-not level (pos 1 *ℤ (tank.minimum +ℤ state_band))
       (omega (arith, ints, h, one_times (tank.minimum +ℤ state_band))))
 
 -- ---- both ends

@@ -7,6 +7,7 @@ use Rattle.std.proofs.lemmas.Int.{ints}
 use Rattle.std.proofs.lemmas.Option.{same_Some}
 use Rattle.std.proofs.Math.Nat.{mul-le-mul}
 use Rattle.hyd_num.proofs.Integers.{times_rises}
+use Rattle.hyd_num.specs.FileQuantity.{ten_thousandths_of_metre_in_foot, head_ticks_in_billionth_of_metre}
 use Rattle.hyd_num.specs.FileQuantity.{is_us_unit, head_ticks}
 use Rattle.hyd_num.specs.QuotientsAndRoots.{IsFloor}
 use Rattle.hyd_net.specs.ListView.{ListView}
@@ -20,17 +21,16 @@ use Rattle.hyd_spec_certificates.specs.Stocks.{Stocks, next_stocks, carried_stoc
 use Rattle.hyd_spec_certificates.specs.FirstSeconds.{IsEarliestSecond, IsLatestSecond}
 use Rattle.hyd_theorems_on_definitions.proofs.Levelling.{next_within, volumes_within}
 use Rattle.hyd_theorems_on_definitions.specs.TermsOfTheorems.{IsVessel}
-use Rattle.hyd_theorems_on_definitions.proofs.Vessels.{IsSoundTank, sound_tank, shape_of}
+use Rattle.hyd_theorems_on_definitions.proofs.Vessels.{IsSoundTank, sound_tank, shape_of, some-area}
 use Rattle.hyd_tank.specs.declared.stock_intervals.Stock.{Stock}
 use Rattle.hyd_tank.specs.StockIntervals.{stocks_of, stocks_at, AreHeld, cylinder, IsTankOfRange, IsCylinder, IsBasin}
 use Rattle.hyd_tank.specs.StockIntervals.{IsTankOf}
-use Rattle.hyd_tank.proofs.Contents.{some_parts}
 
 pub cylinder_vessel : (tank : Tank) → IsCylinder tank → IsVessel (cylinder tank) tank
 cylinder_vessel tank is =
     let apart = is.levels.apart in
     record {
-      holds_water = some_parts tank.area is.area.at_least;
+      holds_water = some-area tank.area is.area.at_least;
       ordered = omega (arith, ints, apart);
       contents_ordered = omega (arith, ints, apart);
     }
@@ -40,12 +40,12 @@ cylinder_vessel tank is =
 across-range : (us : Bool) (nano : ℤ) → pos (10 ^ 8) ≤ℤ nano → nano ≤ℤ pos (10 ^ 12)
     → Lies (pos (10 ^ 11)) (pos (10 ^ 16)) (head_ticks us nano)
 across-range true nano low high =
-    let a = times_rises 3048 (pos (10 ^ 8)) nano low in
-    let b = times_rises 3048 nano (pos (10 ^ 12)) high in
+    let a = times_rises ten_thousandths_of_metre_in_foot (pos (10 ^ 8)) nano low in
+    let b = times_rises ten_thousandths_of_metre_in_foot nano (pos (10 ^ 12)) high in
     record { at_least = omega (arith, ints, a); at_most = omega (arith, ints, b) }
 across-range false nano low high =
-    let a = times_rises 10000 (pos (10 ^ 8)) nano low in
-    let b = times_rises 10000 nano (pos (10 ^ 12)) high in
+    let a = times_rises head_ticks_in_billionth_of_metre (pos (10 ^ 8)) nano low in
+    let b = times_rises head_ticks_in_billionth_of_metre nano (pos (10 ^ 12)) high in
     record { at_least = omega (arith, ints, a); at_most = omega (arith, ints, b) }
 
 area-range : (across area : ℤ) → Lies (pos (10 ^ 11)) (pos (10 ^ 16)) across

@@ -13,4 +13,4 @@ mod volume_curve_tanks;
 pub use cylinders::{first_second, level_at, next_level};
 pub use states::state_of;
 pub use stock_intervals::{Stock, VolumeSpan};
-pub use stocks::{first_stock, initial_stock, next_stock, stock_at};
+pub use stocks::{first_stock, initial_stock, next_stock, stock_at, tank_at};

@@ -27,7 +27,8 @@ use hyd_spec_certificates::LevelSpan;
 /// The volume that is kept of a tank without a volume curve.
 const NO_VOLUME: VolumeSpan = VolumeSpan { lo: 0, hi: 0 };
 
-fn tank_at(project: &Project, tank: u32) -> Tank
+/// A tank of a project, counted from 0.
+pub fn tank_at(project: &Project, tank: u32) -> Tank
     requires { tank < length project.now.tanks.list }
     ensures { slice_get project.now.tanks.list tank ≡ Some result }
 {

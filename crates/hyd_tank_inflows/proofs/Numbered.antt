@@ -1,10 +1,10 @@
 -- Lists of one item for each item of another, with its number.
-use Rattle.std.proofs.Common.{◌≡◌, ℕ, zero, suc, ◌+◌, ◌<◌, ◌≤◌, List, [], ◌∷◌, ◌++◌, length, take, refl, ap, sym, ◌∙◌}
+use Rattle.std.proofs.Common.{◌≡◌, ℕ, zero, suc, ◌+◌, ◌<◌, ◌≤◌, List, [], ◌∷◌, ◌++◌, length, take, ap, sym, ◌∙◌}
 use Rattle.std.proofs.Common.{arith}
 use Rattle.std.specs.Prelude.{Some, map, slice_get, slice_index_or}
 use Rattle.std.proofs.lemmas.List.{take_more, take_all, map_push}
 use Rattle.hyd_spec.specs.Lists.{map_from}
-use Rattle.hyd_lemmas.proofs.ListsAndOptions.{item_is, item_there}
+use Rattle.hyd_lemmas.proofs.ListsOptionsAndResults.{item_is, item_there, as_long}
 
 -- an item of it
 pub placed : {X Y : Type 0} (f : ℕ → X → Y) (from k : ℕ) (xs : List X) (d : Y) (e : X) → k < length xs
@@ -19,10 +19,6 @@ pub placed_first : {X Y : Type 0} (f : ℕ → X → Y) (k : ℕ) (xs : List X) 
     → slice_index_or (map_from f 0 xs) k d ≡ f k (slice_index_or xs k e)
 placed_first {X} {Y} f k xs d e h =
     placed f 0 k xs d e h ∙ ap (λ (n : ℕ). f n (slice_index_or xs k e)) (let same : 0 + k ≡ k = omega arith in same)
-
-pub as_long : {X Y : Type 0} (f : ℕ → X → Y) (from : ℕ) (xs : List X) → length (map_from f from xs) ≡ length xs
-as_long {X} {Y} f from [] = refl
-as_long {X} {Y} f from (x ∷ xs) = ap suc (as_long f (suc from) xs)
 
 -- one item more of a list that is written from the front
 pub one_more : {X Y Z : Type 0} (view : Z → Y) (f : ℕ → X → Y) (xs : List X) (list : List Z) (item : Z) (i : ℕ)

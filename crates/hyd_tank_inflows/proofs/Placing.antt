@@ -39,8 +39,8 @@ node_is project net k of =
 abbrev between : ℤ → ℤ → Interval
 between lo hi = record { lo = lo; hi = hi }
 
-is-box : (span : Span) (box : Interval) → IsSpan span box → flows_of span ≡ box
-is-box span box is =
+pub span_is : (span : Span) (box : Interval) → IsSpan span box → flows_of span ≡ box
+span_is span box is =
     ap (λ (lo : ℤ). between lo span.hi) is.lo_is ∙ ap (λ (hi : ℤ). between box.lo hi) is.hi_is
 
 -- the span of a tank by its box is its inflow
@@ -55,7 +55,7 @@ inflow_is project net grid row k span of within is =
     (Pinned k) Upper) in
     let there = placed_first (λ k (vectors : Vectors). inflow_box grid k
     (tank_node project k) vectors.lower vectors.upper) k row.pinned nowhere no_vectors within in
-    is-box span box is ∙ ap (λ (node : ℕ). inflow_box grid k node (vector_of row (Pinned k) Lower) (vector_of row
+    span_is span box is ∙ ap (λ (node : ℕ). inflow_box grid k node (vector_of row (Pinned k) Lower) (vector_of row
     (Pinned k) Upper)) (node_is project net k of)
     ∙ sym there
 

@@ -9,7 +9,7 @@ use Rattle.hyd_net.specs.RoundedFileNumbers.{IsStateMade}
 use Rattle.hyd_spec.specs.ProgramTypes.{Project, Link, LinkKind, PipeLink, CheckPipe, PumpLink, CurvePump, Tcv, Fcv}
 use Rattle.hyd_spec.specs.ProgramTypes.{Gpv, LinkState, Closed}
 use Rattle.hyd_period_network.specs.LawsInSettings.{AreStates}
-use Rattle.hyd_lemmas.proofs.ListsAndOptions.{any_default}
+use Rattle.hyd_lemmas.proofs.ListsOptionsAndResults.{any_default}
 use Rattle.hyd_period_network.proofs.SettingOne.{same_or}
 
 abbrev pub start_of : Link → LinkState

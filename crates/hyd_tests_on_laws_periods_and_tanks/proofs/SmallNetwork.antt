@@ -25,7 +25,7 @@ use Rattle.hyd_net.specs.declared.patterns.Pattern.{Pattern}
 use Rattle.hyd_net.specs.declared.options.Times.{Times}
 use Rattle.hyd_net.specs.declared.project.Project.{Project}
 use Rattle.hyd_num.specs.declared.flow_units.FlowUnit.TheVariants.{Cmd}
-use Rattle.hyd_lemmas.proofs.ListsAndOptions.{differ}
+use Rattle.hyd_lemmas.proofs.ListsOptionsAndResults.{differ}
 
 abbrev pub the_times : Times
 the_times = record {

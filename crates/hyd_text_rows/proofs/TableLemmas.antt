@@ -15,19 +15,16 @@ use Rattle.std.proofs.lemmas.Map.Views.{Contains-from_any, list_any-from_Contain
 use Rattle.hyd_spec_lines.specs.Lines.{Row, row_of, LiesIn}
 use Rattle.hyd_spec_lines.specs.declared.line.Line.{Line}
 use Rattle.hyd_spec_input.specs.Tables.{own_id, row_with, has_id}
+use Rattle.hyd_spec_input.specs.InForce.{or_earlier}
 use Rattle.hyd_text_rows.specs.FirstWrongRow.{rows_at}
 use Rattle.hyd_text_rows.specs.IdTables.{AreFirsts}
-
-abbrev either : Option Row → Option Row → Option Row
-either (Some row) other = Some row
-either None other = other
 
 abbrev pub is_there : Option Row → Bool
 is_there None = false
 is_there (Some row) = true
 
 -- among more rows
-pub row_with-append : (name : List ℕ) (xs ys : List Row) → row_with name (xs ++ ys) ≡ either (row_with name xs)
+pub row_with-append : (name : List ℕ) (xs ys : List Row) → row_with name (xs ++ ys) ≡ or_earlier (row_with name xs)
     (row_with name ys)
 row_with-append name [] ys = refl
 row_with-append name (x ∷ xs) ys = elim (cases_Bool (bytes_eq name (own_id x))) [
@@ -70,12 +67,12 @@ new_is name xs rows ids new e same present =
 pub same_after_new : (xs ys : List Row) (row : Row) → ((q : List ℕ) → row_with q xs ≡ row_with q ys)
     → (q : List ℕ) → row_with q (xs ++ row ∷ []) ≡ row_with q (ys ++ row ∷ [])
 same_after_new xs ys row same q =
-    row_with-append q xs (row ∷ []) ∙ ap (λ o. either o (row_with q (row ∷ []))) (same q)
+    row_with-append q xs (row ∷ []) ∙ ap (λ o. or_earlier o (row_with q (row ∷ []))) (same q)
     ∙ sym (row_with-append q ys (row ∷ []))
 
 -- what is found stays found
 kept : (q : List ℕ) (ys : List Row) (row : Row) → has_id (own_id row) ys ≡ true → (o : Option Row)
-    → o ≡ row_with q ys → either o (row_with q (row ∷ [])) ≡ o
+    → o ≡ row_with q ys → or_earlier o (row_with q (row ∷ [])) ≡ o
 kept q ys row there (Some found) e = refl
 kept q ys row there None e = elim (cases_Bool (bytes_eq q (own_id row))) [
   | inl t ↦ (let same : q ≡ own_id row = (bytes_decides q (own_id row)).0 t in

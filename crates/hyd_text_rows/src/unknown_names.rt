@@ -1,27 +1,18 @@
 //! Names that rows give.
 #![tactic(auto)]
 
-ghost use Rattle.std.specs.Prelude.{◌≡◌, ◌==◌, List, ℕ};
+ghost use Rattle.std.specs.Prelude.{◌≡◌, List, ℕ};
 ghost use Rattle.hyd_spec_lines.specs.WordsOfLines.{text_of};
 ghost use Rattle.hyd_spec_lines.specs.Lines.{Row};
 ghost use Rattle.hyd_spec_lines.specs.declared.section.Section.TheVariants.{Curves, Patterns};
-ghost use Rattle.hyd_spec_input.specs.Tables.{place as section_place, has_id, rows_of, node_rows};
+ghost use Rattle.hyd_spec_input.specs.Tables.{has_id, rows_of, node_rows};
 ghost use Rattle.hyd_spec_input.specs.RowsTogether as others;
 ghost use Rattle.hyd_text_rows.specs.IdTables.{IsTable, IsEven};
 
 use crate::id_table::Table;
-use hyd_lex::{Lines, Section};
+use crate::sections::is_junctions;
+use hyd_lex::Lines;
 use hyd_net::Cause;
-
-/// Whether a section is [JUNCTIONS].
-pub fn is_junctions(section: Section) -> bool
-    ensures { result ≡ (section_place section == 0) }
-{
-    match section {
-        Section::Junctions => true,
-        _ => false,
-    }
-}
 
 /// Whether a row of a table has an ID.
 pub fn has(text: &Lines<'_>, table: &Table, name: &[u8]) -> bool

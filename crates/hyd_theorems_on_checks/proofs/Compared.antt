@@ -11,7 +11,7 @@ use Rattle.hyd_spec_reports.specs.CertificateText.{IsCertificateText, IsRow, ver
 use Rattle.hyd_spec_reports.specs.CertificateText.{end_line, certificate_text}
 use Rattle.hyd_cert.specs.Faults.{HasOtherHeader}
 use Rattle.hyd_cert.specs.Lines.{IsHeaderLine, header_words}
-use Rattle.hyd_cert.proofs.Pieces.{cut-same}
+use Rattle.hyd_cert.proofs.Pieces.{split-same}
 use Rattle.hyd_cert.proofs.LineLemmas.{header_is_line}
 use Rattle.hyd_cert.proofs.GoesLemmas.{has_rest, header_same}
 use Rattle.hyd_cert.proofs.HeadLemmas.{header_is}
@@ -85,6 +85,6 @@ module _ (project : Project) (sound : Sound project) where
       let one : is.line ++ (10 ∷ h.left) ≡ header_words own ++ (10 ∷ behind) =
       sym (append_assoc is.line (10 ∷ []) h.left)
       ∙ (sym h.whole ∙ (begins ∙ append_assoc (header_words own) (10 ∷ []) behind)) in
-      let same = cut-same 10 is.line (header_words own) h.left behind (header_is_line is.other is.line is.is_header).0
+      let same = split-same 10 is.line (header_words own) h.left behind (header_is_line is.other is.line is.is_header).0
       (header_is_line own (header_words own) own_header).0 one in
       is.apart (header_same is.other own is.line (header_words own) is.is_header own_header same.0)

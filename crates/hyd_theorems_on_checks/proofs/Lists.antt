@@ -2,6 +2,7 @@
 use Rattle.std.proofs.Common.{◌≡◌, ℕ, ◌⊎◌, inl, inr, List, [], ◌∷◌, ◌++◌, length, length-append, map, refl, sym}
 use Rattle.std.proofs.Common.{ap, ap₂, ◌∙◌, append_assoc, append-nil, arith}
 use Rattle.hyd_spec.specs.Lists.{joined}
+use Rattle.hyd_lemmas.proofs.ListsOptionsAndResults.{no_items}
 
 -- the list begins with the other one
 pub record Begins {X : Type 0} (front whole : List X) : Type 0 where
@@ -24,16 +25,12 @@ fronts (x ∷ a) r [] s e = inr (record { more = x ∷ a; is = refl })
 fronts (x ∷ a) r (y ∷ b) s e =
     let same : x ≡ y = cc in let after : a ++ r ≡ b ++ s = cc in begin_more x y a b same (fronts a r b s after)
 
-nothing : {X : Type 0} (xs : List X) → length xs ≡ 0 → xs ≡ []
-nothing [] e = refl
-nothing (x ∷ xs) e = absurd (omega (arith, e))
-
 -- two lists that begin with each other are the same
 pub both_ways : {X : Type 0} (a b : List X) → Begins a b → Begins b a → a ≡ b
 both_ways a b k m =
     let x = ap length k.is ∙ length-append a k.more in
     let y = ap length m.is ∙ length-append b m.more in
-    let none : m.more ≡ [] = nothing m.more (omega (arith, x, y)) in
+    let none : m.more ≡ [] = no_items m.more (omega (arith, x, y)) in
     m.is ∙ (ap (λ t. b ++ t) none ∙ append-nil b)
 
 -- a list begins with all of another one and an item more, or with a front of that
@@ -43,7 +40,7 @@ before_last [] whole last k = inr (record { more = whole; is = refl })
 before_last (x ∷ front) [] last k =
     let same : last ≡ x = (let e = k.is in cc) in
     let rest : [] ≡ front ++ k.more = (let e = k.is in cc) in
-    let none : front ≡ [] = nothing front (let n = ap length rest ∙ length-append front k.more in omega (arith, n)) in
+    let none : front ≡ [] = no_items front (let n = ap length rest ∙ length-append front k.more in omega (arith, n)) in
     inl (ap₂ (λ z zs. z ∷ zs) (sym same) none)
 before_last (x ∷ front) (y ∷ whole) last k =
     let same : y ≡ x = (let e = k.is in cc) in

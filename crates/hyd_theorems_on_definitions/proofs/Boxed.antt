@@ -8,6 +8,7 @@ use Rattle.std.proofs.lemmas.Int.{ints}
 use Rattle.std.proofs.lemmas.Option.{slice_get-get_or, slice_get_within}
 use Rattle.hyd_num.proofs.Integers.{times_plus, times_minus}
 use Rattle.hyd_spec.specs.ProgramTypes.{Project, Junction, Link, LinkState, Capacity}
+use Rattle.hyd_spec.specs.Scale.{missed_flow_ticks}
 use Rattle.hyd_spec.specs.declared.TankState.{TankState}
 use Rattle.hyd_spec_certificates.specs.declared.Side.TheVariants.{Upper, Lower}
 use Rattle.hyd_spec_certificates.specs.declared.Problem.TheVariants.{Main}
@@ -160,14 +161,19 @@ out_of project time S assignment j junction here below above some is sound under
     summed S (demand_low here.demand (below -ℤ here.elevation)) (demand_high here.demand (above -ℤ here.elevation)) _
     (flow_at assignment.demands j) (flow_at assignment.emitters j) a b e
   where
-    summed : (S : ℕ) (lo hi : ℤ) (box : Interval) (d e : ℤ) → (pos S *ℤ lo) ≤ℤ (d +ℤ pos (S * 10))
-        → (d -ℤ pos (S * 10)) ≤ℤ (pos S *ℤ hi) → LiesIn S box e
-        → LiesIn S (record { lo = (lo -ℤ pos 10) +ℤ box.lo; hi = (hi +ℤ pos 10) +ℤ box.hi }) (d +ℤ e)
+    summed : (S : ℕ) (lo hi : ℤ) (box : Interval) (d e : ℤ) → (pos S *ℤ lo) ≤ℤ (d +ℤ pos (S * missed_flow_ticks))
+        → (d -ℤ pos (S * missed_flow_ticks)) ≤ℤ (pos S *ℤ hi) → LiesIn S box e
+        → LiesIn S (record {
+          lo = (lo -ℤ pos missed_flow_ticks) +ℤ box.lo;
+          hi = (hi +ℤ pos missed_flow_ticks) +ℤ box.hi;
+        }) (d +ℤ e)
     summed S lo hi box d e a b lies = record {
       low = let l = lies.low in
-          omega (arith, ints, a, l, times_plus S (lo -ℤ pos 10) box.lo, times_minus S lo (pos 10));
+          let each = times_minus S lo (pos missed_flow_ticks) in
+          omega (arith, ints, a, l, times_plus S (lo -ℤ pos missed_flow_ticks) box.lo, each);
       high = let h = lies.high in
-          omega (arith, ints, b, h, times_plus S (hi +ℤ pos 10) box.hi, times_plus S hi (pos 10));
+          let each = times_plus S hi (pos missed_flow_ticks) in
+          omega (arith, ints, b, h, times_plus S (hi +ℤ pos missed_flow_ticks) box.hi, each);
     }
 
 pub outflow_lies : (project : Project) (S time : ℕ) (intervals : List Interval) (levels : List ℤ)

@@ -65,19 +65,19 @@ heads-same key is_key (u ∷ us) (v ∷ vs) n box_u box_v r s e =
     s k.1 in
     let others = rest.0 in (cc, rest.1)
 
-abbrev AreVectors : ℕ → Vectors → Type 0
-AreVectors junctions vectors = IsVector junctions vectors.upper × IsVector junctions vectors.lower
+abbrev pub IsPair : ℕ → Vectors → Type 0
+IsPair junctions vectors = IsVector junctions vectors.upper × IsVector junctions vectors.lower
 
 -- the lines of the pinned vectors of a record
-abbrev pinned_text : List Vectors → List ℕ
-pinned_text vectors = joined (map (vectors_text (codes "PU") (codes "PL")) vectors)
+abbrev pub pinned_lines : List Vectors → List ℕ
+pinned_lines vectors = joined (map (vectors_text (codes "PU") (codes "PL")) vectors)
 
-vectors-equal : (v w : Vectors) → v.upper ≡ w.upper → v.lower ≡ w.lower → v ≡ w
+pub vectors-equal : (v w : Vectors) → v.upper ≡ w.upper → v.lower ≡ w.lower → v ≡ w
 vectors-equal v w upper lower = ap (λ u. record v { upper = u }) upper ∙ ap (λ l. record w { lower = l }) lower
 
 vectors-same : (upper lower : List ℕ) → IsWord upper → IsWord lower → (junctions : ℕ) (v w : Vectors)
-    → AreVectors junctions v
-    → AreVectors junctions w → (r s : List ℕ) → vectors_text upper lower v ++ r ≡ vectors_text upper lower w ++ s
+    → IsPair junctions v
+    → IsPair junctions w → (r s : List ℕ) → vectors_text upper lower v ++ r ≡ vectors_text upper lower w ++ s
     → (v ≡ w) × (r ≡ s)
 vectors-same upper lower is_upper is_lower junctions v w are_v are_w r s e =
     let high = heads-same upper is_upper v.upper w.upper (are_v.0.one_each ∙ sym are_w.0.one_each) are_v.0.in_box
@@ -89,19 +89,19 @@ vectors-same upper lower is_upper is_lower junctions v w are_v are_w r s e =
     are_w.1.in_box r s high.1 in
     (vectors-equal v w high.0 low.0, low.1)
 
-pinned-same : (junctions : ℕ) (vs ws : List Vectors) → length vs ≡ length ws → All (AreVectors junctions) vs
-    → All (AreVectors junctions) ws
-    → (r s : List ℕ) → pinned_text vs ++ r ≡ pinned_text ws ++ s → (vs ≡ ws) × (r ≡ s)
+pinned-same : (junctions : ℕ) (vs ws : List Vectors) → length vs ≡ length ws → All (IsPair junctions) vs
+    → All (IsPair junctions) ws
+    → (r s : List ℕ) → pinned_lines vs ++ r ≡ pinned_lines ws ++ s → (vs ≡ ws) × (r ≡ s)
 pinned-same junctions [] [] n are_v are_w r s e = (refl, e)
 pinned-same junctions [] (w ∷ ws) n are_v are_w r s e = absurd (omega arith)
 pinned-same junctions (v ∷ vs) [] n are_v are_w r s e = absurd (omega arith)
 pinned-same junctions (v ∷ vs) (w ∷ ws) n are_v are_w r s e =
-    let P = AreVectors junctions in
+    let P = IsPair junctions in
     let first = vectors-same (codes "PU") (codes "PL") (search arith) (search arith) junctions v w
     (All-head P v vs are_v) (All-head P w ws are_w)
-    (pinned_text vs ++ r) (pinned_text ws ++ s)
-    (sym (append_assoc (vectors_text (codes "PU") (codes "PL") v) (pinned_text vs) r)
-    ∙ (e ∙ append_assoc (vectors_text (codes "PU") (codes "PL") w) (pinned_text ws) s)) in
+    (pinned_lines vs ++ r) (pinned_lines ws ++ s)
+    (sym (append_assoc (vectors_text (codes "PU") (codes "PL") v) (pinned_lines vs) r)
+    ∙ (e ∙ append_assoc (vectors_text (codes "PU") (codes "PL") w) (pinned_lines ws) s)) in
     let rest = pinned-same junctions vs ws (omega arith) (All-tail P v vs are_v) (All-tail P w ws are_w) r s first.1 in
     let here = first.0 in let others = rest.0 in (cc, rest.1)
 
@@ -129,11 +129,11 @@ record-equal a b number time seconds main pinned =
     ∙ (ap (λ x. record b { main = x; pinned = a.pinned }) main ∙ ap (λ x. record b { pinned = x }) pinned)))
 
 record-parts : (row : Record) (r : List ℕ) → record_text row ++ r ≡ period_line row
-    ++ (vectors_text (codes "MU") (codes "ML") row.main ++ (pinned_text row.pinned ++ r))
+    ++ (vectors_text (codes "MU") (codes "ML") row.main ++ (pinned_lines row.pinned ++ r))
 record-parts row r =
-    append_assoc (period_line row) (vectors_text (codes "MU") (codes "ML") row.main ++ pinned_text row.pinned) r
+    append_assoc (period_line row) (vectors_text (codes "MU") (codes "ML") row.main ++ pinned_lines row.pinned) r
     ∙ ap (λ t. period_line row ++ t) (append_assoc (vectors_text (codes "MU") (codes "ML") row.main)
-    (pinned_text row.pinned) r)
+    (pinned_lines row.pinned) r)
 
 record-same : (junctions tanks : ℕ) (row other : Record) → IsRow junctions tanks row → IsRow junctions tanks other
     → (r s : List ℕ)
@@ -142,14 +142,14 @@ record-same junctions tanks row other is_row is_other r s e =
     let first = line-same (codes "PERIOD") (codes "PERIOD") (decimal row.number
     ∷ (decimal row.time ∷ (decimal row.length ∷ [])))
     (decimal other.number ∷ (decimal other.time ∷ (decimal other.length ∷ [])))
-    (vectors_text (codes "MU") (codes "ML") row.main ++ (pinned_text row.pinned ++ r))
-    (vectors_text (codes "MU") (codes "ML") other.main ++ (pinned_text other.pinned ++ s))
+    (vectors_text (codes "MU") (codes "ML") row.main ++ (pinned_lines row.pinned ++ r))
+    (vectors_text (codes "MU") (codes "ML") other.main ++ (pinned_lines other.pinned ++ s))
     (period-words row.number row.time row.length is_row.number_fits is_row.time_fits is_row.length_fits)
     (period-words other.number other.time other.length is_other.number_fits is_other.time_fits is_other.length_fits)
     (sym (record-parts row r) ∙ (e ∙ record-parts other s)) in
     let main = vectors-same (codes "MU") (codes "ML") (search arith) (search arith) junctions row.main other.main
     (is_row.main_upper, is_row.main_lower) (is_other.main_upper, is_other.main_lower)
-    (pinned_text row.pinned ++ r) (pinned_text other.pinned ++ s) first.1 in
+    (pinned_lines row.pinned ++ r) (pinned_lines other.pinned ++ s) first.1 in
     let pinned = pinned-same junctions row.pinned other.pinned (is_row.pinned_each ∙ sym is_other.pinned_each)
     (λ k d l. (is_row.pinned_upper k d l, is_row.pinned_lower k d l))
     (λ k d l. (is_other.pinned_upper k d l, is_other.pinned_lower k d l))
@@ -191,7 +191,7 @@ end-apart junctions tanks periods finished row fits is_row r e =
     let words = (line-same (codes "END") (codes "PERIOD") (decimal periods
     ∷ ((if finished then codes "FINISHED" else codes "STOPPED") ∷ []))
     (decimal row.number ∷ (decimal row.time ∷ (decimal row.length ∷ []))) []
-    (vectors_text (codes "MU") (codes "ML") row.main ++ (pinned_text row.pinned ++ r))
+    (vectors_text (codes "MU") (codes "ML") row.main ++ (pinned_lines row.pinned ++ r))
     (end-words periods finished fits) (period-words row.number row.time row.length is_row.number_fits is_row.time_fits
     is_row.length_fits)
     (append-nil (end_line periods finished) ∙ (e ∙ record-parts row r))).0 in

@@ -15,7 +15,9 @@ use Rattle.hyd_spec.specs.Tank.{is_bound, has_reached}
 use Rattle.hyd_spec.specs.Rules.{compares}
 use Rattle.hyd_spec_certificates.specs.Stocks.{Stocks, least_stock, greatest_stock, may_reach, must_reach}
 use Rattle.hyd_spec_certificates.specs.FirstSeconds.{IsFirstSecond}
-use Rattle.hyd_spec_certificates.specs.ThreeValuedLogic.{Verdict, Yes, No, Unknown, at_both_ends, either, both}
+use Rattle.hyd_spec_certificates.specs.declared.Verdict.{Verdict}
+use Rattle.hyd_spec_certificates.specs.declared.Verdict.TheVariants.{Yes, No, Unknown}
+use Rattle.hyd_spec_certificates.specs.ThreeValuedLogic.{at_both_ends, either, both}
 use Rattle.hyd_spec_certificates.specs.ThreeValuedLogic.{some_holds, all_hold}
 use Rattle.hyd_spec_certificates.specs.Decided.{control_truth}
 use Rattle.hyd_theorems_on_definitions.specs.TermsOfTheorems.{LiesIn, IsVessel, StockLies, AreInside, IsInside}

@@ -24,10 +24,10 @@ use Rattle.hyd_theorems_on_definitions.specs.Sides.{along}
 use Rattle.hyd_theorems_on_definitions.proofs.Nodes.{head_front}
 use Rattle.hyd_theorems_on_definitions.proofs.Sums.{flow-below, flow-above}
 use Rattle.hyd_theorems_on_definitions.proofs.Comparison.{IsPlace, place_at, place_long, below_main, above_main}
-use Rattle.hyd_theorems_on_definitions.proofs.NetRising.{item-at}
 use Rattle.hyd_theorems_on_definitions.proofs.Boxed.{IsFollowed, followed_at}
 use Rattle.hyd_theorems_on_definitions.proofs.HeldComparison.{ahead, net_on, within-margin, held-farthest, along-plus}
 use Rattle.hyd_theorems_on_definitions.proofs.HeldComparison.{along-times}
+use Rattle.hyd_lemmas.proofs.ListsOptionsAndResults.{item_there}
 
 -- the held junction stands at its head
 at-head : (grid : Grid) (side : Side) (place : ℕ) (h : ℤ) (u : List ℤ) (here : GridJunction)
@@ -220,7 +220,7 @@ module _ (project : Project) (S time : ℕ) (intervals : List Interval) (levels 
       f = follows-at l link is
 
       here : (junction : GridJunction) × (slice_get grid.junctions link.from ≡ Some junction)
-      here = item-at grid.junctions link.from from
+      here = item_there grid.junctions link.from from
 
       inside : link.from < length assignment.heads
       inside = let s = same-long below under.one_each in let o = under.one_each in omega (arith, from, s, o)

@@ -7,7 +7,7 @@ use Rattle.hyd_num.proofs.Integers.{times_plus, times_rises, times_reflects, tim
 use Rattle.hyd_num.specs.Rational.{Rational, whole}
 use Rattle.hyd_net.specs.Curves.{Knot, value_at, AreRising}
 use Rattle.hyd_spec.specs.ProgramTypes.{Tank, VolumePoint}
-use Rattle.hyd_spec.specs.Scale.{at_scale}
+use Rattle.hyd_spec.specs.Scale.{at_scale, missed_stock_ticks}
 use Rattle.hyd_spec.specs.Tank.{Walls, Cylinder, Curve, Stock, Bounds, level_bounds, content_bounds, content_of}
 use Rattle.hyd_spec.specs.Tank.{exact_content, level_knots, level_on_curve, level_at, carried_level, IsNextContent}
 use Rattle.hyd_spec.specs.Tank.{IsLevelAt, IsNextStock, tank_state, state_band}
@@ -253,7 +253,7 @@ module _ (S : ℕ) (walls : Walls) (stocks : Stocks) (inflow : Interval) (second
         }
 
     contents-lie : (next : ℤ) → IsNextContent S walls tank stock q seconds next
-        → LiesIn S (contents_after (pos 10) walls tank stocks inflow seconds) next
+        → LiesIn S (contents_after (pos missed_stock_ticks) walls tank stocks inflow seconds) next
     contents-lie next is =
         let bounds = content_bounds walls tank in
         let least = exact_least walls stocks inflow seconds in
@@ -315,7 +315,8 @@ next_lies S (Curve points) tank stocks inflow seconds stock q next some vessel l
     let volume = contents-lie S (Curve points) stocks inflow seconds stock q lies flow tank some vessel next.volume
     is.0 in
     record {
-      level = levels-lie S points tank (contents_after (pos 10) (Curve points) tank stocks inflow seconds) next.volume
+      level = levels-lie S points tank
+          (contents_after (pos missed_stock_ticks) (Curve points) tank stocks inflow seconds) next.volume
           next.level some vessel volume is.1;
       volume = volume;
     }
@@ -393,9 +394,11 @@ module _ (walls : Walls) (tank : Tank) (vessel : IsVessel walls tank) where
 levels-inside : (points : List VolumePoint) (tank : Tank) (a b : Interval) → IsVessel (Curve points) tank
     → IsInside a b → IsInside (levels_at points tank a) (levels_at points tank b)
 levels-inside points tank a b vessel at = record {
-  low = lower-levels (Curve points) tank vessel (whole b.lo) (whole a.lo) (pos 10) (omega (arith, ints)) (omega arith)
+  low = lower-levels (Curve points) tank vessel (whole b.lo) (whole a.lo) (pos missed_stock_ticks) (omega (arith, ints))
+      (omega arith)
       (omega arith) (wholes b.lo a.lo at.low);
-  high = upper-levels (Curve points) tank vessel (whole a.hi) (whole b.hi) (pos 10) (omega (arith, ints))
+  high = upper-levels (Curve points) tank vessel (whole a.hi) (whole b.hi) (pos missed_stock_ticks)
+      (omega (arith, ints))
       (omega arith) (omega arith) (wholes a.hi b.hi at.high);
 }
   where
@@ -417,16 +420,18 @@ pub next_inside : (walls : Walls) (tank : Tank) (stocks wider : Stocks) (inflow 
     → IsVessel walls tank → AreInside stocks wider → IsInside inflow more
     → AreInside (next_stocks walls tank stocks inflow seconds) (next_stocks walls tank wider more seconds)
 next_inside (Cylinder area) tank stocks wider inflow more seconds vessel at flow = record {
-  level = contents_inside (Cylinder area) tank vessel stocks wider inflow more seconds at flow (pos 10)
+  level = contents_inside (Cylinder area) tank vessel stocks wider inflow more seconds at flow (pos missed_stock_ticks)
       (omega (arith, ints));
   volume = record { low = omega (arith, ints); high = omega (arith, ints) };
 }
 next_inside (Curve points) tank stocks wider inflow more seconds vessel at flow =
-    let volume = contents_inside (Curve points) tank vessel stocks wider inflow more seconds at flow (pos 10)
+    let volume = contents_inside (Curve points) tank vessel stocks wider inflow more seconds at flow
+    (pos missed_stock_ticks)
     (omega (arith, ints)) in
     record {
-      level = levels-inside points tank (contents_after (pos 10) (Curve points) tank stocks inflow seconds)
-          (contents_after (pos 10) (Curve points) tank wider more seconds) vessel volume;
+      level = levels-inside points tank
+          (contents_after (pos missed_stock_ticks) (Curve points) tank stocks inflow seconds)
+          (contents_after (pos missed_stock_ticks) (Curve points) tank wider more seconds) vessel volume;
       volume = volume;
     }
 
@@ -475,12 +480,12 @@ carried_within walls tank stocks inflow seconds vessel =
 pub next_within : (walls : Walls) (tank : Tank) (stocks : Stocks) (inflow : Interval) (seconds : ℕ)
     → IsVessel walls tank
     → IsWithin (level_bounds tank) (next_stocks walls tank stocks inflow seconds).level
-next_within (Cylinder area) tank stocks inflow seconds vessel = contents_within (pos 10) (Cylinder area) tank stocks
-    inflow seconds (omega (arith, ints)) vessel
+next_within (Cylinder area) tank stocks inflow seconds vessel =
+    contents_within (pos missed_stock_ticks) (Cylinder area) tank stocks inflow seconds (omega (arith, ints)) vessel
 next_within (Curve points) tank stocks inflow seconds vessel =
-    let volume = contents_after (pos 10) (Curve points) tank stocks inflow seconds in
-    levels-within (Curve points) tank (whole volume.lo) (whole volume.hi) (pos 10) (omega (arith, ints)) vessel
-    (omega arith) (omega arith)
+    let volume = contents_after (pos missed_stock_ticks) (Curve points) tank stocks inflow seconds in
+    levels-within (Curve points) tank (whole volume.lo) (whole volume.hi) (pos missed_stock_ticks) (omega (arith, ints))
+    vessel (omega arith) (omega arith)
 
 -- ---- stocks that are there
 
@@ -526,15 +531,16 @@ pub next_has : (walls : Walls) (tank : Tank) (stocks : Stocks) (inflow : Interva
     → HasStock stocks → inflow.lo ≤ℤ inflow.hi
     → HasStock (next_stocks walls tank stocks inflow seconds)
 next_has (Cylinder area) tank stocks inflow seconds vessel has flow = record {
-  level = contents-ordered (Cylinder area) tank vessel stocks inflow seconds has flow (pos 10) (omega (arith, ints));
+  level = contents-ordered (Cylinder area) tank vessel stocks inflow seconds has flow (pos missed_stock_ticks)
+      (omega (arith, ints));
   volume = omega (arith, ints);
 }
 next_has (Curve points) tank stocks inflow seconds vessel has flow =
-    let volume = contents_after (pos 10) (Curve points) tank stocks inflow seconds in
-    let order = contents-ordered (Curve points) tank vessel stocks inflow seconds has flow (pos 10)
+    let volume = contents_after (pos missed_stock_ticks) (Curve points) tank stocks inflow seconds in
+    let order = contents-ordered (Curve points) tank vessel stocks inflow seconds has flow (pos missed_stock_ticks)
     (omega (arith, ints)) in
     record {
-      level = levels-ordered (Curve points) tank vessel (whole volume.lo) (whole volume.hi) (pos 10)
+      level = levels-ordered (Curve points) tank vessel (whole volume.lo) (whole volume.hi) (pos missed_stock_ticks)
           (omega (arith, ints)) (omega arith) (omega arith)
           (record {
             crossed = omega (
@@ -553,7 +559,7 @@ next_has (Curve points) tank stocks inflow seconds vessel has flow =
 
 -- ---- states
 
-abbrev state_by : Bool → Bool → TankState
+abbrev pub state_by : Bool → Bool → TankState
 state_by full empty = if full then Full else if empty then Empty else Between
 
 shared-holds : (s : TankState) (full empty full_low empty_low full_high empty_high : Bool)
@@ -631,5 +637,5 @@ state_nests tank level wider s some at e =
 pub volumes_within : (points : List VolumePoint) (tank : Tank) (stocks : Stocks) (inflow : Interval) (seconds : ℕ)
     → IsVessel (Curve points) tank
     → IsWithin (content_bounds (Curve points) tank) (next_stocks (Curve points) tank stocks inflow seconds).volume
-volumes_within points tank stocks inflow seconds vessel = contents_within (pos 10) (Curve points) tank stocks inflow
-    seconds (omega (arith, ints)) vessel
+volumes_within points tank stocks inflow seconds vessel =
+    contents_within (pos missed_stock_ticks) (Curve points) tank stocks inflow seconds (omega (arith, ints)) vessel

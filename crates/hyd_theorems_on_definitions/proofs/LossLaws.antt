@@ -10,6 +10,7 @@ use Rattle.hyd_num.specs.declared.decimals.Decimal.{Decimal}
 use Rattle.hyd_num.specs.declared.flow_units.FlowUnit.{FlowUnit}
 use Rattle.hyd_num.specs.declared.flow_units.FlowUnit.TheVariants.{Cfs, Gpm, Mgd, Imgd, Afd, Lps, Lpm, Mld, Cmh, Cmd}
 use Rattle.hyd_num.specs.FileQuantity.{billionths, feet, feet_across, is_us_unit, head_ticks, flow_factor}
+use Rattle.hyd_num.specs.FileQuantity.{ten_thousandths_of_metre_in_foot, head_ticks_in_billionth_of_metre}
 use Rattle.hyd_num.specs.FileQuantity.{flow_fraction}
 use Rattle.hyd_spec.specs.ProgramTypes.{Origin, Pipe, Valve, Pump, Emitter, PressureDemand}
 use Rattle.hyd_spec.specs.Law.{loss_at_most, loss_at_least, pump_resistance, emitter_resistance, pressure_resistance}
@@ -181,7 +182,8 @@ minor-above false diameter k above = mul-pos (omega arith) (one-le-pow 4 (10 * b
 
 minor-any : (us : Bool) (diameter k : Decimal) → 0 < billionths k → 0 < (minor_loss us diameter k).num
 minor-any true diameter k above = mul-pos (omega arith) (one-le-pow 4 (12 * 10 ^ 9) (omega arith))
-minor-any false diameter k above = mul-pos (omega arith) (one-le-pow 4 (3048 * 10 ^ 9) (omega arith))
+minor-any false diameter k above =
+    mul-pos (omega arith) (one-le-pow 4 (ten_thousandths_of_metre_in_foot * 10 ^ 9) (omega arith))
 
 across-above : (us : Bool) (v : ℕ) → 0 < (feet_across us v).den
 across-above true v = omega arith
@@ -260,8 +262,8 @@ IsLossLaw-pipe us length diameter roughness minor long wide rough = record {
 }
 
 ticks-any : (us : Bool) (z : ℤ) → 0 < unsigned_abs z → 0 < unsigned_abs (head_ticks us z)
-ticks-any true z above = rw (unsigned_abs-mul (pos 3048) z) (omega arith)
-ticks-any false z above = rw (unsigned_abs-mul (pos 10000) z) (omega arith)
+ticks-any true z above = rw (unsigned_abs-mul (pos ten_thousandths_of_metre_in_foot) z) (omega arith)
+ticks-any false z above = rw (unsigned_abs-mul (pos head_ticks_in_billionth_of_metre) z) (omega arith)
 
 factor-above : (unit : FlowUnit) → 0 < (flow_factor unit).den
 factor-above Cfs = omega arith

@@ -1,6 +1,6 @@
 -- At the node where one vector of heads exceeds another by most, more flows out under it.
-use Rattle.std.proofs.Common.{◌≡◌, ℕ, zero, suc, ◌<◌, ℤ, ◌-ℤ◌, ◌≤ℤ◌, refl, subst, arith, Bool, true, false, ◌==◌, List}
-use Rattle.std.proofs.Common.{[], ◌∷◌, length}
+use Rattle.std.proofs.Common.{◌≡◌, ℕ, zero, suc, ℤ, ◌-ℤ◌, ◌≤ℤ◌, subst, arith, Bool, true, false, ◌==◌, List}
+use Rattle.std.proofs.Common.{[], ◌∷◌}
 use Rattle.std.specs.Prelude.{Some, slice_get}
 use Rattle.std.specs.List.{AllByRecursion}
 use Rattle.std.proofs.lemmas.Int.{ints}
@@ -10,7 +10,7 @@ use Rattle.hyd_spec_certificates.specs.EnclosingFunctions.{low, high}
 use Rattle.hyd_spec_certificates.specs.PeriodNetwork.{GridLink, GridJunction}
 use Rattle.hyd_spec_certificates.specs.NetOutflow.{net, outflow_low, outflow_high}
 use Rattle.hyd_theorems_on_definitions.specs.TermsOfTheorems.{IsSoundLaw, IsSoundDemand}
-use Rattle.hyd_lemmas.proofs.ListsAndOptions.{same_item}
+use Rattle.hyd_lemmas.proofs.ListsOptionsAndResults.{same_item}
 use Rattle.hyd_theorems_on_definitions.proofs.EachLaw.{IsLaw-each}
 use Rattle.hyd_theorems_on_definitions.proofs.Rising.{AreRising-demand, AreRising-emitter}
 
@@ -103,9 +103,3 @@ demand-at [] i here all e = absurd (cc)
 demand-at (j ∷ js) zero here all e = subst (λ (k : GridJunction). IsSoundDemand k.demand)
     (same_item GridJunction j here e) all.0
 demand-at (j ∷ js) (suc i) here all e = demand-at js i here all.1 e
-
-pub item-at : (js : List GridJunction) (i : ℕ) → i < length js → (junction : GridJunction) ×
-    (slice_get js i ≡ Some junction)
-item-at [] i lt = absurd (omega (arith, lt))
-item-at (j ∷ js) zero lt = (j, refl)
-item-at (j ∷ js) (suc i) lt = item-at js i (omega (arith, lt))

@@ -9,7 +9,8 @@ use Rattle.hyd_spec.specs.PeriodLength.{IsLeast}
 use Rattle.hyd_spec_certificates.specs.PeriodNetwork.{Grid}
 use Rattle.hyd_spec.specs.Rules.{measured}
 use Rattle.hyd_spec_certificates.specs.RecordAndStanding.{Record, Standing}
-use Rattle.hyd_spec_certificates.specs.ThreeValuedLogic.{Unknown, is_unknown}
+use Rattle.hyd_spec_certificates.specs.declared.Verdict.TheVariants.{Unknown}
+use Rattle.hyd_spec_certificates.specs.ThreeValuedLogic.{is_unknown}
 use Rattle.hyd_num.specs.Rational.{floor, ceiling}
 use Rattle.hyd_spec_certificates.specs.Decided.{OpenRule, IsOpenRule, IsFirstMatter, NoRuleMatters, rule_truths}
 use Rattle.hyd_spec_certificates.specs.Decided.{readings_below, readings_above, End, ByRules, WithoutRules, RuleIsOpen}

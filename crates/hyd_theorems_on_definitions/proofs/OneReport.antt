@@ -3,6 +3,7 @@ use Rattle.std.proofs.Common.{◌≡◌, ◌≢◌, ℕ, suc, ℤ, ◌-ℤ◌, B
 use Rattle.std.proofs.Common.{ap, subst, ◌∙◌, ◌+◌, map}
 use Rattle.hyd_num.specs.Rational.{Rational}
 use Rattle.hyd_num.specs.PrintedDecimals.{head_quantity, pressure_quantity, flow_quantity}
+use Rattle.hyd_num.proofs.Floors.{one_ceiling, one_floor}
 use Rattle.hyd_spec.specs.ProgramTypes.{Project, Tank, Link}
 use Rattle.hyd_spec_certificates.specs.Interval.{Interval}
 use Rattle.hyd_spec.specs.DemandsReservoirHeadsAndCurves.{is_us}
@@ -19,7 +20,6 @@ use Rattle.hyd_spec_reports.specs.Report.{Prints, LineEach, IsJunctionLine, IsRe
 use Rattle.hyd_spec_reports.specs.Report.{status_of, AreStateLines, is_report_time, control_lines, EndBrings, at_end}
 use Rattle.hyd_spec_reports.specs.Report.{by_rules as ended_by_rules, by_clock as ended_by_clock, AreEndLines}
 use Rattle.hyd_spec_reports.specs.Report.{event_line, change_line, IsReport}
-use Rattle.hyd_lemmas.proofs.Integers.{one_ceiling, one_floor}
 use Rattle.hyd_theorems_on_definitions.proofs.OneAnswer.{one_end}
 
 -- ---- printed numbers

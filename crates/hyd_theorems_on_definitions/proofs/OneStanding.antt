@@ -1,9 +1,8 @@
 -- A record leads on to one standing, and a grid has one tight vector of a problem and side.
-use Rattle.std.proofs.Common.{◌≡◌, ℕ, zero, suc, ◌<◌, ℤ, List, [], ◌∷◌, length, map, refl, sym, subst, ◌∙◌, arith}
-use Rattle.std.specs.Prelude.{Some, Option, slice_get}
+use Rattle.std.proofs.Common.{◌≡◌, ℕ, zero, suc, ◌<◌, ℤ, List, [], ◌∷◌, length, refl, sym, subst, ◌∙◌, arith}
+use Rattle.std.specs.Prelude.{Some, slice_get}
 use Rattle.std.proofs.lemmas.Int.{ints}
 use Rattle.hyd_spec.specs.ProgramTypes.{Project, LinkState}
-use Rattle.hyd_spec.specs.declared.TankState.{TankState}
 use Rattle.hyd_spec_certificates.specs.declared.Problem.{Problem}
 use Rattle.hyd_spec_certificates.specs.declared.Side.{Side}
 use Rattle.hyd_spec_certificates.specs.declared.Side.TheVariants.{Upper, Lower}
@@ -15,17 +14,9 @@ use Rattle.hyd_spec_certificates.specs.RecordAndStanding.{Record, Standing}
 use Rattle.hyd_spec_certificates.specs.Decided.{ByRules, WithoutRules}
 use Rattle.hyd_spec_certificates.specs.Valid.{LeavesLinks, by_rules, by_clock, AreStates, LeadsOn, continues, finishes}
 use Rattle.hyd_theorems_on_definitions.proofs.OneAnswer.{one_end}
+use Rattle.hyd_lemmas.proofs.ListsOptionsAndResults.{somes_same}
 
 -- ---- standings
-
-some_of : (X : Type 0) (a b : List X) → map {B = Option X} Some a ≡ map {B = Option X} Some b → a ≡ b
-some_of X [] [] e = refl
-some_of X [] (y ∷ b) e = absurd (cc)
-some_of X (x ∷ a) [] e = absurd (cc)
-some_of X (x ∷ a) (y ∷ b) e =
-    let first : x ≡ y = cc in
-    let rest : map {B = Option X} Some a ≡ map {B = Option X} Some b = cc in
-    let others = some_of X a b rest in cc
 
 module _ (project : Project) (grid : Grid) (standing : Standing) (row : Record) where
   one_command : (n : ℕ) (a b : List LinkState) → LeavesLinks project grid standing row n a
@@ -43,7 +34,7 @@ module _ (project : Project) (grid : Grid) (standing : Standing) (row : Record) 
       let commanded = one_command row.length a.commanded b.commanded c.leaves_links d.leaves_links in
       let levels = c.levels ∙ sym d.levels in
       let volumes = c.volumes ∙ sym d.volumes in
-      let tanks = some_of TankState a.tanks b.tanks (sym c.tanks
+      let tanks = somes_same a.tanks b.tanks (sym c.tanks
       ∙ subst (λ (ls : List Interval). AreStates project ls b.tanks) (sym levels) d.tanks) in
       let number = c.number ∙ sym d.number in
       let time = c.time ∙ sym d.time in

@@ -29,6 +29,7 @@ use Rattle.hyd_lemmas.proofs.Losses.{square_is}
 use Rattle.std.proofs.Math.IntN.{*ℤ_comm}
 use Rattle.std.proofs.Math.Nat.{mul-le-mul_right}
 use Rattle.hyd_num.specs.Fraction.{Fraction}
+use Rattle.hyd_num.specs.FileQuantity.{head_ticks_in_billionth_of_metre, numerator_of_billionth_of_pound}
 use Rattle.hyd_num.specs.FileQuantity.{pressure_numerator, pressure_denominator, pressure_fraction}
 use Rattle.hyd_spec.specs.Loss.{SquareLossAtMost, SquareLossAtLeast}
 use Rattle.hyd_theorems_on_definitions.proofs.Sums.{flow-below, flow-above}
@@ -232,10 +233,12 @@ driven-above least most D c A B S d p q P pl pm some positive law ends part le f
 
 pressure-gap : (us : Bool) (a b : ℤ) → (pressure_numerator us a -ℤ pressure_numerator us b)
     ≤ℤ pos (pressure_fraction us (unsigned_abs (a -ℤ b))).num
-pressure-gap true a b = let r = times_rises 30480000 (a -ℤ b) (pos (unsigned_abs (a -ℤ b))) (abs_above (a -ℤ b)) in
-    omega (arith, ints, r, times_minus 30480000 a b)
-pressure-gap false a b = let r = times_rises (10 ^ 4) (a -ℤ b) (pos (unsigned_abs (a -ℤ b))) (abs_above (a -ℤ b)) in
-    omega (arith, ints, r, times_minus (10 ^ 4) a b)
+pressure-gap true a b =
+    let r = times_rises numerator_of_billionth_of_pound (a -ℤ b) (pos (unsigned_abs (a -ℤ b))) (abs_above (a -ℤ b)) in
+    omega (arith, ints, r, times_minus numerator_of_billionth_of_pound a b)
+pressure-gap false a b =
+    let r = times_rises head_ticks_in_billionth_of_metre (a -ℤ b) (pos (unsigned_abs (a -ℤ b))) (abs_above (a -ℤ b)) in
+    omega (arith, ints, r, times_minus head_ticks_in_billionth_of_metre a b)
 
 pressure-den : (us : Bool) (v : ℕ) → (pressure_fraction us v).den ≡ pressure_denominator us
 pressure-den true v = refl

@@ -9,7 +9,7 @@ use Rattle.std.proofs.lemmas.Int.{ints}
 use Rattle.std.proofs.lemmas.Bool.{MatchBool-at_true, MatchBool-at_false, cases_Bool, cond_both}
 use Rattle.hyd_num.proofs.Integers.{times_plus, times_minus, times_rises, times_reflects, one_times}
 use Rattle.hyd_num.specs.Rational.{Rational, floor, ceiling, is_at_most, whole}
-use Rattle.hyd_spec.specs.Scale.{at_scale}
+use Rattle.hyd_spec.specs.Scale.{at_scale, missed_stock_ticks}
 use Rattle.hyd_spec.specs.Tank.{Bounds, is_at_maximum, is_at_minimum, placed, IsNear, IsPlaced}
 use Rattle.hyd_spec_certificates.specs.Stocks.{lower_end, upper_end}
 use Rattle.hyd_lemmas.proofs.Integers.{exchanged, floor_low, floor_at_most_ceiling, ceiling_high, floor_greatest}
@@ -192,33 +192,38 @@ module _ (S : ℕ) (contents range : Bounds) (y x value other : Rational) (some 
     not-inside low h = let a = sunk S contents.least y x some g.some under low in omega (arith, ints, a, h)
 
     pub next-low : (next : ℤ) → IsPlaced S contents range x other next
-        → (pos S *ℤ lower_end contents range y value (pos 10)) ≤ℤ next
+        → (pos S *ℤ lower_end contents range y value (pos missed_stock_ticks)) ≤ℤ next
     next-low next is = elim (cases_Bool (is_at_maximum S contents x)) [
       | inl full ↦ let e = MatchBool-at_true _ _ full is in
-          let l = times_rises S (lower_end contents range y value (pos 10)) range.most
-          (lower-most contents range y value (pos 10) (omega (arith, ints)) f) in
+          let l = times_rises S (lower_end contents range y value (pos missed_stock_ticks)) range.most
+          (lower-most contents range y value (pos missed_stock_ticks) (omega (arith, ints)) f) in
           omega (arith, ints, e, l)
       | inr less ↦ let rest = MatchBool-at_false _ _ less is in
           let short = above-no S contents.most x less in
           elim (cases_Bool (is_at_minimum S contents x)) [
             | inl empty ↦ let e = MatchBool-at_true _ _ empty rest in
                 let low = below-yes S contents.least x empty in
-                lower-is (λ z. (pos S *ℤ z) ≤ℤ next) contents range y value (pos 10)
+                lower-is (λ z. (pos S *ℤ z) ≤ℤ next) contents range y value (pos missed_stock_ticks)
                 (λ h. absurd (not-full short h)) (λ h l. omega (arith, ints, e)) (λ h l. absurd (not-inside low l))
             | inr more ↦ let near = MatchBool-at_false _ _ more rest in
-                lower-is (λ z. (pos S *ℤ z) ≤ℤ next) contents range y value (pos 10)
+                lower-is (λ z. (pos S *ℤ z) ≤ℤ next) contents range y value (pos missed_stock_ticks)
                 (λ h. absurd (not-full short h)) (λ h l. near.above_least)
-                (λ h l. max_is (λ z. (pos S *ℤ z) ≤ℤ next) range.least (floor value -ℤ pos 10) (λ e. near.above_least)
-                (λ e. times_reflects other.den (pos S *ℤ (floor value -ℤ pos 10)) next g.value_some (close near)))
+                (λ h l. max_is (λ z. (pos S *ℤ z) ≤ℤ next) range.least (floor value -ℤ pos missed_stock_ticks)
+                (λ e. near.above_least)
+                (λ e. times_reflects other.den (pos S *ℤ (floor value -ℤ pos missed_stock_ticks)) next g.value_some
+                (close near)))
           ]
     ]
       where
-        close : IsNear S range other next → (pos other.den *ℤ (pos S *ℤ (floor value -ℤ pos 10)))
+        close : IsNear S range other next → (pos other.den *ℤ (pos S *ℤ (floor value -ℤ pos missed_stock_ticks)))
             ≤ℤ (pos other.den *ℤ next)
         close near =
             let a = raised S (floor value) value other f.value_some value_under (floor_low value f.value_some) in
             let b = near.near_below in
-            rw (times_minus S (floor value) (pos 10), times_minus other.den (pos S *ℤ floor value) (pos S *ℤ pos 10))
+            rw (
+              times_minus S (floor value) (pos missed_stock_ticks),
+              times_minus other.den (pos S *ℤ floor value) (pos S *ℤ pos missed_stock_ticks),
+            )
             (omega (arith, ints, a, b))
 
     pub placed-low : (pos (placed S contents range x other).den
@@ -251,37 +256,38 @@ module _ (S : ℕ) (contents range : Bounds) (y x value other : Rational) (some 
     not-empty more h = let a = lowered S contents.least y x f.some over h in omega (arith, ints, a, more)
 
     pub next-high : (next : ℤ) → IsPlaced S contents range x other next
-        → next ≤ℤ (pos S *ℤ upper_end contents range y value (pos 10))
+        → next ≤ℤ (pos S *ℤ upper_end contents range y value (pos missed_stock_ticks))
     next-high next is = elim (cases_Bool (is_at_maximum S contents x)) [
       | inl full ↦ let e = MatchBool-at_true _ _ full is in
           let reached = is-full (above-yes S contents.most x full) in
-          upper-is (λ z. next ≤ℤ (pos S *ℤ z)) contents range y value (pos 10)
+          upper-is (λ z. next ≤ℤ (pos S *ℤ z)) contents range y value (pos missed_stock_ticks)
           (λ h. omega (arith, ints, e)) (λ h l. absurd (omega (arith, ints, h, reached)))
           (λ h l. absurd (omega (arith, ints, h, reached)))
       | inr less ↦ let rest = MatchBool-at_false _ _ less is in
           elim (cases_Bool (is_at_minimum S contents x)) [
             | inl empty ↦ let e = MatchBool-at_true _ _ empty rest in
-                let l = times_rises S range.least (upper_end contents range y value (pos 10))
-                (upper-least contents range y value (pos 10) (omega (arith, ints)) f) in
+                let l = times_rises S range.least (upper_end contents range y value (pos missed_stock_ticks))
+                (upper-least contents range y value (pos missed_stock_ticks) (omega (arith, ints)) f) in
                 omega (arith, ints, e, l)
             | inr more ↦ let near = MatchBool-at_false _ _ more rest in
                 let high = below-no S contents.least x more in
-                upper-is (λ z. next ≤ℤ (pos S *ℤ z)) contents range y value (pos 10)
+                upper-is (λ z. next ≤ℤ (pos S *ℤ z)) contents range y value (pos missed_stock_ticks)
                 (λ h. near.below_most) (λ h l. absurd (not-empty high l))
-                (λ h l. min_is (λ z. next ≤ℤ (pos S *ℤ z)) range.most (ceiling value +ℤ pos 10) (λ e. near.below_most)
-                (λ e. times_reflects other.den next (pos S *ℤ (ceiling value +ℤ pos 10)) g.value_some (close near)))
+                (λ h l. min_is (λ z. next ≤ℤ (pos S *ℤ z)) range.most (ceiling value +ℤ pos missed_stock_ticks)
+                (λ e. near.below_most)
+                (λ e. times_reflects other.den next (pos S *ℤ (ceiling value +ℤ pos missed_stock_ticks)) g.value_some
+                (close near)))
           ]
     ]
       where
         close : IsNear S range other next → (pos other.den *ℤ next)
-            ≤ℤ (pos other.den *ℤ (pos S *ℤ (ceiling value +ℤ pos 10)))
+            ≤ℤ (pos other.den *ℤ (pos S *ℤ (ceiling value +ℤ pos missed_stock_ticks)))
         close near =
             let a = lowered S (ceiling value) value other f.value_some value_over (ceiling_high value f.value_some) in
             let b = near.near_above in
             rw (
-              times_plus S (ceiling value) (pos 10),
-              times_plus other.den (pos S *ℤ ceiling value)
-                  (pos S *ℤ pos 10),
+              times_plus S (ceiling value) (pos missed_stock_ticks),
+              times_plus other.den (pos S *ℤ ceiling value) (pos S *ℤ pos missed_stock_ticks),
             ) (omega (arith, ints, a, b))
 
     pub placed-high : (placed S contents range x other).num ≤ℤ (pos (placed S contents range x other).den

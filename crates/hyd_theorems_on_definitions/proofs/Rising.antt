@@ -16,6 +16,7 @@ use Rattle.hyd_lemmas.proofs.Trials.{le-yes, le-no}
 use Rattle.hyd_theorems_on_definitions.proofs.LinkLaws.{low-rises, high-rises, roots-ordered}
 use Rattle.hyd_theorems_on_definitions.proofs.EachLaw.{low_is, high_is}
 use Rattle.hyd_theorems_on_definitions.proofs.Outflows.{high-positive}
+use Rattle.hyd_theorems_on_definitions.specs.PressureDrivenDemand.{stepped}
 
 pub AreRising-quad : (c : Capacity) → AreRising (quadratic_low c) (quadratic_high c)
 AreRising-quad c = record {
@@ -30,10 +31,6 @@ AreRising-quad c = record {
 low-positive : (c : Capacity) (z : ℤ) → pos 0 ≤ℤ z → pos 0 ≤ℤ quadratic_low c z
 low-positive c (pos n) le = omega (arith, ints)
 low-positive c (negsuc n) le = absurd (omega (arith, ints))
-
--- nothing up to a pressure m, D from r on, and at most D by a rising function f between
-abbrev stepped : ℤ → ℤ → ℤ → (ℤ → ℤ) → ℤ → ℤ
-stepped D m r f p = if int_le p m then pos 0 else if int_le r p then D else int_min D (f (p -ℤ m))
 
 stepped-is : (P : ℤ → Type 0) (D m r : ℤ) (f : ℤ → ℤ) (p : ℤ) → (p ≤ℤ m → P (pos 0)) → (m <ℤ p → r ≤ℤ p → P D)
     → (m <ℤ p → p <ℤ r → P (int_min D (f (p -ℤ m))))

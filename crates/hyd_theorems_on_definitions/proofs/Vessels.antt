@@ -6,6 +6,7 @@ use Rattle.std.specs.Option.{option_map_or}
 use Rattle.std.proofs.lemmas.Int.{ints}
 use Rattle.std.proofs.lemmas.Option.{slice_get_within, get_or_from_slice_get}
 use Rattle.hyd_num.proofs.Integers.{times_rises, one_times}
+use Rattle.hyd_num.specs.FileQuantity.{ten_thousandths_of_metre_in_foot, head_ticks_in_billionth_of_metre}
 use Rattle.hyd_num.specs.FileQuantity.{is_us_unit, head_ticks}
 use Rattle.hyd_net.specs.ListView.{ListView}
 use Rattle.hyd_net.specs.NumberRanges.{Numbers}
@@ -35,8 +36,10 @@ sound_tank project sound k tank at =
 -- ---- a cylinder
 
 across-above : (us : Bool) (nano : ℤ) → pos (10 ^ 8) ≤ℤ nano → pos (10 ^ 11) ≤ℤ head_ticks us nano
-across-above true nano h = let a = times_rises 3048 (pos (10 ^ 8)) nano h in omega (arith, ints, a)
-across-above false nano h = let a = times_rises 10000 (pos (10 ^ 8)) nano h in omega (arith, ints, a)
+across-above true nano h =
+    let a = times_rises ten_thousandths_of_metre_in_foot (pos (10 ^ 8)) nano h in omega (arith, ints, a)
+across-above false nano h =
+    let a = times_rises head_ticks_in_billionth_of_metre (pos (10 ^ 8)) nano h in omega (arith, ints, a)
 
 square-above : (z : ℤ) → pos (10 ^ 11) ≤ℤ z → pos (4 * 10 ^ 26) ≤ℤ (pos 3141592654 *ℤ (z *ℤ z))
 square-above (pos a) h =
@@ -46,7 +49,7 @@ square-above (pos a) h =
     omega (arith, ints, m, n)
 square-above (negsuc n) h = absurd (omega (arith, ints, h))
 
-some-area : (z : ℤ) → pos 1 ≤ℤ z → 0 < unsigned_abs z
+pub some-area : (z : ℤ) → pos 1 ≤ℤ z → 0 < unsigned_abs z
 some-area (pos n) h = omega (arith, ints, h)
 some-area (negsuc n) h = absurd (omega (arith, ints, h))
 

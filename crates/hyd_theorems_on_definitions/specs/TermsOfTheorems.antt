@@ -26,7 +26,8 @@ use Rattle.hyd_spec_certificates.specs.Decided.{Watch, watches, stocks_of_tank, 
 use Rattle.hyd_spec.specs.AssignmentWithDraw.{IsAssignmentDrawing}
 use Rattle.hyd_spec.specs.declared.TankState.{TankState}
 use Rattle.hyd_spec.specs.Scale.{at_scale}
-use Rattle.hyd_spec_certificates.specs.ThreeValuedLogic.{Verdict, Yes, No, Unknown}
+use Rattle.hyd_spec_certificates.specs.declared.Verdict.{Verdict}
+use Rattle.hyd_spec_certificates.specs.declared.Verdict.TheVariants.{Yes, No, Unknown}
 use Rattle.hyd_spec_certificates.specs.EnclosingFunctions.{DemandLaw, Fixed, Driven}
 use Rattle.hyd_spec.specs.CapacityEnclosure.{IsEnclosure}
 use Rattle.hyd_spec.specs.Law.{Relation, Loss, Law, Shut, QuadraticLaw, LinearLaw, Lifted, ForwardOnly, ReverseOnly}

@@ -25,7 +25,7 @@ use Rattle.hyd_spec.specs.Rules.{Offer, offer_of, offers_of, offers_from, is_abo
 use Rattle.hyd_spec.specs.Rules.{change_of, acted, is_same_state}
 use Rattle.hyd_spec.specs.History.{initial_links}
 use Rattle.std.proofs.lemmas.Int.{ints}
-use Rattle.hyd_lemmas.proofs.ListsAndOptions.{same_item}
+use Rattle.hyd_lemmas.proofs.ListsOptionsAndResults.{same_item}
 use Rattle.hyd_lemmas.proofs.Trials.{le-no}
 use Rattle.hyd_theorems_on_histories.specs.Agreement.{IsOwnState}
 use Rattle.hyd_theorems_on_histories.proofs.Judging.{each_of}

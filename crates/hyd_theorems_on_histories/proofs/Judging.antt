@@ -8,7 +8,9 @@ use Rattle.hyd_spec.specs.ProgramTypes.{Project, Rule, RuleClause, Joined, And, 
 use Rattle.hyd_spec.specs.Rules.{Readings, Parts, put_before, parts_of, groups_in, groups_of, clause_holds, rule_holds}
 use Rattle.hyd_spec.specs.Rules.{rule_values, rule_changes}
 use Rattle.hyd_spec.specs.PeriodLength.{Period, readings_after, values_at}
-use Rattle.hyd_spec_certificates.specs.ThreeValuedLogic.{Verdict, Yes, No, Unknown, is_yes, is_unknown, some_holds}
+use Rattle.hyd_spec_certificates.specs.declared.Verdict.{Verdict}
+use Rattle.hyd_spec_certificates.specs.declared.Verdict.TheVariants.{Yes, No, Unknown}
+use Rattle.hyd_spec_certificates.specs.ThreeValuedLogic.{is_yes, is_unknown, some_holds}
 use Rattle.hyd_spec_certificates.specs.ThreeValuedLogic.{all_hold}
 use Rattle.hyd_spec_certificates.specs.PeriodNetwork.{Grid}
 use Rattle.hyd_spec_certificates.specs.RecordAndStanding.{Record, Standing}

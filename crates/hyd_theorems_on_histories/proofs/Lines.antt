@@ -52,7 +52,7 @@ use Rattle.hyd_spec_reports.specs.Report.{event_line, status_of, EndBrings, at_e
 use Rattle.hyd_spec_reports.specs.Report.{by_rules as brings_by_rules, by_clock as brings_by_clock, AreEndLines}
 use Rattle.hyd_spec_reports.specs.Claims.{LineHolds, ReachesControl, ReachesAtEnd, StatusHolds, difference_along}
 use Rattle.hyd_theorems_on_definitions.specs.TermsOfTheorems.{LiesIn}
-use Rattle.hyd_lemmas.proofs.ListsAndOptions.{same_item}
+use Rattle.hyd_lemmas.proofs.ListsOptionsAndResults.{same_item}
 use Rattle.hyd_lemmas.proofs.Trials.{le-from, le-yes}
 use Rattle.hyd_theorems_on_definitions.proofs.Boxed.{heads_between}
 use Rattle.hyd_theorems_on_definitions.proofs.Deciding.{control_tells}

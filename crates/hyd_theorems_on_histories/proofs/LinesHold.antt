@@ -25,7 +25,7 @@ use Rattle.hyd_spec_reports.specs.Report.{Prints, LineEach, IsJunctionLine, IsRe
 use Rattle.hyd_spec_reports.specs.Report.{AreStateLines}
 use Rattle.hyd_spec_reports.specs.Claims.{LineHolds, FlowLies}
 use Rattle.hyd_theorems_on_definitions.specs.TermsOfTheorems.{LiesIn, IsCompared}
-use Rattle.hyd_lemmas.proofs.ListsAndOptions.{same_item}
+use Rattle.hyd_lemmas.proofs.ListsOptionsAndResults.{same_item}
 use Rattle.hyd_theorems_on_definitions.proofs.Comparison.{below_main, above_main, place_at}
 use Rattle.hyd_theorems_on_definitions.proofs.Boxed.{heads_between, flow_lies, outflow_lies}
 use Rattle.hyd_theorems_on_histories.proofs.PrintedValues.{prints_hold, head_proportional, pressure_proportional}

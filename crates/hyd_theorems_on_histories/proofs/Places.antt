@@ -6,24 +6,12 @@ use Rattle.hyd_spec.specs.Lists.{map_from}
 use Rattle.hyd_spec_certificates.specs.Interval.{Interval}
 use Rattle.hyd_spec_certificates.specs.Decided.{nowhere}
 use Rattle.hyd_theorems_on_definitions.specs.TermsOfTheorems.{LiesIn, LevelsLie}
-use Rattle.hyd_lemmas.proofs.ListsAndOptions.{same_item}
-
--- an item of a list that f made of the items and their numbers
-pub numbered_at : (X Y : Type 0) (f : ℕ → X → Y) (from : ℕ) (xs : List X) (k : ℕ) (x : X) (d : Y)
-    → slice_get xs k ≡ Some x
-    → slice_index_or (map_from f from xs) k d ≡ f (from + k) x
-numbered_at X Y f from [] k x d e = absurd (cc)
-numbered_at X Y f from (y ∷ xs) zero x d e =
-    let same = same_item X y x e in let n : from ≡ from + 0 = omega arith in
-    ap (λ (z : X). f from z) same ∙ ap (λ (m : ℕ). f m x) n
-numbered_at X Y f from (y ∷ xs) (suc k) x d e =
-    let n : suc from + k ≡ from + suc k = omega arith in
-    numbered_at X Y f (suc from) xs k x d e ∙ ap (λ (m : ℕ). f m x) n
+use Rattle.hyd_lemmas.proofs.ListsOptionsAndResults.{numbered_at}
 
 pub numbered_from_start : (X Y : Type 0) (f : ℕ → X → Y) (xs : List X) (k : ℕ) (x : X) (d : Y) → slice_get xs k ≡ Some x
     → slice_index_or (map_from f 0 xs) k d ≡ f k x
 numbered_from_start X Y f xs k x d e =
-    let n : 0 + k ≡ k = omega arith in numbered_at X Y f 0 xs k x d e ∙ ap (λ (m : ℕ). f m x) n
+    let n : 0 + k ≡ k = omega arith in numbered_at f 0 xs k x d e ∙ ap (λ (m : ℕ). f m x) n
 
 -- levels lie in their intervals at every place
 pub lies_at : (S : ℕ) (intervals : List Interval) (levels : List ℤ) (k : ℕ) → LevelsLie S intervals levels

@@ -4,6 +4,7 @@ use Rattle.std.proofs.Math.IntN.{*ℤ_comm}
 use Rattle.std.proofs.lemmas.Int.{ints}
 use Rattle.hyd_num.proofs.Integers.{times_rises, times_times, one_times}
 use Rattle.hyd_num.specs.Rational.{Rational}
+use Rattle.hyd_num.specs.FileQuantity.{ten_thousandths_of_metre_in_foot, ten_thousandths_of_pound_in_foot}
 use Rattle.hyd_num.specs.FileQuantity.{flow_factor}
 use Rattle.hyd_num.specs.PrintedDecimals.{head_quantity, pressure_quantity, flow_quantity}
 use Rattle.hyd_num.specs.declared.flow_units.FlowUnit.{FlowUnit}
@@ -59,8 +60,8 @@ ratio a b d e = ap (λ (n : ℤ). record { num = n; den = d }) e
 pub head_proportional : (us : Bool) → IsProportional (head_quantity us)
 head_proportional true = record {
   factor = 1;
-  part = 3048 * 10 ^ 9;
-  is = λ t. ratio t (pos 1 *ℤ t) (3048 * 10 ^ 9)
+  part = ten_thousandths_of_metre_in_foot * 10 ^ 9;
+  is = λ t. ratio t (pos 1 *ℤ t) (ten_thousandths_of_metre_in_foot * 10 ^ 9)
       (sym (one_times t));
 }
 head_proportional false = record {
@@ -71,7 +72,11 @@ head_proportional false = record {
 }
 
 pub pressure_proportional : (us : Bool) → IsProportional (pressure_quantity us)
-pressure_proportional true = record { factor = 4333; part = 10 ^ 4 * (3048 * 10 ^ 9); is = λ t. refl }
+pressure_proportional true = record {
+  factor = ten_thousandths_of_pound_in_foot;
+  part = 10 ^ 4 * (ten_thousandths_of_metre_in_foot * 10 ^ 9);
+  is = λ t. refl;
+}
 pressure_proportional false = record {
   factor = 1;
   part = 10 ^ 13;

@@ -19,7 +19,7 @@ use Rattle.hyd_spec_certificates.specs.Decided.{links_at, acts_on, level_of_tank
 use Rattle.hyd_spec_certificates.specs.Decided.{nowhere, rule_truths}
 use Rattle.hyd_spec_certificates.specs.Valid.{IsValid, Continues, LeavesLinks, by_rules, by_clock, stocks_next}
 use Rattle.hyd_theorems_on_definitions.specs.TermsOfTheorems.{LiesIn, LevelsLie, StockLies, IsWithin, IsSoundGrid}
-use Rattle.hyd_lemmas.proofs.ListsAndOptions.{same_item}
+use Rattle.hyd_lemmas.proofs.ListsOptionsAndResults.{same_item}
 use Rattle.hyd_theorems_on_definitions.proofs.Grids.{IsSoundGrid-made}
 use Rattle.hyd_theorems_on_definitions.proofs.Levelling.{next_lies, next_within}
 use Rattle.hyd_theorems_on_histories.specs.Agreement.{IsUnder, VolumesLie, AgreesWith, IsOwnState, IsKept}

@@ -14,14 +14,16 @@ use Rattle.hyd_spec.specs.Tank.{walls_of, reaches, tank_inflow}
 use Rattle.hyd_spec_certificates.specs.Stocks.{may_reach, must_reach}
 use Rattle.hyd_spec.specs.PeriodLength.{Period, EndsByLevel, full, empty, control as at_control, level_at_start}
 use Rattle.hyd_spec.specs.PeriodLength.{stock_at_start, reached_after}
-use Rattle.hyd_spec_certificates.specs.ThreeValuedLogic.{Verdict, Yes, No, Unknown, is_yes, is_unknown}
+use Rattle.hyd_spec_certificates.specs.declared.Verdict.{Verdict}
+use Rattle.hyd_spec_certificates.specs.declared.Verdict.TheVariants.{Yes, No, Unknown}
+use Rattle.hyd_spec_certificates.specs.ThreeValuedLogic.{is_yes, is_unknown}
 use Rattle.hyd_spec_certificates.specs.PeriodNetwork.{Grid}
 use Rattle.hyd_spec_certificates.specs.RecordAndStanding.{Record, Standing}
 use Rattle.hyd_spec_certificates.specs.Decided.{Watch, tank_watches, watch_of, watches, acts_on, control_truth}
 use Rattle.hyd_spec_certificates.specs.Decided.{level_of_tank, stocks_of_tank, inflow_of_tank, SomeMayReach}
 use Rattle.hyd_spec_certificates.specs.Decided.{SomeMustReach}
 use Rattle.hyd_theorems_on_definitions.specs.TermsOfTheorems.{Tells}
-use Rattle.hyd_lemmas.proofs.ListsAndOptions.{same_item}
+use Rattle.hyd_lemmas.proofs.ListsOptionsAndResults.{same_item}
 use Rattle.hyd_theorems_on_definitions.proofs.Deciding.{control_tells, reached_may, must_reached}
 use Rattle.hyd_theorems_on_histories.specs.Agreement.{IsUnder}
 use Rattle.hyd_theorems_on_histories.proofs.Looks.{level_lies, stock_lies, inflow_within}

@@ -9,7 +9,7 @@ use lib.Signed.{le_z}
 use Rattle.hyd_num.specs.Numeral.{nano_of}
 use Rattle.hyd_spec_lines.specs.Lines.{Row, items_of, rows_in}
 use Rattle.hyd_lemmas.proofs.Trials.{le_z-yes}
-use Rattle.hyd_theorems_on_input.proofs.NotEmpty.{HasWords, not_empty}
+use Rattle.hyd_theorems_on_input.proofs.NoEmptyWords.{HasWords, not_empty}
 use Rattle.hyd_spec_lines.specs.declared.section.Section.{Section}
 use Rattle.hyd_spec_lines.specs.declared.section.Section.TheVariants.{Junctions, Reservoirs, Tanks, Pipes, Pumps}
 use Rattle.hyd_spec_lines.specs.declared.section.Section.TheVariants.{Valves, Demands, Emitters, Curves, Patterns}

@@ -1,5 +1,5 @@
 pub mod Places
-pub mod NotEmpty
+pub mod NoEmptyWords
 pub mod Faultless
 pub mod Occurs
 pub mod Names

@@ -2,6 +2,7 @@
 use Rattle.std.proofs.Common.{◌≡◌, ℕ, ◌+◌, ◌≤◌, zero, suc, Bool, true, false, List, [], ◌∷◌, ◌++◌, map, length, take}
 use Rattle.std.proofs.Common.{drop, Some, None, refl, sym, ap, ◌∙◌, subst, arith, inl, inr, true≢false}
 use Rattle.std.specs.Prelude.{slice_get, filter, ◌||◌, ◌==◌, All}
+use Rattle.std.specs.List.{list_any}
 use Rattle.std.specs.Str.{bytes_eq}
 use Rattle.std.proofs.lemmas.Bool.{cases_Bool, or_parts, or_left, or_right, not-true, leb-true}
 use Rattle.std.proofs.lemmas.List.{map-append, length-append, length-map, take_all}
@@ -18,7 +19,7 @@ use Rattle.hyd_spec_input.specs.Columns.{needed, id}
 use Rattle.hyd_spec_input.specs.NetworkRows as alone
 use Rattle.hyd_spec_input.specs.Tables.{is_of, rows_of, words_of_row, own_id, is_node, is_link, node_rows, link_rows}
 use Rattle.hyd_spec_input.specs.Tables.{row_with, has_id, place}
-use Rattle.hyd_spec_input.specs.MeaningsAcrossRows.{first_word, node_ids, tank_ids, link_ids}
+use Rattle.hyd_spec_input.specs.MeaningsAcrossRows.{first_word, node_ids, tank_ids, link_ids, is_among}
 use Rattle.hyd_spec_input.specs.RowsTogether as others
 use Rattle.hyd_spec_input.specs.RowsTogether.{passes, new_in}
 use Rattle.hyd_spec_input.specs.Project.{IsProject, IsJunction, IsReservoir, IsTank, IsLink, numbered_links}
@@ -358,3 +359,8 @@ has_ids rows p right of = record {
   node_ids = subst (λ ids. All IsId ids) (sym of.node_ids_are) (node_ids_right rows right);
   link_ids = subst (λ ids. All IsId ids) (sym of.link_ids_are) (link_ids_right rows right);
 }
+
+-- a name among others
+pub among_is : (name : List ℕ) (names : List (List ℕ)) → is_among name names ≡ list_any (bytes_eq name) names
+among_is name [] = refl
+among_is name (x ∷ names) = ap (λ (b : Bool). bytes_eq name x || b) (among_is name names)

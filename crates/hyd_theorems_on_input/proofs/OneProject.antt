@@ -15,16 +15,18 @@ use Rattle.hyd_num.specs.declared.link_capacities.Origin.TheVariants.{Pump as Pu
 use Rattle.hyd_num.specs.Numeral.{nano_of}
 use Rattle.hyd_num.specs.QuotientsAndRoots.{IsFloor}
 use Rattle.hyd_num.specs.FileQuantity.{is_us_unit, head_ticks, flow_ticks}
+use Rattle.hyd_num.proofs.Floors.{one_ceiling, one_floor}
 use Rattle.hyd_spec_lines.specs.WordsOfLines.{is_keyword}
 use Rattle.hyd_spec_lines.specs.Lines.{Row}
 use Rattle.hyd_spec_lines.specs.declared.section.Section.TheVariants.{Junctions, Reservoirs, Tanks, Pipes, Pumps}
 use Rattle.hyd_spec_lines.specs.declared.section.Section.TheVariants.{Controls, Rules}
 use Rattle.hyd_net.proofs.Equal.{Decimal-equal, Span-equal}
 use Rattle.hyd_net.specs.RoundedFileNumbers.{IsRounded, IsExactly, IsSeconds, IsAmount, IsAreaMade, IsShutoffMade}
-use Rattle.hyd_net.specs.ProjectAsCompared.{no_number, no_head, bare_list, plain_capacity, plain_valve, plain_kind}
-use Rattle.hyd_net.specs.ProjectAsCompared.{plain_state, plain_link, plain_junction, plain_tank, plain_pattern}
-use Rattle.hyd_net.specs.ProjectAsCompared.{plain_control, plain_value, plain_rule_clause, plain_action, plain_rule}
-use Rattle.hyd_net.specs.ProjectAsCompared.{plain_project}
+use Rattle.hyd_net.specs.ProjectAsCompared.{no_number, no_head, bare_list, compared_capacity, compared_valve}
+use Rattle.hyd_net.specs.ProjectAsCompared.{compared_kind, compared_state, compared_link, compared_junction}
+use Rattle.hyd_net.specs.ProjectAsCompared.{compared_tank, compared_pattern, compared_control, compared_value}
+use Rattle.hyd_net.specs.ProjectAsCompared.{compared_rule_clause, compared_action, compared_rule}
+use Rattle.hyd_net.specs.ProjectAsCompared.{compared_project}
 use Rattle.hyd_net.specs.declared.options.Options.{Options}
 use Rattle.hyd_net.specs.declared.options.Times.{Times}
 use Rattle.hyd_net.specs.declared.nodes.Junction.{Junction}
@@ -68,8 +70,7 @@ use Rattle.hyd_spec_input.specs.Project.{IsClauseAt, IsClause, IsAction, numbere
 use Rattle.hyd_spec_input.specs.Project.{IsProject}
 use Rattle.hyd_spec_input.specs.declared.Attribute.{Attribute}
 use Rattle.hyd_spec_input.specs.declared.Attribute.TheVariants as attribute
-use Rattle.hyd_lemmas.proofs.Integers.{one_ceiling, one_floor}
-use Rattle.hyd_lemmas.proofs.ListsAndOptions.{same_some}
+use Rattle.hyd_lemmas.proofs.ListsOptionsAndResults.{same_some}
 use Rattle.hyd_theorems_on_input.proofs.OneCapacity.{one_capacity}
 use Rattle.hyd_theorems_on_input.proofs.ControlLines.{word_apart, at_not_if}
 use Rattle.hyd_theorems_on_input.proofs.Matching.{one_image, one_list}
@@ -138,7 +139,7 @@ one_times rows s t f g =
 -- ---- nodes
 
 one_emitter : (u : FlowUnit) (nano : ℤ) (a b : Option Capacity) → IsEmitter u nano a → IsEmitter u nano b
-    → option_map plain_capacity a ≡ option_map plain_capacity b
+    → option_map compared_capacity a ≡ option_map compared_capacity b
 one_emitter u nano None None f g = refl
 one_emitter u nano None (Some b) f g = absurd (not_above nano g.0 f)
 one_emitter u nano (Some a) None f g = absurd (not_above nano f.0 g)
@@ -150,7 +151,7 @@ one_emitter u nano (Some a) (Some b) f g =
     ap Some (one_capacity a b (x.origin ∙ origins ∙ sym y.origin) x.made y.made)
 
 one_junction : (rows : List Row) (row : Row) (j k : Junction) → project_of.IsJunction rows row j
-    → project_of.IsJunction rows row k → plain_junction j ≡ plain_junction k
+    → project_of.IsJunction rows row k → compared_junction j ≡ compared_junction k
 one_junction rows row j k f g =
     let elevation = f.elevation ∙ sym g.elevation in
     let demands = f.demands ∙ sym g.demands in
@@ -172,7 +173,7 @@ one_area u s t same f g =
     one_floor _ _ s.area t.area (subst Area same f) g
 
 one_tank : (rows : List Row) (row : Row) (s t : Tank) → project_of.IsTank rows row s → project_of.IsTank rows row t
-    → plain_tank s ≡ plain_tank t
+    → compared_tank s ≡ compared_tank t
 one_tank rows row s t f g =
     let bottom = f.bottom ∙ sym g.bottom in
     let initial = f.initial ∙ sym g.initial in
@@ -195,7 +196,7 @@ one_tank rows row s t f g =
 -- ---- what links are
 
 one_pipe : (u : Bool) (l d n k : ℤ) (a b : Capacity) → IsPipeOf u l d n k a → IsPipeOf u l d n k b
-    → plain_capacity a ≡ plain_capacity b
+    → compared_capacity a ≡ compared_capacity b
 one_pipe u l d n k a b f g =
     let long = Decimal-equal f.l g.l (f.l_is ∙ sym g.l_is) in
     let across = Decimal-equal f.d g.d (f.d_is ∙ sym g.d_is) in
@@ -206,7 +207,7 @@ one_pipe u l d n k a b f g =
     one_capacity a b (f.origin ∙ origins ∙ sym g.origin) f.made g.made
 
 one_valve : (u : Bool) (d k : ℤ) (a b : Capacity) → IsValveOf u d k a → IsValveOf u d k b
-    → plain_capacity a ≡ plain_capacity b
+    → compared_capacity a ≡ compared_capacity b
 one_valve u d k a b f g =
     let across = Decimal-equal f.d g.d (f.d_is ∙ sym g.d_is) in
     let minor = Decimal-equal f.k g.k (f.k_is ∙ sym g.k_is) in
@@ -214,7 +215,7 @@ one_valve u d k a b f g =
     one_capacity a b (f.origin ∙ origins ∙ sym g.origin) f.made g.made
 
 one_pump : (drop : Drop) (u : FlowUnit) (a b : Capacity) → IsPumpOf drop u a → IsPumpOf drop u b
-    → plain_capacity a ≡ plain_capacity b
+    → compared_capacity a ≡ compared_capacity b
 one_pump drop u a b f g =
     let flow = Decimal-equal f.q g.q (f.q_is ∙ sym g.q_is) in
     let head = Decimal-equal f.h g.h (f.h_is ∙ sym g.h_is) in
@@ -223,7 +224,7 @@ one_pump drop u a b f g =
     one_capacity a b (f.origin ∙ origins ∙ sym g.origin) f.made g.made
 
 one_law : (u : Bool) (d k : ℤ) (a b : OpenValve) → IsOpenValve u d k a → IsOpenValve u d k b
-    → plain_valve a ≡ plain_valve b
+    → compared_valve a ≡ compared_valve b
 one_law u d k (Quadratic a) (Quadratic b) f g = ap Quadratic (one_valve u d k a b f.1 g.1)
 one_law u d k (Quadratic a) Linear f g = absurd (not_above k f.0 g)
 one_law u d k Linear (Quadratic b) f g = absurd (not_above k g.0 f)
@@ -248,7 +249,7 @@ one_shutoff_head (a ∷ b ∷ points) (Given h) (FourThirds t) f g = absurd g
 one_shutoff_head (a ∷ b ∷ points) (Given h) (Given t) f g = ap Given (Decimal-equal h t (f ∙ sym g))
 
 one_pipe_kind : (rows : List Row) (row : Row) (a b : LinkKind) → IsPipeKind rows row a → IsPipeKind rows row b
-    → plain_kind a ≡ plain_kind b
+    → compared_kind a ≡ compared_kind b
 one_pipe_kind rows row (Pipe a) (Pipe b) f g = ap Pipe (one_pipe _ _ _ _ _ a b f.1 g.1)
 one_pipe_kind rows row (Pipe a) (CheckPipe b) f g = absurd (true≢false (sym g.0 ∙ f.0))
 one_pipe_kind rows row (CheckPipe a) (Pipe b) f g = absurd (true≢false (sym f.0 ∙ g.0))
@@ -258,7 +259,7 @@ one_pipe_kind rows row (CheckPipe a) _ f g = absurd g
 one_pipe_kind rows row _ _ f g = absurd f
 
 one_pump_kind : (rows : List Row) (row : Row) (a b : LinkKind) → IsPumpKind rows row a → IsPumpKind rows row b
-    → plain_kind a ≡ plain_kind b
+    → compared_kind a ≡ compared_kind b
 one_pump_kind rows row (Pump a s h p) (Pump b r t q) f g =
     let caps = one_pump (drop_of (pump_points rows row)) (unit rows) a b f.1 g.1 in
     let heads = one_shutoff_head (pump_points rows row) h t f.2 g.2 in
@@ -284,7 +285,7 @@ never_both words t g =
     true≢false (sym g ∙ word_apart (codes "TCV") (codes "GPV") (slice_get words 4) t general_not_throttle)
 
 one_valve_kind : (rows : List Row) (row : Row) (a b : LinkKind) → IsValveKind rows row a → IsValveKind rows row b
-    → plain_kind a ≡ plain_kind b
+    → compared_kind a ≡ compared_kind b
 one_valve_kind rows row (Tcv a) (Tcv b) f g =
     ap Tcv (one_law (us rows) (amount 3 row.words) (valve_minor row.words) a b f.1 g.1)
 one_valve_kind rows row (Tcv a) (Fcv b) f g = absurd (true≢false (sym f.0 ∙ g.0))
@@ -302,22 +303,23 @@ one_valve_kind rows row (Gpv l) _ f g = absurd g
 one_valve_kind rows row _ _ f g = absurd f
 
 one_kind : (rows : List Row) (row : Row) (a b : LinkKind) → IsKind rows row a → IsKind rows row b
-    → plain_kind a ≡ plain_kind b
+    → compared_kind a ≡ compared_kind b
 one_kind rows row a b =
     one_where (is_of Pipes row) (IsPipeKind rows row a)
     (Where (is_of Pumps row) (IsPumpKind rows row a) (IsValveKind rows row a)) (IsPipeKind rows row b)
-    (Where (is_of Pumps row) (IsPumpKind rows row b) (IsValveKind rows row b)) (plain_kind a ≡ plain_kind b)
+    (Where (is_of Pumps row) (IsPumpKind rows row b) (IsValveKind rows row b)) (compared_kind a ≡ compared_kind b)
     (one_pipe_kind rows row a b)
     (one_where (is_of Pumps row) (IsPumpKind rows row a) (IsValveKind rows row a) (IsPumpKind rows row b)
-    (IsValveKind rows row b) (plain_kind a ≡ plain_kind b) (one_pump_kind rows row a b) (one_valve_kind rows row a b))
+    (IsValveKind rows row b) (compared_kind a ≡ compared_kind b) (one_pump_kind rows row a b) (one_valve_kind rows row a
+    b))
 
 -- ---- states
 
-as_said : (x a b : LinkState) → a ≡ x → b ≡ x → plain_state a ≡ plain_state b
-as_said x a b f g = ap plain_state (f ∙ sym g)
+as_said : (x a b : LinkState) → a ≡ x → b ≡ x → compared_state a ≡ compared_state b
+as_said x a b f g = ap compared_state (f ∙ sym g)
 
 one_throttle : (rows : List Row) (row : Row) (nano : ℤ) (a b : LinkState) → IsThrottle rows row nano a
-    → IsThrottle rows row nano b → plain_state a ≡ plain_state b
+    → IsThrottle rows row nano b → compared_state a ≡ compared_state b
 one_throttle rows row nano (Throttle c a) (Throttle d b) f g =
     let coefficients = f.0 ∙ sym g.0 in
     let laws = one_law (us rows) (amount 3 row.words) nano a b f.1 g.1 in
@@ -326,36 +328,36 @@ one_throttle rows row nano (Throttle c a) _ f g = absurd g
 one_throttle rows row nano _ _ f g = absurd f
 
 one_number_state : (rows : List Row) (row : Row) (nano : ℤ) (a b : LinkState) → IsNumberState rows row nano a
-    → IsNumberState rows row nano b → plain_state a ≡ plain_state b
+    → IsNumberState rows row nano b → compared_state a ≡ compared_state b
 one_number_state rows row nano a b =
     let limit = Limit nano (flow_ticks (unit rows) nano) in
     one_where (is_of Pumps row) (a ≡ speed_state nano)
     (Where (is_throttle row.words) (IsThrottle rows row nano a) (a ≡ limit)) (b ≡ speed_state nano)
-    (Where (is_throttle row.words) (IsThrottle rows row nano b) (b ≡ limit)) (plain_state a ≡ plain_state b)
+    (Where (is_throttle row.words) (IsThrottle rows row nano b) (b ≡ limit)) (compared_state a ≡ compared_state b)
     (as_said (speed_state nano) a b)
     (one_where (is_throttle row.words) (IsThrottle rows row nano a) (a ≡ limit) (IsThrottle rows row nano b)
-    (b ≡ limit) (plain_state a ≡ plain_state b) (one_throttle rows row nano a b) (as_said limit a b))
+    (b ≡ limit) (compared_state a ≡ compared_state b) (one_throttle rows row nano a b) (as_said limit a b))
 
 one_state : (rows : List Row) (row : Row) (asked : List ℕ) (a b : LinkState) → IsState rows row asked a
-    → IsState rows row asked b → plain_state a ≡ plain_state b
+    → IsState rows row asked b → compared_state a ≡ compared_state b
 one_state rows row asked a b =
     let nano = nano_of asked in
     one_where (is_keyword (codes "OPEN") asked) (a ≡ open_state row)
     (Where (is_keyword (codes "CLOSED") asked) (a ≡ Closed) (IsNumberState rows row nano a)) (b ≡ open_state row)
     (Where (is_keyword (codes "CLOSED") asked) (b ≡ Closed) (IsNumberState rows row nano b))
-    (plain_state a ≡ plain_state b)
+    (compared_state a ≡ compared_state b)
     (as_said (open_state row) a b)
     (one_where (is_keyword (codes "CLOSED") asked) (a ≡ Closed) (IsNumberState rows row nano a) (b ≡ Closed)
-    (IsNumberState rows row nano b) (plain_state a ≡ plain_state b) (as_said Closed a b)
+    (IsNumberState rows row nano b) (compared_state a ≡ compared_state b) (as_said Closed a b)
     (one_number_state rows row nano a b))
 
 one_state_of : (rows : List Row) (o : Option Row) (asked : List ℕ) (a b : LinkState) → IsStateOf rows o asked a
-    → IsStateOf rows o asked b → plain_state a ≡ plain_state b
+    → IsStateOf rows o asked b → compared_state a ≡ compared_state b
 one_state_of rows None asked a b f g = absurd f
 one_state_of rows (Some row) asked a b f g = one_state rows row asked a b f g
 
 one_own_state : (rows : List Row) (row : Row) (a b : LinkState) → IsOwnState rows row a → IsOwnState rows row b
-    → plain_state a ≡ plain_state b
+    → compared_state a ≡ compared_state b
 one_own_state rows row a b =
     let status = if is_closed_pipe row.words then Closed else Open in
     let speed = speed_state (pump_speed row.words) in
@@ -365,22 +367,22 @@ one_own_state rows row a b =
     (Where (is_general row.words) (a ≡ Open) (IsNumberState rows row setting a))) (b ≡ status)
     (Where (is_of Pumps row) (b ≡ speed)
     (Where (is_general row.words) (b ≡ Open) (IsNumberState rows row setting b)))
-    (plain_state a ≡ plain_state b) (as_said status a b)
+    (compared_state a ≡ compared_state b) (as_said status a b)
     (one_where (is_of Pumps row) (a ≡ speed)
     (Where (is_general row.words) (a ≡ Open) (IsNumberState rows row setting a)) (b ≡ speed)
     (Where (is_general row.words) (b ≡ Open) (IsNumberState rows row setting b))
-    (plain_state a ≡ plain_state b) (as_said speed a b)
+    (compared_state a ≡ compared_state b) (as_said speed a b)
     (one_where (is_general row.words) (a ≡ Open) (IsNumberState rows row setting a) (b ≡ Open)
-    (IsNumberState rows row setting b) (plain_state a ≡ plain_state b) (as_said Open a b)
+    (IsNumberState rows row setting b) (compared_state a ≡ compared_state b) (as_said Open a b)
     (one_number_state rows row setting a b)))
 
 one_start : (rows : List Row) (row : Row) (o : Option Row) (a b : LinkState) → IsStart rows row o a
-    → IsStart rows row o b → plain_state a ≡ plain_state b
+    → IsStart rows row o b → compared_state a ≡ compared_state b
 one_start rows row None a b f g = one_own_state rows row a b f g
 one_start rows row (Some status) a b f g = one_state rows row (word 1 status.words) a b f g
 
 one_link : (rows : List Row) (row : Row) (l m : Link) → IsLink rows row l → IsLink rows row m
-    → plain_link l ≡ plain_link m
+    → compared_link l ≡ compared_link m
 one_link rows row l m f g =
     let from = same_some _ l.from m.from f.ends.from g.ends.from in
     let to = same_some _ l.to m.to f.ends.to g.ends.to in
@@ -391,7 +393,7 @@ one_link rows row l m f g =
 -- ---- patterns and controls
 
 pub one_pattern : (rows : List Row) (id : List ℕ) (p q : Pattern) → project_of.IsPattern rows id p
-    → project_of.IsPattern rows id q → plain_pattern p ≡ plain_pattern q
+    → project_of.IsPattern rows id q → compared_pattern p ≡ compared_pattern q
 one_pattern rows id p q f g =
     let multipliers = f ∙ sym g in λ i. record { multipliers = record { list = multipliers i; spare = 0 } }
 
@@ -425,7 +427,7 @@ one_when rows words (ClockAt s) (TimeAt t) f g =
     absurd (true≢false (sym (and_parts (word_is 3 (codes "AT") words) _ f.0).1 ∙ off))
 
 one_control : (rows : List Row) (words : List (List ℕ)) (c d : Control) → project_of.IsControl rows words c
-    → project_of.IsControl rows words d → plain_control c ≡ plain_control d
+    → project_of.IsControl rows words d → compared_control c ≡ compared_control d
 one_control rows words c d f g =
     let link = same_some _ c.link d.link f.link g.link in
     let to = one_state_of rows (link_named rows (word 1 words)) (word 2 words) c.to d.to f.to g.to in
@@ -467,15 +469,15 @@ one_amount u Clock nano s t f g = one_seconds nano s t f g
 
 amounts : (u : FlowUnit) (what : What) (nano : ℤ) (s t : Span) (m n : Decimal)
     → (m.nano ≡ nano) × IsAmount u what m.nano s → (n.nano ≡ nano) × IsAmount u what n.nano t
-    → plain_value (Amount s m) ≡ plain_value (Amount t n)
+    → compared_value (Amount s m) ≡ compared_value (Amount t n)
 amounts u what nano s t m n f g =
     let first : IsAmount u what nano s = subst (λ (z : ℤ). IsAmount u what z s) f.0 f.1 in
     let second : IsAmount u what nano t = subst (λ (z : ℤ). IsAmount u what z t) g.0 g.1 in
     ap (λ (x : Span). Amount x no_number) (one_amount u what nano s t first second)
 
 one_value : (u : FlowUnit) (what : What) (k : ℕ) (words : List (List ℕ)) (a b : Value) → IsValue u what k words a
-    → IsValue u what k words b → plain_value a ≡ plain_value b
-one_value u (Status l) k words a b f g = ap plain_value (f ∙ sym g)
+    → IsValue u what k words b → compared_value a ≡ compared_value b
+one_value u (Status l) k words a b f g = ap compared_value (f ∙ sym g)
 one_value u (Head l) k words (Amount s m) (Amount t n) f g = amounts u (Head l) _ s t m n f g
 one_value u (Pressure l) k words (Amount s m) (Amount t n) f g = amounts u (Pressure l) _ s t m n f g
 one_value u (Level l) k words (Amount s m) (Amount t n) f g = amounts u (Level l) _ s t m n f g
@@ -493,7 +495,7 @@ one_value u Clock k words (Amount s m) _ f g = absurd g
 one_value u _ k words _ _ f g = absurd f
 
 one_clause_at : (rows : List Row) (k : ℕ) (words : List (List ℕ)) (c d : RuleClause) → IsClauseAt rows k words c
-    → IsClauseAt rows k words d → plain_rule_clause c ≡ plain_rule_clause d
+    → IsClauseAt rows k words d → compared_rule_clause c ≡ compared_rule_clause d
 one_clause_at rows k words c d f g =
     let joined = f.joined ∙ sym g.joined in
     let what = one_what rows words _ c.clause.what d.clause.what f.what g.what in
@@ -504,23 +506,23 @@ one_clause_at rows k words c d f g =
     λ i. record { joined = joined i; clause = record { what = what i; relation = relation i; value = value i } }
 
 one_action : (rows : List Row) (words : List (List ℕ)) (a b : Action) → IsAction rows words a → IsAction rows words b
-    → plain_action a ≡ plain_action b
+    → compared_action a ≡ compared_action b
 one_action rows words a b f g =
     let link = same_some _ a.link b.link f.link g.link in
     let to = one_state_of rows (link_named rows (word 2 words)) (word 5 words) a.to b.to f.to g.to in
     λ i. record { link = link i; to = to i }
 
 one_rule : (rows : List Row) (group : List (List (List ℕ))) (r s : Rule) → project_of.IsRule rows group r
-    → project_of.IsRule rows group s → plain_rule r ≡ plain_rule s
+    → project_of.IsRule rows group s → compared_rule r ≡ compared_rule s
 one_rule rows group r s f g =
     let id = f.id ∙ sym g.id in
-    let clauses = one_image (IsClause rows) plain_rule_clause (clause_lines group) r.clauses.list s.clauses.list
+    let clauses = one_image (IsClause rows) compared_rule_clause (clause_lines group) r.clauses.list s.clauses.list
     (λ words c d x y. one_clause_at rows _ words c d x y) f.clauses g.clauses in
-    let actions = one_image (IsAction rows) plain_action (then_lines group) r.yes.list s.yes.list (one_action rows)
+    let actions = one_image (IsAction rows) compared_action (then_lines group) r.yes.list s.yes.list (one_action rows)
     f.yes
     g.yes in
-    let otherwise = one_image (IsAction rows) plain_action (else_lines group) r.no.list s.no.list (one_action rows) f.no
-    g.no in
+    let otherwise = one_image (IsAction rows) compared_action (else_lines group) r.no.list s.no.list (one_action rows)
+    f.no g.no in
     let priority = f.priority ∙ sym g.priority in
     λ i. record {
       id = record { list = id i; spare = 0 };
@@ -533,31 +535,31 @@ one_rule rows group r s f g =
 -- ---- all of it
 
 pub one_project : (rows : List Row) (p q : Project) → IsProject rows p → IsProject rows q
-    → plain_project p ≡ plain_project q
+    → compared_project p ≡ compared_project q
 one_project rows p q f g =
     let options = one_options rows p.options q.options f.options g.options in
     let times = one_times rows p.times q.times f.times g.times in
     let node_ids = f.node_ids_are ∙ sym g.node_ids_are in
     let link_ids = f.link_ids_are ∙ sym g.link_ids_are in
-    let junctions = one_image (project_of.IsJunction rows) plain_junction (rows_of Junctions rows) p.junctions.list
+    let junctions = one_image (project_of.IsJunction rows) compared_junction (rows_of Junctions rows) p.junctions.list
     q.junctions.list (one_junction rows) f.junctions g.junctions in
     let reservoirs = one_list (project_of.IsReservoir rows) (rows_of Reservoirs rows) p.reservoirs.list
     q.reservoirs.list
     (one_reservoir rows) f.reservoirs g.reservoirs in
-    let tanks = one_image (project_of.IsTank rows) plain_tank (rows_of Tanks rows) p.tanks.list q.tanks.list
+    let tanks = one_image (project_of.IsTank rows) compared_tank (rows_of Tanks rows) p.tanks.list q.tanks.list
     (one_tank rows) f.tanks g.tanks in
-    let links = one_image (IsLink rows) plain_link (numbered_links rows) p.links.list q.links.list (one_link rows)
+    let links = one_image (IsLink rows) compared_link (numbered_links rows) p.links.list q.links.list (one_link rows)
     f.links g.links in
-    let patterns = one_image (project_of.IsPattern rows) plain_pattern (pattern_ids rows) p.patterns.list
+    let patterns = one_image (project_of.IsPattern rows) compared_pattern (pattern_ids rows) p.patterns.list
     q.patterns.list (one_pattern rows) f.patterns g.patterns in
     let shapes = one_image (λ name list. list.list ≡ shape_points rows name) bare_list (shape_names rows)
     p.shapes.list q.shapes.list (λ name a b x y. ap (λ xs. record { list = xs; spare = 0 }) (x ∙ sym y)) f.shapes
     g.shapes in
     let bends = one_image (λ name list. list.list ≡ bend_points rows name) bare_list (bend_names rows) p.bends.list
     q.bends.list (λ name a b x y. ap (λ xs. record { list = xs; spare = 0 }) (x ∙ sym y)) f.bends g.bends in
-    let controls = one_image (project_of.IsControl rows) plain_control (words_of Controls rows) p.controls.list
+    let controls = one_image (project_of.IsControl rows) compared_control (words_of Controls rows) p.controls.list
     q.controls.list (one_control rows) f.controls g.controls in
-    let rules = one_image (project_of.IsRule rows) plain_rule (rule_groups (words_of Rules rows)) p.rules.list
+    let rules = one_image (project_of.IsRule rows) compared_rule (rule_groups (words_of Rules rows)) p.rules.list
     q.rules.list
     (one_rule rows) f.rules g.rules in
     λ i. record {

@@ -124,16 +124,16 @@ placed_line rows before words after right e =
     at_end [] = refl
     at_end (x ∷ xs) = at_end xs
 
-next_stage : (before : List (List (List ℕ))) (words : List (List ℕ)) → stage_after (before ++ words ∷ []) ≡ stage_by
+pub stage_more : (before : List (List (List ℕ))) (words : List (List ℕ)) → stage_after (before ++ words ∷ []) ≡ stage_by
     (stage_after before) (begins_with words)
-next_stage before words = fold-append (λ stage line. stage_by stage (begins_with line)) Outside before (words ∷ [])
+stage_more before words = fold-append (λ stage line. stage_by stage (begins_with line)) Outside before (words ∷ [])
 
 lines_right : (rows : List Row) (before lines : List (List (List ℕ))) → AreRight rows
     → words_of RulesSection rows ≡ before ++ lines → RightFrom rows (stage_after before) lines
 lines_right rows before [] right e = tt
 lines_right rows before (words ∷ lines) right e = (
   placed_line rows before words lines right e,
-  subst (λ (s : Stage). RightFrom rows s lines) (next_stage before words)
+  subst (λ (s : Stage). RightFrom rows s lines) (stage_more before words)
       (lines_right rows (before ++ words ∷ []) lines right (e ∙ sym (append_assoc before (words ∷ []) lines))),
 )
 

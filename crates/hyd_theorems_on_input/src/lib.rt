@@ -10,7 +10,7 @@ ghost use Rattle.hyd_net.specs.declared.project.Project.{Project};
 ghost use Rattle.hyd_net.specs.ControlsAndRules.{node_count, IsControl, IsRule};
 ghost use Rattle.hyd_net.specs.NetworkRanges.{HasOptions, HasSizes, IsJunction, IsReservoir, IsTank};
 ghost use Rattle.hyd_net.specs.States.{CanHave};
-ghost use Rattle.hyd_net.specs.ProjectAsCompared.{plain_project};
+ghost use Rattle.hyd_net.specs.ProjectAsCompared.{compared_project};
 ghost use Rattle.hyd_net.specs.Sound.{HasIds, IsWithinLimits, HasEnds, AreTimes, IsPattern, Sound};
 ghost use Rattle.hyd_net.specs.RoundedFileNumbers.{IsAllMade};
 ghost use Rattle.hyd_spec_input.specs.Faults.{IsFault, HasNoFault};
@@ -118,5 +118,5 @@ pub fn no_fault_beside()
 /// spare of their lists and from the numbers beside a rounded form, of which it is made).
 pub fn one_project()
     ensures { (rows : List Row) (p q : Project) → IsProject rows p → IsProject rows q
-        → plain_project p ≡ plain_project q }
+        → compared_project p ≡ compared_project q }
 {}

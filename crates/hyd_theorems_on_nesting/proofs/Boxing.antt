@@ -25,14 +25,15 @@ use Rattle.hyd_spec_certificates.specs.Decided.{level_of_tank, inflow_of_tank, h
 use Rattle.hyd_spec_certificates.specs.Valid.{IsProblem}
 use Rattle.hyd_theorems_on_definitions.specs.TermsOfTheorems.{IsSoundLaw, IsInside}
 use Rattle.hyd_num.proofs.Integers.{one_times}
-use Rattle.hyd_lemmas.proofs.ListsAndOptions.{same_item}
+use Rattle.hyd_lemmas.proofs.ListsOptionsAndResults.{same_item, item_there}
 use Rattle.hyd_theorems_on_definitions.proofs.EachLaw.{IsLaw-each}
 use Rattle.hyd_theorems_on_definitions.proofs.Nodes.{excess}
 use Rattle.hyd_theorems_on_definitions.proofs.Comparison.{place_long}
 use Rattle.hyd_theorems_on_nesting.specs.Nesting.{IsOrdered, AreNested}
 use Rattle.hyd_theorems_on_histories.proofs.Places.{numbered_from_start}
 use Rattle.hyd_theorems_on_nesting.proofs.TwoSides.{heads_below_plus}
-use Rattle.hyd_theorems_on_definitions.proofs.NetRising.{low-rises, high-rises, net-rises, net-ordered, item-at}
+use Rattle.hyd_theorems_on_definitions.proofs.NetRising.{low-rises, high-rises, net-rises, net-ordered}
+use Rattle.hyd_theorems_on_definitions.proofs.HeadLists.{head_behind}
 use Rattle.hyd_spec_certificates.specs.EnclosingFunctions.{low, high}
 
 -- ---- fixed heads
@@ -66,12 +67,6 @@ fixed-within grid p q t room each m =
     subst (λ l. end_on (tank_side q Lower l) x ≤ℤ (end_on (tank_side p Upper l) x +ℤ t)) n (each k x at))) m
 
 -- ---- heads of nodes
-
-past : (xs ys : List ℤ) (n m : ℕ) → length xs ≡ n → head_at (xs ++ ys) (n + m) ≡ head_at ys m
-past [] ys n m e = let z : n + m ≡ m = omega (arith, e) in ap (head_at ys) z
-past (x ∷ xs) ys zero m e = absurd (omega (arith, e))
-past (x ∷ xs) ys (suc n) m e = let z : suc n + m ≡ suc (n + m) = omega arith in
-    ap (head_at (x ∷ (xs ++ ys))) z ∙ past xs ys n m (omega (arith, e))
 
 -- the same fixed heads under two vectors
 all-below : (u v fixed : List ℤ) → length u ≡ length v → ((m : ℕ) → m < length u → head_at u m ≤ℤ head_at v m) → (m : ℕ)
@@ -132,7 +127,7 @@ module _ (project : Project) (standing : Standing) (grid : Grid) (outer inner : 
       let b = (nested.outer_certificates.each problem Upper is).one_each in
       all-below (vector_of inner problem Upper) (vector_of outer problem Upper) (fixed_heads grid problem Upper)
       (a ∙ sym b)
-      (λ m lt. let t = item-at grid.junctions m (omega (arith, lt, a)) in nested.about.upper problem is m t.0 t.1)
+      (λ m lt. let t = item_there grid.junctions m (omega (arith, lt, a)) in nested.about.upper problem is m t.0 t.1)
 
   lower-within : (problem : Problem) → IsProblem project problem → (m : ℕ)
       → head_at (all_heads grid problem Lower (vector_of outer problem Lower)) m ≤ℤ head_at
@@ -142,7 +137,7 @@ module _ (project : Project) (standing : Standing) (grid : Grid) (outer inner : 
       let b = (nested.outer_certificates.each problem Lower is).one_each in
       all-below (vector_of outer problem Lower) (vector_of inner problem Lower) (fixed_heads grid problem Lower)
       (b ∙ sym a)
-      (λ m lt. let t = item-at grid.junctions m (omega (arith, lt, b)) in nested.about.lower problem is m t.0 t.1)
+      (λ m lt. let t = item_there grid.junctions m (omega (arith, lt, b)) in nested.about.lower problem is m t.0 t.1)
 
   pub above_within : (m : ℕ) → head_at (heads_above grid inner) m ≤ℤ head_at (heads_above grid outer) m
   above_within = upper-within Main tt
@@ -207,8 +202,8 @@ module _ (project : Project) (standing : Standing) (grid : Grid) (outer inner : 
       ∙ interval-there project.tanks.list standing.levels k tank at nested.levels_each in
       let n : tank_node project k ≡ junction_count project + (reservoir_count project + k) = omega arith in
       ap (head_at (all_heads grid problem side u)) n
-      ∙ past u (fixed_heads grid problem side) (junction_count project) (reservoir_count project + k) junctions
-      ∙ past grid.reservoirs _ (reservoir_count project) k reservoirs
+      ∙ head_behind u (fixed_heads grid problem side) (junction_count project) (reservoir_count project + k) junctions
+      ∙ head_behind grid.reservoirs _ (reservoir_count project) k reservoirs
       ∙ numbered_from_start Interval ℤ (λ i x. end_on (tank_side problem side i) x) grid.tanks k
       (shifted tank.bottom (level_of_tank standing k)) (pos 0) place
 

@@ -9,7 +9,9 @@ use Rattle.hyd_spec.specs.declared.Change.{Change}
 use Rattle.hyd_spec.specs.Rules.{groups_of, measured}
 use Rattle.hyd_spec_certificates.specs.PeriodNetwork.{Grid}
 use Rattle.hyd_spec_certificates.specs.RecordAndStanding.{Record, Standing}
-use Rattle.hyd_spec_certificates.specs.ThreeValuedLogic.{Verdict, Yes, No, Unknown, is_unknown, either, both}
+use Rattle.hyd_spec_certificates.specs.declared.Verdict.{Verdict}
+use Rattle.hyd_spec_certificates.specs.declared.Verdict.TheVariants.{Yes, No, Unknown}
+use Rattle.hyd_spec_certificates.specs.ThreeValuedLogic.{is_unknown, either, both}
 use Rattle.hyd_spec_certificates.specs.ThreeValuedLogic.{some_holds}
 use Rattle.hyd_spec_certificates.specs.ThreeValuedLogic.{all_hold}
 use Rattle.hyd_spec_certificates.specs.Decided.{readings_below, readings_above, clause_between, rule_truth, rule_truths}
@@ -30,15 +32,15 @@ never false e f = absurd (cc)
 
 -- ---- a rule that is open has a clause that is
 
-either-known : (s t : Verdict) → is_unknown s ≡ false → is_unknown t ≡ false → is_unknown (either s t) ≡ false
-either-known Yes t p q = refl
-either-known No t p q = q
-either-known Unknown t p q = absurd (cc)
+pub either_known : (s t : Verdict) → is_unknown s ≡ false → is_unknown t ≡ false → is_unknown (either s t) ≡ false
+either_known Yes t p q = refl
+either_known No t p q = q
+either_known Unknown t p q = absurd (cc)
 
-both-known : (s t : Verdict) → is_unknown s ≡ false → is_unknown t ≡ false → is_unknown (both s t) ≡ false
-both-known Yes t p q = q
-both-known No t p q = refl
-both-known Unknown t p q = absurd (cc)
+pub both_known : (s t : Verdict) → is_unknown s ≡ false → is_unknown t ≡ false → is_unknown (both s t) ≡ false
+both_known Yes t p q = q
+both_known No t p q = refl
+both_known Unknown t p q = absurd (cc)
 
 abbrev IsKnown : (Clause → Verdict) → Clause → Type 0
 IsKnown truth clause = is_unknown (truth clause) ≡ false
@@ -46,7 +48,7 @@ IsKnown truth clause = is_unknown (truth clause) ≡ false
 group-known : (truth : Clause → Verdict) (group : List Clause) → AllByRecursion (IsKnown truth) group
     → is_unknown (some_holds (map truth group)) ≡ false
 group-known truth [] all = refl
-group-known truth (c ∷ group) all = either-known (truth c) (some_holds (map truth group)) all.0
+group-known truth (c ∷ group) all = either_known (truth c) (some_holds (map truth group)) all.0
     (group-known truth group all.1)
 
 groups-known : (truth : Clause → Verdict) (groups : List (List Clause))
@@ -54,7 +56,7 @@ groups-known : (truth : Clause → Verdict) (groups : List (List Clause))
     → is_unknown (all_hold (map (λ group. some_holds (map truth group)) groups)) ≡ false
 groups-known truth [] all = refl
 groups-known truth (group ∷ groups) all =
-    both-known (some_holds (map truth group)) (all_hold (map (λ g. some_holds (map truth g)) groups))
+    both_known (some_holds (map truth group)) (all_hold (map (λ g. some_holds (map truth g)) groups))
     (group-known truth group all.0) (groups-known truth groups all.1)
 
 rule-known : (truth : Clause → Verdict) (rule : Rule)

@@ -35,6 +35,7 @@ use Rattle.hyd_spec_reports.specs.Stops.{EarlierHaveCertificates, beginning, IsT
 use Rattle.hyd_spec_reports.specs.Stops.{Stops}
 use Rattle.hyd_theorems_on_definitions.specs.TermsOfTheorems.{IsSteady}
 use Rattle.hyd_lemmas.proofs.Trials.{nat-lt-no}
+use Rattle.hyd_lemmas.proofs.ListsOptionsAndResults.{as_long}
 use Rattle.hyd_theorems_on_definitions.proofs.Comparison.{place_long}
 use Rattle.hyd_theorems_on_definitions.proofs.OneLength.{ends_again}
 use Rattle.hyd_theorems_on_definitions.proofs.OneStanding.{there}
@@ -44,7 +45,7 @@ use Rattle.hyd_theorems_on_histories.specs.Agreement.{IsKept}
 use Rattle.hyd_theorems_on_histories.proofs.Watching.{contains-here, contains-later}
 use Rattle.hyd_theorems_on_nesting.specs.Nesting.{IsReason, LeadsSomewhere, IsStopped}
 use Rattle.hyd_theorems_on_nesting.proofs.Placed.{IsFound, HasNone, find_or_none, all_contained}
-use Rattle.hyd_theorems_on_nesting.proofs.Holding.{steady_at, long-numbered}
+use Rattle.hyd_theorems_on_nesting.proofs.Holding.{steady_at}
 use Rattle.hyd_theorems_on_nesting.proofs.Gridding.{grid_is}
 use Rattle.hyd_theorems_on_nesting.proofs.Ending.{some_end}
 
@@ -326,7 +327,7 @@ module _ (project : Project) (sound : Sound project) (standing : Standing) (kept
 
           levels-long : length levels ≡ tank_count project
           levels-long =
-              long-numbered Tank Interval
+              as_long {X = Tank} {Y = Interval}
               (λ k tank. (stocks_next project grid standing (tight-row seconds) seconds k tank).level)
               0 project.tanks.list
 
@@ -337,7 +338,7 @@ module _ (project : Project) (sound : Sound project) (standing : Standing) (kept
           open-tank found =
               let inside = slice_get_within (open_states project levels) found.place found.item found.is_item in
               let long : length (open_states project levels) ≡ tank_count project =
-              long-numbered Tank Bool Opens 0 project.tanks.list in
+              as_long {X = Tank} {Y = Bool} Opens 0 project.tanks.list in
               let level = there Interval levels found.place (let l = levels-long in omega (arith, inside, long, l)) in
               stop (TankOpen standing.number found.place level.item.lo level.item.hi) tt (record {
                 period_is = refl;

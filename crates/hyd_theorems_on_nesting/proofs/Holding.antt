@@ -26,6 +26,7 @@ use Rattle.hyd_spec_certificates.specs.Valid.{by_rules as left_by_rules, by_cloc
 use Rattle.hyd_spec_certificates.specs.Valid.{ControlsAreDecided, stocks_next, levels_next, volumes_next}
 use Rattle.hyd_theorems_on_definitions.specs.TermsOfTheorems.{IsInside, IsSoundDemand, IsSteady}
 use Rattle.hyd_lemmas.proofs.Trials.{le-no}
+use Rattle.hyd_lemmas.proofs.ListsOptionsAndResults.{as_long}
 use Rattle.hyd_theorems_on_definitions.proofs.Grids.{IsSoundGrid-made}
 use Rattle.hyd_theorems_on_definitions.proofs.Levelling.{state_nests}
 use Rattle.hyd_theorems_on_definitions.proofs.Deciding.{control_tells}
@@ -72,10 +73,6 @@ demands-sound project time (x ∷ xs) (y ∷ ys) all =
     (demand-sound project (demand_of project time x) y.demand all.0.demand, demands-sound project time xs ys all.1)
 
 -- ---- lists
-
-pub long-numbered : (X Y : Type 0) (f : ℕ → X → Y) (from : ℕ) (xs : List X) → length (map_from f from xs) ≡ length xs
-long-numbered X Y f from [] = refl
-long-numbered X Y f from (x ∷ xs) = let r = long-numbered X Y f (suc from) xs in omega (arith, r)
 
 long-mapped : (X Y : Type 0) (f : X → Y) (xs : List X) → length (map f xs) ≡ length xs
 long-mapped X Y f [] = refl
@@ -176,9 +173,9 @@ module _ (project : Project) (sound : Sound project) where
 
     pub tidy_next : Continues project grid standing row next → IsTidy project next
     tidy_next c = record {
-      levels_each = ap length c.levels ∙ long-numbered Tank Interval
+      levels_each = ap length c.levels ∙ as_long {X = Tank} {Y = Interval}
           (λ k tank. (stocks_next project grid standing row row.length k tank).level) 0 project.tanks.list;
-      volumes_each = ap length c.volumes ∙ long-numbered Tank Interval
+      volumes_each = ap length c.volumes ∙ as_long {X = Tank} {Y = Interval}
           (λ k tank. (stocks_next project grid standing row row.length k tank).volume) 0 project.tanks.list;
       tanks_each = decided-long (λ k tank. state_of tank (slice_index_or next.levels k nowhere))
           0 project.tanks.list next.tanks c.tanks;

@@ -14,7 +14,9 @@ use Rattle.hyd_spec_certificates.specs.Interval.{Interval}
 use Rattle.hyd_spec.specs.Tank.{walls_of}
 use Rattle.hyd_spec.specs.Rules.{groups_of, rule_changes, acted}
 use Rattle.hyd_spec_certificates.specs.Stocks.{carried_levels}
-use Rattle.hyd_spec_certificates.specs.ThreeValuedLogic.{Verdict, Yes, No, Unknown, at_both_ends, is_yes, is_unknown}
+use Rattle.hyd_spec_certificates.specs.declared.Verdict.{Verdict}
+use Rattle.hyd_spec_certificates.specs.declared.Verdict.TheVariants.{Yes, No, Unknown}
+use Rattle.hyd_spec_certificates.specs.ThreeValuedLogic.{at_both_ends, is_yes, is_unknown}
 use Rattle.hyd_spec_certificates.specs.ThreeValuedLogic.{either, both, some_holds, all_hold}
 use Rattle.hyd_spec_certificates.specs.PeriodNetwork.{Grid, GridLink}
 use Rattle.hyd_spec_certificates.specs.FlowIntervals.{flow_box}

@@ -28,7 +28,7 @@ use Rattle.hyd_spec_reports.specs.ReportLine.{ReportLine}
 use Rattle.hyd_spec_reports.specs.Report.{Prints, is_report_time, LineEach, IsJunctionLine, IsReservoirLine, IsTankLine}
 use Rattle.hyd_spec_reports.specs.Report.{IsLinkLine, AreStateLines, events_of, EndBrings, at_end, by_rules, by_clock}
 use Rattle.hyd_spec_reports.specs.Report.{IsReport}
-use Rattle.hyd_lemmas.proofs.Quantities.{flow_above, head_above, pressure_above}
+use Rattle.hyd_lemmas.proofs.DenominatorsAboveZero.{flow_above, head_above, pressure_above}
 use Rattle.hyd_theorems_on_definitions.proofs.OneStanding.{there}
 use Rattle.hyd_theorems_on_histories.specs.Agreement.{IsOwnState, IsKept}
 use Rattle.hyd_theorems_on_histories.proofs.Commanding.{started_own}

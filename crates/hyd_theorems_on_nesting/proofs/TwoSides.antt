@@ -10,8 +10,9 @@ use Rattle.hyd_spec_certificates.specs.Certificate.{IsCertificate}
 use Rattle.hyd_theorems_on_definitions.specs.TermsOfTheorems.{IsSteady}
 use Rattle.hyd_num.proofs.Integers.{one_times}
 use Rattle.hyd_theorems_on_definitions.proofs.NetRising.{low-rises, high-rises, IsTop, net-rises, net-ordered}
-use Rattle.hyd_theorems_on_definitions.proofs.NetRising.{outflow-rises, demand-at, item-at}
+use Rattle.hyd_theorems_on_definitions.proofs.NetRising.{outflow-rises, demand-at}
 use Rattle.hyd_theorems_on_definitions.proofs.Nodes.{excess, excess_after, head_front, IsGreatestBelow, greatest_below}
+use Rattle.hyd_lemmas.proofs.ListsOptionsAndResults.{item_there}
 
 -- ---- the comparison
 
@@ -25,7 +26,7 @@ module _ (grid : Grid) (steady : IsSteady grid) (p q : Problem) (u v : List ℤ)
   none-there i best ge =
       let inside : i < length grid.junctions = (let a = below.one_each in let b = best.below in omega (arith, a, b)) in
       let long-u : i < length u = (let a = above.one_each in omega (arith, inside, a)) in
-      let here = item-at grid.junctions i inside in
+      let here = item_there grid.junctions i inside in
       let top : IsTop (all_heads grid q Lower v) (all_heads grid p Upper u) i = (λ m.
       let e = excess_after 1 v u (fixed_heads grid q Lower) (fixed_heads grid p Upper) (excess 1 v u i) same-long
       (λ k. let f = fixed k in omega (arith, ints, f, ge)) m (λ lt. best.each m lt) in

@@ -39,8 +39,8 @@ first_after time r some is k later tried = elim (cases_lt k (r - time % r)) [
 ]
 
 -- the time less what it is past a multiple, and a step more, is a multiple
-next-multiple : (n r : ℕ) → 1 ≤ r → (n + (r - n % r)) % r ≡ 0
-next-multiple n r some =
+pub first_multiple : (n r : ℕ) → 1 ≤ r → (n + (r - n % r)) % r ≡ 0
+first_multiple n r some =
     let a = div-add-mod' n r in
     let b : n % r < r = mod-lt n some in
     let e : n + (r - n % r) ≡ ((n / r) + 1) * r = omega (arith, a, b) in
@@ -61,16 +61,11 @@ module _ (project : Project) (grid : Grid) (standing : Standing) (row : Record) 
         ];
   }
 
-  -- the first multiple of the rule step after the start
-  first-multiple : 1 ≤ project.times.rule → (standing.time + (project.times.rule - standing.time % project.times.rule))
-      % project.times.rule ≡ 0
-  first-multiple some = next-multiple standing.time project.times.rule some
-
   pub walk_begins : 1 ≤ project.times.rule
       → IsWalked project grid standing row (project.times.rule - standing.time % project.times.rule)
   walk_begins some = record {
-    none_before = λ k matters. first_after standing.time project.times.rule some (first-multiple some)
-        k matters.tried.later matters.tried.is_multiple;
+    none_before = λ k matters. first_after standing.time project.times.rule some
+        (first_multiple standing.time project.times.rule some) k matters.tried.later matters.tried.is_multiple;
   }
 
   pub found : (current : ℕ) → RulesMatter project grid standing row current → IsWalked project grid standing row current

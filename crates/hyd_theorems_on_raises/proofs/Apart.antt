@@ -19,8 +19,8 @@ use Rattle.hyd_spec_certificates.specs.NetOutflow.{net, outflow_low, outflow_hig
 use Rattle.hyd_spec_certificates.specs.Certificate.{IsInBox, Passes, Suits, IsCertificateHolding, IsRoundHolding}
 use Rattle.hyd_theorems_on_definitions.proofs.Nodes.{head_front}
 use Rattle.hyd_spec_certificates.specs.SearchSteps.{JoinsNone}
-use Rattle.hyd_theorems_on_definitions.proofs.NetRising.{item-at}
 use Rattle.hyd_theorems_on_raises.proofs.Raising.{set-here}
+use Rattle.hyd_lemmas.proofs.ListsOptionsAndResults.{item_there}
 
 past-same : (xs ys fixed : List ℤ) (m : ℕ) → length xs ≡ length ys → length xs ≤ m → head_at
     (xs ++ fixed) m ≡ head_at (ys ++ fixed) m
@@ -90,7 +90,7 @@ module _ (held : Option HeldJunction) (grid : Grid) (problem : Problem) (side : 
     one_each = round.one_each ∙ long;
     in_box = λ k d lt.
         let l = round.one_each in
-        let at = item-at grid.junctions k (omega (arith, lt, l, long)) in
+        let at = item_there grid.junctions k (omega (arith, lt, l, long)) in
         subst IsInBox (get_or_default v k (pos 0) d lt) (round.raised k at.0 at.1).is_candidate.in_box;
     passes = λ i junction at. by i junction (inside i junction at) held
         (round.raised i junction at).is_candidate.passes;

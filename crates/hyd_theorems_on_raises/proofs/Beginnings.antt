@@ -22,31 +22,28 @@ use Rattle.hyd_spec_certificates.specs.Certificate.{box_limit, IsInBox, Passes, 
 use Rattle.hyd_spec_certificates.specs.Certificate.{IsCertificateHolding}
 use Rattle.hyd_theorems_on_definitions.proofs.Nodes.{head_front, IsGreatestBelow, greatest_below}
 use Rattle.hyd_theorems_on_definitions.specs.TermsOfTheorems.{IsSteady}
-use Rattle.hyd_theorems_on_definitions.proofs.NetRising.{item-at, IsTop, net-rises, low-rises, high-rises, net-ordered}
+use Rattle.hyd_theorems_on_definitions.proofs.NetRising.{IsTop, net-rises, low-rises, high-rises, net-ordered}
 use Rattle.hyd_theorems_on_definitions.proofs.NetRising.{outflow-rises}
 use Rattle.hyd_theorems_on_definitions.proofs.NetRising.{demand-at}
 use Rattle.hyd_spec_certificates.specs.SearchSteps.{LiesBeyond, IsStart, IsOrderedHolding}
-use Rattle.hyd_theorems_on_definitions.specs.Sides.{along}
+use Rattle.hyd_theorems_on_definitions.specs.Sides.{along, near_end}
 use Rattle.hyd_theorems_on_raises.proofs.Leading.{beyond-is, is-beyond, lead, suits-nearer}
 use Rattle.hyd_theorems_on_raises.proofs.Raising.{beyond-self, by-beyond, set-here, set-there, set-one, set-in-box}
 use Rattle.hyd_theorems_on_raises.proofs.Raising.{along-floor}
 use Rattle.hyd_theorems_on_raises.proofs.Sweeping.{vector-self}
+use Rattle.hyd_lemmas.proofs.ListsOptionsAndResults.{item_there}
 
 -- ---- the near end of the box
 
-abbrev end-of : Side → ℤ
-end-of Upper = neg_ℤ (pos box_limit)
-end-of Lower = pos box_limit
-
-beginning-is : (side : Side) (n : ℕ) → beginning side n ≡ replicate n (end-of side)
+pub beginning-is : (side : Side) (n : ℕ) → beginning side n ≡ replicate n (near_end side)
 beginning-is Upper n = refl
 beginning-is Lower n = refl
 
-end-in-box : (side : Side) → IsInBox (end-of side)
+end-in-box : (side : Side) → IsInBox (near_end side)
 end-in-box Upper = record { above_floor = omega (arith, ints); below_ceiling = omega (arith, ints) }
 end-in-box Lower = record { above_floor = omega (arith, ints); below_ceiling = omega (arith, ints) }
 
-along-begin : (side : Side) → along side (end-of side) ≡ pos 0 -ℤ pos box_limit
+along-begin : (side : Side) → along side (near_end side) ≡ pos 0 -ℤ pos box_limit
 along-begin Upper = omega (arith, ints)
 along-begin Lower = omega (arith, ints)
 
@@ -63,16 +60,17 @@ pub start-end : (held : Option HeldJunction) (grid : Grid) (problem : Problem) (
     → IsStart held grid problem side (beginning side (length grid.junctions))
 start-end held grid problem side = subst (λ (u : List ℤ). IsStart held grid problem side u)
     (sym (beginning-is side (length grid.junctions))) (record {
-      one_each = long-replicated (length grid.junctions) (end-of side);
-      in_box = λ k d lt. (let l = long-replicated (length grid.junctions) (end-of side) in subst IsInBox
-          (sym (replicated (length grid.junctions) k (end-of side) d (omega (arith, lt, l)))) (end-in-box side));
+      one_each = long-replicated (length grid.junctions) (near_end side);
+      in_box = λ k d lt. (let l = long-replicated (length grid.junctions) (near_end side) in subst IsInBox
+          (sym (replicated (length grid.junctions) k (near_end side) d (omega (arith, lt, l)))) (end-in-box side));
       nearer = λ w certificate m lt.
-          let l = long-replicated (length grid.junctions) (end-of side) in
+          let l = long-replicated (length grid.junctions) (near_end side) in
           let c = certificate.one_each in
           let a = along-floor side (head_at w m) (certificate.in_box m (pos 0) (omega (arith, lt, l, c))) in
           let b = along-begin side in
-          let e = ap (along side) (replicated (length grid.junctions) m (end-of side) (pos 0) (omega (arith, lt, l))) in
-          is-beyond side (head_at (replicate (length grid.junctions) (end-of side)) m) (head_at w m)
+          let e = ap (along side)
+          (replicated (length grid.junctions) m (near_end side) (pos 0) (omega (arith, lt, l))) in
+          is-beyond side (head_at (replicate (length grid.junctions) (near_end side)) m) (head_at w m)
           (omega (arith, ints, a, b, e));
     })
 
@@ -100,7 +98,7 @@ start-held grid problem side a h u start inside in_box = record {
   in_box = set-in-box u a h in_box start.in_box;
   nearer = λ w certificate.
       let l = start.one_each in
-      let at = item-at grid.junctions a (omega (arith, inside, l)) in
+      let at = item_there grid.junctions a (omega (arith, inside, l)) in
       set-one side u w a h inside (subst (λ (y : ℤ). IsBeyond side h y)
       (sym (held-head grid problem side a h w at.0 certificate at.1)) (beyond-self side h))
       (start.nearer w certificate);
@@ -180,7 +178,7 @@ module _ (grid : Grid) (steady : IsSteady grid) where
         let inside = best.below in
         let same : length v ≡ length u = other.one_each ∙ sym own.one_each in
         let long = other.one_each in
-        let at = item-at grid.junctions i (omega (arith, inside, long)) in
+        let at = item_there grid.junctions i (omega (arith, inside, long)) in
         let all : (m : ℕ) → lead side (all_heads grid q (opposite side) v)
         (all_heads grid p side u) m ≤ℤ lead side v u i =
         lead-both side v u (fixed_heads grid q (opposite side)) (fixed_heads grid p side) (lead side v u i) same

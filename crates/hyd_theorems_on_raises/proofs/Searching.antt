@@ -4,13 +4,10 @@ use Rattle.std.specs.Prelude.{Some, slice_get}
 use Rattle.std.proofs.lemmas.Bool.{cases_eq}
 use Rattle.hyd_spec.specs.Lists.{Each}
 use Rattle.hyd_spec.specs.Assignment.{head_at}
-use Rattle.hyd_lemmas.proofs.ListsAndOptions.{same_item}
+use Rattle.hyd_spec.specs.PeriodLength.{IsLeast}
+use Rattle.hyd_lemmas.proofs.ListsOptionsAndResults.{same_item}
 
-pub record IsFirst (P : ℕ → Type 0) (k : ℕ) : Type 0 where
-  pub holds : P k
-  pub least : (m : ℕ) → P m → k ≤ m
-
-pub first-below : (P : ℕ → Type 0) → ((k : ℕ) → P k ⊎ (P k → ⊥)) → (n : ℕ) → ((k : ℕ) × IsFirst P k) ⊎
+pub first-below : (P : ℕ → Type 0) → ((k : ℕ) → P k ⊎ (P k → ⊥)) → (n : ℕ) → ((k : ℕ) × IsLeast P k) ⊎
     ((m : ℕ) → m < n → P m → ⊥)
 first-below P decide zero = inr (λ m lt is. absurd (omega (arith, lt)))
 first-below P decide (suc n) = elim (first-below P decide n) [

@@ -15,13 +15,13 @@ use Rattle.hyd_theorems_on_definitions.proofs.Nodes.{greatest_below}
 use Rattle.hyd_theorems_on_definitions.specs.TermsOfTheorems.{IsSteady}
 use Rattle.hyd_spec_certificates.specs.SearchSteps.{LiesBeyond, IsStart, IsLeap, Climbs, done, raised, leapt, HasParts}
 use Rattle.hyd_spec_certificates.specs.SearchSteps.{no_more, part, HasRounds}
-use Rattle.hyd_theorems_on_definitions.proofs.NetRising.{item-at}
 use Rattle.hyd_theorems_on_definitions.specs.Sides.{along}
 use Rattle.hyd_theorems_on_raises.proofs.Leading.{beyond-is, lead, fails-leading, suits-nearer}
 use Rattle.hyd_theorems_on_raises.proofs.Searching.{choose}
 use Rattle.hyd_theorems_on_raises.proofs.Raising.{beyond-trans, beyond-self, along-one, by-beyond, set-here, set-on}
 use Rattle.hyd_theorems_on_raises.proofs.Raising.{raise-or-none, one-raise, candidate-of, candidate-nearer, inside-of}
 use Rattle.hyd_theorems_on_raises.proofs.Raising.{start-raised}
+use Rattle.hyd_lemmas.proofs.ListsOptionsAndResults.{item_there}
 
 -- ---- vectors
 
@@ -69,7 +69,7 @@ module _ (held : Option HeldJunction) (grid : Grid) (steady : IsSteady grid) (pr
           let most = best.each m lt in
           let inside = best.below in
           let long = leap.one_each in let other = start.one_each in
-          let at = item-at grid.junctions i (omega (arith, inside, long, other)) in
+          let at = item_there grid.junctions i (omega (arith, inside, long, other)) in
           let near = beyond-is side (head_at u i) (head_at w i)
           (start.nearer w certificate i (omega (arith, inside, long))) in
           elim (leap.fails i at.0 at.1) [
@@ -182,7 +182,7 @@ module _ (held : Option HeldJunction) (grid : Grid) (steady : IsSteady grid) (pr
             raised = λ i junction at.
                 (chosen.are i junction at).0;
           },
-          λ m lt. (let l = chosen.one_each in let at = item-at grid.junctions m (omega (arith, lt, l)) in
+          λ m lt. (let l = chosen.one_each in let at = item_there grid.junctions m (omega (arith, lt, l)) in
               (chosen.are m at.0 at.1).1),
         ),
       )
@@ -344,7 +344,7 @@ module _ (held : Option HeldJunction) (grid : Grid) (steady : IsSteady grid) (pr
   one-round-only u v w long a b =
       let l = a.one_each in let m = b.one_each in
       let same = λ (k : ℕ) (lt : k < length v).
-      let at = item-at grid.junctions k (omega (arith, lt, l, long)) in
+      let at = item_there grid.junctions k (omega (arith, lt, l, long)) in
       one-raise held grid steady problem side u k at.0 (head_at v k) (head_at w k) (a.raised k at.0 at.1)
       (b.raised k at.0 at.1) in
       one-vector side v w (l ∙ sym m)
@@ -422,7 +422,7 @@ module _ (held : Option HeldJunction) (grid : Grid) (steady : IsSteady grid) (pr
       let whole = so-far-whole (λ m. Unit {0}) u x (record {
         one_each = long;
         other_each = round.one_each ∙ other;
-        ahead = (λ m lt. (let at = item-at grid.junctions m (omega (arith, lt, long)) in
+        ahead = (λ m lt. (let at = item_there grid.junctions m (omega (arith, lt, long)) in
             beyond-trans side (head_at u m) (head_at v m) (head_at x m) (beyond m lt)
             (round.raised m at.0 at.1).is_candidate.beyond));
         raises = λ i junction at named. raised-nearer u v i junction (head_at x i) (long ∙ sym other)
@@ -436,11 +436,11 @@ module _ (held : Option HeldJunction) (grid : Grid) (steady : IsSteady grid) (pr
       → IsStart held grid problem side v
   start-round u v start round = record {
     one_each = round.one_each ∙ start.one_each;
-    in_box = λ k d lt. (let l = round.one_each in let s = start.one_each in let at = item-at grid.junctions k
+    in_box = λ k d lt. (let l = round.one_each in let s = start.one_each in let at = item_there grid.junctions k
         (omega (arith, lt, l, s)) in
         subst IsInBox (get_or_default v k (pos 0) d lt) (round.raised k at.0 at.1).is_candidate.in_box);
     nearer = λ w certificate m lt. (let l = round.one_each in let s = start.one_each in let at =
-        item-at grid.junctions m (omega (arith, lt, l, s)) in
+        item_there grid.junctions m (omega (arith, lt, l, s)) in
         (round.raised m at.0 at.1).nearest (head_at w m)
         (candidate-of held grid steady problem side u w m at.0 (s ∙ sym certificate.one_each) (omega (arith, lt, l))
         (start.nearer w certificate) at.1 certificate));

@@ -11,7 +11,8 @@ use Rattle.hyd_spec_certificates.specs.Interval.{Interval}
 use Rattle.hyd_spec_certificates.specs.PeriodNetwork.{Grid}
 use Rattle.hyd_spec_certificates.specs.RecordAndStanding.{Record, Standing}
 use Rattle.hyd_spec_certificates.specs.Stocks.{Stocks, may_reach, must_reach}
-use Rattle.hyd_spec_certificates.specs.ThreeValuedLogic.{Verdict, is_unknown}
+use Rattle.hyd_spec_certificates.specs.declared.Verdict.{Verdict}
+use Rattle.hyd_spec_certificates.specs.ThreeValuedLogic.{is_unknown}
 use Rattle.hyd_spec_certificates.specs.Decided.{stocks_of_tank, inflow_of_tank, SomeReaches, IsClockLength}
 use Rattle.hyd_spec_certificates.specs.Decided.{IsEarliestEnd, IsLatestEnd, rule_truths, decided_changes, IsTried}
 use Rattle.hyd_spec_certificates.specs.Decided.{RulesMatter, IsFirstMatter, NoRuleMatters, EndsBy, ByRules}

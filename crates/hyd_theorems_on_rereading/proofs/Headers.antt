@@ -2,8 +2,8 @@
 -- what the comparison of projects looks at.
 use Rattle.std.proofs.Common.{◌≡◌, ℕ, Bool, List, [], ◌∷◌, map, sym, ap, ap₂, refl, ◌∙◌, subst}
 use Rattle.std.proofs.lemmas.List.{length-map}
-use Rattle.hyd_net.specs.ProjectAsCompared.{plain_junction, plain_rule, plain_project}
-use Rattle.hyd_net.specs.ProjectAsCompared.{plain_pattern, bare_list}
+use Rattle.hyd_net.specs.ProjectAsCompared.{compared_junction, compared_rule, compared_project}
+use Rattle.hyd_net.specs.ProjectAsCompared.{compared_pattern, bare_list}
 use Rattle.hyd_spec.specs.ProgramTypes.{Project}
 use Rattle.hyd_spec.specs.NodeNumbers.{junction_count, tank_count}
 use Rattle.hyd_spec_certificates.specs.RecordAndStanding.{Record}
@@ -41,14 +41,14 @@ twice : {X : Type 0} (f g : X → X) → ((x : X) → f x ≡ f (g x)) → (xs :
 twice f g each [] = refl
 twice f g each (x ∷ xs) = ap₂ (λ v vs. v ∷ vs) (each x) (twice f g each xs)
 
-plain_of_bare : (p : Project) → plain_project p ≡ plain_project (bare_project p)
-plain_of_bare p =
-    let junctions = twice plain_junction bare_junction (λ j. refl) p.junctions.list in
-    let patterns = twice plain_pattern plain_pattern (λ j. refl) p.patterns.list in
+compared_of_bare : (p : Project) → compared_project p ≡ compared_project (bare_project p)
+compared_of_bare p =
+    let junctions = twice compared_junction bare_junction (λ j. refl) p.junctions.list in
+    let patterns = twice compared_pattern compared_pattern (λ j. refl) p.patterns.list in
     let shapes = twice bare_list bare_list (λ j. refl) p.shapes.list in
     let bends = twice bare_list bare_list (λ j. refl) p.bends.list in
-    let rules = twice plain_rule bare_rule (λ j. refl) p.rules.list in
-    λ i. record (plain_project p) {
+    let rules = twice compared_rule bare_rule (λ j. refl) p.rules.list in
+    λ i. record (compared_project p) {
       junctions = record { list = junctions i; spare = 0 };
       patterns = record { list = patterns i; spare = 0 };
       shapes = record { list = shapes i; spare = 0 };
@@ -56,5 +56,5 @@ plain_of_bare p =
       rules = record { list = rules i; spare = 0 };
     }
 
-pub plain : (p q : Project) → bare_project p ≡ bare_project q → plain_project p ≡ plain_project q
-plain p q same = plain_of_bare p ∙ (ap plain_project same ∙ sym (plain_of_bare q))
+pub same_compared : (p q : Project) → bare_project p ≡ bare_project q → compared_project p ≡ compared_project q
+same_compared p q same = compared_of_bare p ∙ (ap compared_project same ∙ sym (compared_of_bare q))

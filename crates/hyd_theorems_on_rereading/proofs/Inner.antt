@@ -5,7 +5,7 @@ use Rattle.std.specs.Prelude.{slice_get}
 use Rattle.std.specs.Option.{option_map_or}
 use Rattle.std.specs.List.{AllZip}
 use Rattle.hyd_net.specs.ListView.{ListView}
-use Rattle.hyd_net.specs.ProjectAsCompared.{bare_list, plain_pattern}
+use Rattle.hyd_net.specs.ProjectAsCompared.{bare_list, compared_pattern}
 use Rattle.hyd_spec.specs.ProgramTypes.{Project, Junction, Pattern, VolumePoint, HeadPoint, Rule}
 use Rattle.hyd_spec.specs.DemandsReservoirHeadsAndCurves.{points_of}
 use Rattle.hyd_theorems_on_rereading.specs.WithoutSpare.{bare_junction, bare_rule}
@@ -61,7 +61,7 @@ own_inner p = record {
 abbrev pub bare_inner : Project → Inner
 bare_inner p = record {
   junctions = record { list = map bare_junction p.junctions.list; spare = 0 };
-  patterns = record { list = map plain_pattern p.patterns.list; spare = 0 };
+  patterns = record { list = map compared_pattern p.patterns.list; spare = 0 };
   shapes = record { list = map bare_list p.shapes.list; spare = 0 };
   bends = record { list = map bare_list p.bends.list; spare = 0 };
   rules = record { list = map bare_rule p.rules.list; spare = 0 };
@@ -149,7 +149,7 @@ pub bare_alike : (p : Project) → AreAlike (own_inner p) (bare_inner p)
 bare_alike p = record {
   junctions = zip_image IsLikeJunction bare_junction
       (λ a. record { elevation = refl; demands = refl; emitter = refl }) p.junctions.list;
-  multipliers = read_image (λ (q : Pattern). q.multipliers.list) plain_pattern (λ a. refl) p.patterns.list;
+  multipliers = read_image (λ (q : Pattern). q.multipliers.list) compared_pattern (λ a. refl) p.patterns.list;
   shapes = read_image (λ (v : ListView VolumePoint). v.list) bare_list (λ a. refl) p.shapes.list;
   bends = read_image (λ (v : ListView HeadPoint). v.list) bare_list (λ a. refl) p.bends.list;
   rules = zip_image IsLikeRule bare_rule

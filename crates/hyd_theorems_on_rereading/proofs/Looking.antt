@@ -13,7 +13,8 @@ use Rattle.hyd_spec_certificates.specs.PeriodNetwork.{Grid}
 use Rattle.hyd_spec_certificates.specs.FlowIntervals.{inflow_box}
 use Rattle.hyd_spec_certificates.specs.RecordAndStanding.{Record, Vectors, Standing}
 use Rattle.hyd_spec_certificates.specs.Stocks.{Stocks, carried_levels, next_stocks}
-use Rattle.hyd_spec_certificates.specs.ThreeValuedLogic.{Verdict, is_yes}
+use Rattle.hyd_spec_certificates.specs.declared.Verdict.{Verdict}
+use Rattle.hyd_spec_certificates.specs.ThreeValuedLogic.{is_yes}
 use Rattle.hyd_spec_certificates.specs.Decided.{flow_boxes, heads_below, heads_above, inflow_boxes, nowhere}
 use Rattle.hyd_spec_certificates.specs.Decided.{stocks_of_tank, inflow_of_tank, links_at, least_magnitude}
 use Rattle.hyd_spec_certificates.specs.Decided.{greatest_magnitude, carried_at, readings_below, readings_above}

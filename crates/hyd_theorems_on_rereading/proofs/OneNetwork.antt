@@ -16,7 +16,7 @@ use Rattle.hyd_spec_lines.specs.declared.section.Section.TheVariants.{Junctions,
 use Rattle.hyd_spec_lines.specs.declared.section.Section.TheVariants.{Controls, Rules}
 use Rattle.hyd_net.proofs.Equal.{Decimal-equal}
 use Rattle.hyd_net.specs.RoundedFileNumbers.{IsAmount}
-use Rattle.hyd_net.specs.ProjectAsCompared.{bare_list, plain_pattern}
+use Rattle.hyd_net.specs.ProjectAsCompared.{bare_list, compared_pattern}
 use Rattle.hyd_net.specs.declared.nodes.Junction.{Junction}
 use Rattle.hyd_net.specs.declared.nodes.Tank.{Tank}
 use Rattle.hyd_net.specs.declared.links.Link.{Link}
@@ -50,7 +50,7 @@ use Rattle.hyd_spec_input.specs.Project.{IsThrottle, IsNumberState, IsState, IsS
 use Rattle.hyd_spec_input.specs.Project.{IsLink, IsValue, IsClauseAt, IsClause, IsAction, numbered_links, shape_points}
 use Rattle.hyd_spec_input.specs.Project.{bend_points, IsProject}
 use Rattle.hyd_spec_input.specs.declared.Attribute.TheVariants as attribute
-use Rattle.hyd_lemmas.proofs.ListsAndOptions.{same_some}
+use Rattle.hyd_lemmas.proofs.ListsOptionsAndResults.{same_some}
 use Rattle.hyd_theorems_on_input.proofs.OneProject.{one_where, one_shutoff_head, one_pattern, one_options}
 use Rattle.hyd_theorems_on_input.proofs.OneProject.{one_reservoir, one_times, one_when, one_what, one_area, one_amount}
 use Rattle.hyd_theorems_on_input.proofs.OneProject.{shutoff_by, never_both, not_above}
@@ -369,7 +369,7 @@ one_network rows p q f g =
     (one_tank rows) f.tanks g.tanks in
     let links = one_list (IsLink rows) (numbered_links rows) p.links.list q.links.list (one_link rows)
     f.links g.links in
-    let patterns = one_image (project_of.IsPattern rows) plain_pattern (pattern_ids rows) p.patterns.list
+    let patterns = one_image (project_of.IsPattern rows) compared_pattern (pattern_ids rows) p.patterns.list
     q.patterns.list (one_pattern rows) f.patterns g.patterns in
     let shapes = one_image (λ name list. list.list ≡ shape_points rows name) bare_list (shape_names rows)
     p.shapes.list q.shapes.list (λ name a b x y. ap (λ xs. record { list = xs; spare = 0 }) (x ∙ sym y)) f.shapes

@@ -1,6 +1,6 @@
 -- A project without the spare of its lists. Two readings of one text differ in nothing else.
 -- Source: this program's.
-use Rattle.hyd_net.specs.ProjectAsCompared.{bare_list, plain_list, plain_pattern}
+use Rattle.hyd_net.specs.ProjectAsCompared.{bare_list, compared_list, compared_pattern}
 use Rattle.hyd_spec.specs.ProgramTypes.{Project, Junction, Rule}
 
 -- a junction whose list of demands has no spare
@@ -25,13 +25,13 @@ bare_project p =
       times = p.times;
       node_ids = p.node_ids;
       link_ids = p.link_ids;
-      junctions = plain_list bare_junction p.junctions;
+      junctions = compared_list bare_junction p.junctions;
       reservoirs = bare_list p.reservoirs;
       tanks = bare_list p.tanks;
       links = bare_list p.links;
-      patterns = plain_list plain_pattern p.patterns;
-      shapes = plain_list bare_list p.shapes;
-      bends = plain_list bare_list p.bends;
+      patterns = compared_list compared_pattern p.patterns;
+      shapes = compared_list bare_list p.shapes;
+      bends = compared_list bare_list p.bends;
       controls = bare_list p.controls;
-      rules = plain_list bare_rule p.rules;
+      rules = compared_list bare_rule p.rules;
     }

@@ -5,7 +5,7 @@
 ghost use Rattle.std.specs.Prelude.{◌≡◌, ℕ, List};
 ghost use Rattle.hyd_spec_lines.specs.Lines.{Row};
 ghost use Rattle.hyd_spec_input.specs.Project.{IsProject};
-ghost use Rattle.hyd_net.specs.ProjectAsCompared.{plain_project};
+ghost use Rattle.hyd_net.specs.ProjectAsCompared.{compared_project};
 ghost use Rattle.hyd_spec.specs.ProgramTypes.{Project};
 ghost use Rattle.hyd_spec.specs.NodeNumbers.{junction_count, tank_count};
 ghost use Rattle.hyd_spec.specs.PeriodLength.{Period};
@@ -27,7 +27,7 @@ pub fn one_network()
 /// Networks that differ in the spare of lists alone are the same as projects are compared, and the header lines of
 /// their certificates say the same.
 pub fn same()
-    ensures compared { (p q : Project) → bare_project p ≡ bare_project q → plain_project p ≡ plain_project q }
+    ensures compared { (p q : Project) → bare_project p ≡ bare_project q → compared_project p ≡ compared_project q }
     ensures version { (p q : Project) → bare_project p ≡ bare_project q → version_of p ≡ version_of q }
     ensures junctions { (p q : Project) → bare_project p ≡ bare_project q → junction_count p ≡ junction_count q }
     ensures tanks { (p q : Project) → bare_project p ≡ bare_project q → tank_count p ≡ tank_count q }

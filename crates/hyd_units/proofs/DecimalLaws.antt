@@ -4,14 +4,14 @@ use Rattle.std.specs.Fmt.{sign_text}
 use Rattle.std.specs.Int.{is_negative}
 use Rattle.hyd_num.specs.Rational.{Rational}
 use Rattle.hyd_num.specs.PrintedDecimals.{IsRoundedDown, IsRoundedUp, decimal_text, fixed_point}
+use Rattle.hyd_num.proofs.Floors.{one_floor, one_ceiling}
 use Rattle.hyd_units.proofs.Digits.{short_four_places}
-use Rattle.hyd_units.proofs.Wholes.{IsFloor-unique, IsCeiling-unique}
 
 pub IsRoundedDown-unique : (x : Rational) (a b : ℤ) → IsRoundedDown x a → IsRoundedDown x b → a ≡ b
-IsRoundedDown-unique x a b f g = IsFloor-unique _ _ a b f g
+IsRoundedDown-unique x a b f g = one_floor _ _ a b f g
 
 pub IsRoundedUp-unique : (x : Rational) (a b : ℤ) → IsRoundedUp x a → IsRoundedUp x b → a ≡ b
-IsRoundedUp-unique x a b f g = IsCeiling-unique _ _ a b f g
+IsRoundedUp-unique x a b f g = one_ceiling _ _ a b f g
 
 short_sign : (negative : Bool) → length (sign_text negative) ≤ 1
 short_sign true = omega arith

@@ -1,11 +1,11 @@
 -- Heads of nodes among the heads of all nodes, with one junction's replaced.
-use Rattle.std.proofs.Common.{◌≡◌, ℕ, zero, suc, ◌<◌, ℤ, refl, ◌∙◌, arith, List, [], ◌∷◌, length}
-use Rattle.std.specs.Prelude.{slice_set, slice_get, Some}
+use Rattle.std.proofs.Common.{◌≡◌, ℕ, ◌<◌, ℤ, ◌∙◌, arith, List, length}
+use Rattle.std.specs.Prelude.{slice_set}
 use Rattle.std.proofs.lemmas.List.{length-set, get_or-set_same, get_or-set_other}
 use Rattle.hyd_spec.specs.Assignment.{head_at}
 use Rattle.hyd_spec_certificates.specs.declared.Problem.{Problem}
 use Rattle.hyd_spec_certificates.specs.declared.Side.{Side}
-use Rattle.hyd_spec_certificates.specs.PeriodNetwork.{Grid, GridJunction, all_heads, fixed_heads}
+use Rattle.hyd_spec_certificates.specs.PeriodNetwork.{Grid, all_heads, fixed_heads}
 use Rattle.hyd_theorems_on_definitions.proofs.Nodes.{head_front}
 use Rattle.std.proofs.Common.{pos}
 
@@ -20,10 +20,3 @@ pub other-head : (grid : Grid) (problem : Problem) (side : Side) (u : List ℤ) 
 other-head grid problem side u i node h ne lt =
     head_front (slice_set u i h) (fixed_heads grid problem side) node (let l = length-set u i h in omega (arith, l, lt))
     ∙ get_or-set_other u i node h (pos 0) ne
-
--- a junction in range is there
-pub junction-there : (xs : List GridJunction) (i : ℕ) → i < length xs
-    → (junction : GridJunction) × (slice_get xs i ≡ Some junction)
-junction-there [] i lt = absurd (omega (arith, lt))
-junction-there (x ∷ xs) zero lt = (x, refl)
-junction-there (x ∷ xs) (suc i) lt = junction-there xs i (omega (arith, lt))

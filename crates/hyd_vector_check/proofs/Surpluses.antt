@@ -8,7 +8,7 @@ use Rattle.hyd_spec_certificates.specs.declared.Side.TheVariants.{Upper, Lower}
 use Rattle.hyd_spec_certificates.specs.PeriodNetwork.{Grid, GridJunction}
 use Rattle.hyd_spec_certificates.specs.NetOutflow.{margin}
 use Rattle.hyd_vector_check.specs.NetOutflowBySide.{net_outflow, surplus, PassesWith}
-use Rattle.hyd_vector_check.proofs.Lookups.{junction-there}
+use Rattle.hyd_lemmas.proofs.ListsOptionsAndResults.{item_there}
 
 -- q is the net outflow of junction i with the head h in place of its own
 abbrev pub IsNetOutflow : Grid → Problem → Side → List ℤ → ℕ → ℤ → ℤ → Type 0
@@ -23,7 +23,7 @@ upper-passes grid problem side u i h q m s is inside flows margin-is beyond = by
     by : (s' : Side) → s' ≡ Upper → IsNetOutflow grid problem s' u i h q → pos 0 ≤ℤ s ↔ PassesWith grid problem s' u i h
     by Upper e are = (
       (λ le junction at. (let f = are junction at in omega (arith, ints, le, f, margin-is, beyond))),
-      (λ passes. (let at = junction-there grid.junctions i inside in let f = are at.0 at.1 in
+      (λ passes. (let at = item_there grid.junctions i inside in let f = are at.0 at.1 in
           let p = passes at.0 at.1 in
           omega (arith, ints, p, f, margin-is, beyond))),
     )
@@ -38,7 +38,7 @@ lower-passes grid problem side u i h q m s is inside flows margin-is beyond = by
     by Upper e are = absurd (cc)
     by Lower e are = (
       (λ le junction at. (let f = are junction at in omega (arith, ints, le, f, margin-is, beyond))),
-      (λ passes. (let at = junction-there grid.junctions i inside in let f = are at.0 at.1 in
+      (λ passes. (let at = item_there grid.junctions i inside in let f = are at.0 at.1 in
           let p = passes at.0 at.1 in
           omega (arith, ints, p, f, margin-is, beyond))),
     )

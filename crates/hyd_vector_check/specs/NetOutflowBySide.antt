@@ -10,6 +10,7 @@ use Rattle.hyd_spec_certificates.specs.EnclosingFunctions.{low, high}
 use Rattle.hyd_spec_certificates.specs.PeriodNetwork.{Grid, GridLink, GridJunction}
 use Rattle.hyd_spec_certificates.specs.NetOutflow.{net, net_low, net_high, outflow_low, outflow_high, margin}
 use Rattle.hyd_spec_certificates.specs.Certificate.{IsInBox, Passes}
+use Rattle.hyd_period_network.specs.NetInvariant.{is_upper}
 
 -- ---- enclosing functions
 
@@ -22,11 +23,6 @@ flow_by false = low
 abbrev pub is_lower : Side → Bool
 is_lower Upper = false
 is_lower Lower = true
-
--- the upper side
-abbrev pub is_upper : Side → Bool
-is_upper Upper = true
-is_upper Lower = false
 
 -- the flows out of a node less those into it: at most for UPPER, at least for LOWER
 abbrev pub flows_out : Side → List ℤ → ℕ → List GridLink → ℤ

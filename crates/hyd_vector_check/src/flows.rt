@@ -11,7 +11,8 @@ ghost use Rattle.hyd_period_network.specs.LawsInSettings.{Stands};
 ghost use Rattle.hyd_period_network.specs.NetAsPeriodNetwork.{grid_of, node_count};
 ghost use Rattle.hyd_period_network.specs.NetInvariant.{HasProblem};
 ghost use Rattle.hyd_period_network.specs.LinkEnds.{IsTie, tie_share};
-ghost use Rattle.hyd_vector_check.specs.NetOutflowBySide.{flow_by, is_lower, is_upper, flows_out};
+ghost use Rattle.hyd_period_network.specs.NetInvariant.{is_upper};
+ghost use Rattle.hyd_vector_check.specs.NetOutflowBySide.{flow_by, is_lower, flows_out};
 
 use crate::heads::{difference, head_with};
 use hyd_law::{Law, LinkLaw};

@@ -1,10 +1,10 @@
 //! Heads of nodes.
 #![tactic(auto)]
 
-ghost use Rattle.std.specs.Prelude.{◌≡◌, ◌<◌, ◌≤◌, ◌*◌, ◌^◌, ◌-ℤ◌, ◌↔◌, length, unsigned_abs, All, IsTrue, slice_set};
+ghost use Rattle.std.specs.Prelude.{◌≡◌, ◌<◌, ◌≤◌, ◌*◌, ◌-ℤ◌, ◌↔◌, length, unsigned_abs, All, IsTrue, slice_set};
 ghost use Rattle.hyd_spec.specs.Assignment.{head_at};
 ghost use Rattle.hyd_spec_certificates.specs.PeriodNetwork.{all_heads};
-ghost use Rattle.hyd_spec_certificates.specs.Certificate.{IsInBox};
+ghost use Rattle.hyd_spec_certificates.specs.Certificate.{box_limit, IsInBox};
 ghost use Rattle.hyd_period_network.specs.NetAsPeriodNetwork.{grid_of, node_count};
 ghost use Rattle.hyd_period_network.specs.NetInvariant.{HasProblem};
 
@@ -43,7 +43,7 @@ pub(crate) fn head_with(
     requires pinned { HasProblem net.now problem }
     requires node { node < node_count net.now }
     ensures value { result ≡ head_at (all_heads (grid_of net.now) problem side (slice_set u.now i head)) node }
-    ensures small { unsigned_abs result ≤ 10 ^ 18 }
+    ensures small { unsigned_abs result ≤ box_limit }
 {
     if node == i {
         return head;
@@ -54,12 +54,12 @@ pub(crate) fn head_with(
     net.fixed(problem, side, node)
 }
 
-/// The difference of two heads.
-pub(crate) fn difference(a: i64, b: i64) -> i64
-    requires a { unsigned_abs a ≤ 10 ^ 18 }
-    requires b { unsigned_abs b ≤ 10 ^ 18 }
+/// The difference of two heads of the box, in head ticks.
+pub fn difference(a: i64, b: i64) -> i64
+    requires a { unsigned_abs a ≤ box_limit }
+    requires b { unsigned_abs b ≤ box_limit }
     ensures value { result ≡ a -ℤ b }
-    ensures small { unsigned_abs result ≤ 2 * 10 ^ 18 }
+    ensures small { unsigned_abs result ≤ 2 * box_limit }
 {
     a - b
 }

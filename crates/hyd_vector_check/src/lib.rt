@@ -10,6 +10,6 @@ mod outflows;
 
 pub use checks::{Fails, check, check_sub, check_super};
 pub use flows::flows_out;
-pub use heads::{head_of, is_in_box};
+pub use heads::{difference, head_of, is_in_box};
 pub use junction_test::{net_high, net_low, passes, surplus};
 pub use outflows::outflow;

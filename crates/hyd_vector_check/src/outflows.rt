@@ -5,7 +5,7 @@ ghost use Rattle.std.specs.Prelude.{◌≡◌, ◌<◌, ◌≤◌, ◌*◌, ◌^
 ghost use Rattle.std.specs.Option.{option_map, option_copied, IfSome};
 ghost use Rattle.hyd_spec_certificates.specs.EnclosingFunctions.{emitter_low, emitter_high};
 ghost use Rattle.hyd_spec_certificates.specs.PeriodNetwork.{GridJunction};
-ghost use Rattle.hyd_spec_certificates.specs.Certificate.{IsInBox};
+ghost use Rattle.hyd_spec_certificates.specs.Certificate.{box_limit, IsInBox};
 ghost use Rattle.hyd_theorems_on_definitions.specs.TermsOfTheorems.{IsSoundCapacity};
 ghost use Rattle.hyd_law.specs.DemandLaws.{IsSoundOut, OutAccepts, out_low, out_high};
 ghost use Rattle.hyd_period_network.specs.NetAsPeriodNetwork.{grid_of, capacity_of};
@@ -34,7 +34,7 @@ fn demand_flow(law: &OutLaw, high: bool, pressure: i64) -> i128
 // The high emitter flow at a pressure, or the low one.
 fn emitter_flow(law: Option<&Quad>, high: bool, pressure: i64) -> i128
     requires sound { IfSome (option_copied law) (λ quad. IsSoundCapacity (capacity_of quad)) }
-    requires accepted { unsigned_abs pressure ≤ 2 * 10 ^ 18 }
+    requires accepted { unsigned_abs pressure ≤ 2 * box_limit }
     ensures low { high ≡ false → result ≡ emitter_low (option_map capacity_of (option_copied law.entry)) pressure }
     ensures high { high ≡ true → result ≡ emitter_high (option_map capacity_of (option_copied law.entry)) pressure }
     ensures small { unsigned_abs result ≤ 2 ^ 65 }

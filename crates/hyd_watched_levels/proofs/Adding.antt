@@ -15,7 +15,7 @@ use Rattle.hyd_spec_certificates.specs.Stocks.{may_reach, must_reach}
 use Rattle.hyd_spec_certificates.specs.Decided.{Watch, watches, tank_watches, watch_of, IsClockLength, IsEarliestEnd}
 use Rattle.hyd_spec_certificates.specs.Decided.{IsLatestEnd}
 use Rattle.hyd_theorems_on_nesting.specs.Nesting.{IsFirstAmong}
-use Rattle.hyd_lemmas.proofs.ListsAndOptions.{present_push}
+use Rattle.hyd_lemmas.proofs.ListsOptionsAndResults.{present_push}
 use Rattle.hyd_theorems_on_nesting.proofs.Watched.{none_watched, end_is}
 use Rattle.hyd_period_facts.specs.declared.facts.Facts.{Facts}
 use Rattle.hyd_watched_levels.specs.declared.watch.Ends.{Ends}

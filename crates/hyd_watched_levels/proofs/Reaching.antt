@@ -13,7 +13,7 @@ use Rattle.hyd_spec_certificates.specs.Stocks.{Stocks}
 use Rattle.hyd_spec_certificates.specs.FirstSeconds.{IsFirstSecond}
 use Rattle.hyd_spec_certificates.specs.Decided.{Watch, stocks_of_tank, inflow_of_tank, nowhere}
 use Rattle.hyd_theorems_on_nesting.specs.Nesting.{ReachTest, IsFirstAmong}
-use Rattle.hyd_lemmas.proofs.ListsAndOptions.{item_is}
+use Rattle.hyd_lemmas.proofs.ListsOptionsAndResults.{item_is}
 use Rattle.hyd_theorems_on_nesting.proofs.Watched.{one_watched, one_more}
 use Rattle.hyd_theorems_on_histories.proofs.Watching.{contains-here, contains-later, contains-cons}
 use Rattle.hyd_period_facts.specs.declared.facts.Facts.{Facts}

@@ -7,7 +7,6 @@ ghost use Rattle.hyd_net.specs.Sound.{Sound};
 ghost use Rattle.hyd_net.specs.ControlsAndRules.{IsControl};
 ghost use Rattle.hyd_spec.specs.Lists.{present};
 ghost use Rattle.hyd_spec_certificates.specs.Spans.{levels_of};
-ghost use Rattle.hyd_spec_certificates.specs.ThreeValuedLogic.{is_yes};
 ghost use Rattle.hyd_spec_certificates.specs.Decided as decided;
 ghost use Rattle.hyd_watched_levels.specs.FactsBeforeEnd.{HaveTanks};
 ghost use Rattle.hyd_watched_levels.specs.Watched.{IsWatch, AreEnds, watch_for};
@@ -15,19 +14,7 @@ ghost use Rattle.hyd_watched_levels.specs.Watched.{IsWatch, AreEnds, watch_for};
 use crate::facts_of_tanks::level_at;
 use crate::watch::{Ends, Watch, with_watch};
 use hyd_net::{Control, Project, When};
-use hyd_period_facts::Facts;
-use hyd_spec_certificates::LevelSpan;
-
-// Whether a level control holds on a whole level interval. ABOVE means at least, and BELOW at most.
-fn holds(level: &LevelSpan, above: bool, ticks: i64) -> bool
-    ensures { result ≡ is_yes (decided.control_truth (levels_of level.now) above ticks) }
-{
-    if above {
-        level.lo >= ticks && level.hi >= ticks
-    } else {
-        level.lo <= ticks && level.hi <= ticks
-    }
-}
+use hyd_period_facts::{Facts, control_holds};
 
 // Whether a level control holds at the start.
 fn acts(facts: &Facts, tank: u32, above: bool, ticks: i64) -> bool
@@ -35,7 +22,7 @@ fn acts(facts: &Facts, tank: u32, above: bool, ticks: i64) -> bool
     ensures { result ≡ decided.acts_on (map levels_of facts.now.levels.list) tank above ticks }
 {
     let level = level_at(facts, tank);
-    holds(&level, above, ticks)
+    control_holds(&level, above, ticks)
 }
 
 // The level of a level control that doesn't hold at the start.

@@ -1,8 +1,8 @@
-use Rattle.hyd_theorems_on_rereading.proofs.Headers.{plain, same_version, same_junctions, same_tanks}
+use Rattle.hyd_theorems_on_rereading.proofs.Headers.{same_compared, same_version, same_junctions, same_tanks}
 use Rattle.hyd_theorems_on_rereading.proofs.same.Goals as goal
 
 pub returns-clause-compared : goal.returns-clause-compared
-returns-clause-compared c = plain
+returns-clause-compared c = same_compared
 
 pub returns-clause-version : goal.returns-clause-version
 returns-clause-version c = same_version

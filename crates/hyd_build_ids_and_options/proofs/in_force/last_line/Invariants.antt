@@ -3,8 +3,8 @@ use Rattle.hyd_spec_lines.specs.WordsOfLines.{text_of}
 use Rattle.hyd_spec_lines.specs.Lines.{LiesIn}
 use Rattle.hyd_spec_input.specs.Tables.{rows_of}
 use Rattle.hyd_spec_input.specs.InForce.{last_where}
-use Rattle.hyd_text_rows.specs.FirstWrongRow.{rows_at}
-use Rattle.hyd_build_ids_and_options.specs.InForce.{row_in, begins_with}
+use Rattle.hyd_text_rows.specs.FirstWrongRow.{rows_at, row_in}
+use Rattle.hyd_build_ids_and_options.specs.InForce.{begins_with}
 use Rattle.hyd_build_ids_and_options.proofs.in_force.last_line.Given as goal
 
 abbrev pub invariant-loop-line : goal.invariant-loop-line

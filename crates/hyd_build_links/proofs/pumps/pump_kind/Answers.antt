@@ -4,8 +4,9 @@ use Rattle.hyd_spec_input.specs.Tables.{curve_named}
 use Rattle.hyd_build_links.specs.CheckedRows.{rows_from}
 use Rattle.hyd_build_links.proofs.NumberLemmas.{pump_bend}
 use Rattle.hyd_build_links.proofs.PumpLemmas.{pump_made}
-use Rattle.hyd_build_links.proofs.RowLemmas.{no_fault, many_points, pump_facts}
+use Rattle.hyd_build_links.proofs.RowLemmas.{no_fault, pump_facts}
 use Rattle.hyd_build_links.proofs.pumps.pump_kind.Goals as goal
+use Rattle.hyd_curves.proofs.BendRowLemmas.{many_points}
 
 pub unreachable-requires : goal.unreachable-requires
 unreachable-requires c =

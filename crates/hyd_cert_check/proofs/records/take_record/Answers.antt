@@ -6,7 +6,7 @@ use Rattle.hyd_cert_check.specs.ReaderAndPen.{moment}
 use Rattle.hyd_cert_check.specs.RecordByRecord.{in_reading, in_report}
 use Rattle.hyd_cert_check.specs.declared.outcome.CheckFault.TheVariants.{Read}
 use Rattle.hyd_cert_check.specs.declared.outcome.Conclusion.TheVariants.{Grammar, Counts}
-use Rattle.hyd_cert_check.proofs.PenLemmas.{read-puts, read-cut}
+use Rattle.hyd_cert_check.proofs.PenLemmas.{read-puts, read-cut-off}
 use Rattle.hyd_cert_check.proofs.RecordLemmas.{is-read, over-there, end-is, grammar-is, counts-is}
 use Rattle.hyd_cert_check.proofs.records.take_record.Goals as goal
 
@@ -40,7 +40,7 @@ pub returns-in-Err-Read-clause-gives : goal.returns-in-Err-Read-clause-gives
 returns-in-Err-Read-clause-gives g c =
     let e = c.next.ensures in
     let rose = rw c.in-Err-Read.field-0-is at (c.in-Err-Read.ensures.fault c.requires.going.going) in
-    in_reading (read-cut Read _ _ e.stays.printed_stays rose (record {
+    in_reading (read-cut-off Read _ _ e.stays.printed_stays rose (record {
       files_stay = e.stays.files_stay;
       written_stays = e.stays.written_stays;
       target_stays = e.stays.target_stays;

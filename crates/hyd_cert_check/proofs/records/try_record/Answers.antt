@@ -2,7 +2,7 @@
 use Rattle.std.proofs.Common.{ap, refl}
 use Rattle.hyd_cert.specs.Lines.{Header}
 use Rattle.hyd_cert_check.specs.declared.outcome.CheckFault.TheVariants.{Output}
-use Rattle.hyd_cert_check.proofs.PenLemmas.{not_cert, put-in, put-cut}
+use Rattle.hyd_cert_check.proofs.PenLemmas.{not_cert, put-in, put-cut-off}
 use Rattle.hyd_cert_check.proofs.RecordLemmas.{of-period, did-there, lost-there, refused-there}
 use Rattle.hyd_cert_check.proofs.records.try_record.Goals as goal
 
@@ -34,4 +34,4 @@ returns-in-Err-put_period-clause-tries g c = λ before reader read none.
     lost-there _ _ c.project-project.ensures.is_sim c.in-Ok.ensures.accepted _ c.args.row.now before _ _
     c.accept.ensures.project c.in-Ok.ensures.row read none refl c.put_period.ensures.rest_stays (Output
     c.in-Err-put_period.fault)
-    (put-cut _ c.in-Err-put_period.fault reader reader _ _ _ _ c.requires.unbroken c.in-Err-put_period.ensures)
+    (put-cut-off _ c.in-Err-put_period.fault reader reader _ _ _ _ c.requires.unbroken c.in-Err-put_period.ensures)

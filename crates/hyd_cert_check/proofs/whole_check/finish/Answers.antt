@@ -1,8 +1,8 @@
 -- The pen is emptied.
 use Rattle.hyd_cert.specs.ReaderView.{fresh}
 use Rattle.hyd_cert_check.specs.declared.outcome.CheckFault.TheVariants.{Output}
-use Rattle.hyd_cert_check.proofs.PenLemmas.{not_cert, put-in, put-cut, pen-new}
-use Rattle.hyd_cert_check.proofs.EndLemmas.{whole-emptied, whole-cut}
+use Rattle.hyd_cert_check.proofs.PenLemmas.{not_cert, put-in, put-cut-off, pen-new}
+use Rattle.hyd_cert_check.proofs.EndLemmas.{whole-emptied, whole-cut-off}
 use Rattle.hyd_cert_check.proofs.whole_check.finish.Goals as goal
 
 pub empty-requires : goal.empty-requires
@@ -18,5 +18,5 @@ returns-in-Ok-clause-report g c =
 
 pub returns-in-Err-clause-puts : goal.returns-in-Err-clause-puts
 returns-in-Err-clause-puts g c = λ project start reader whole.
-    whole-cut project c.args.end (Output c.in-Err.fault) start _ _ whole (put-cut _ c.in-Err.fault reader reader _ _ _ _
-    c.requires c.in-Err.ensures.puts)
+    whole-cut-off project c.args.end (Output c.in-Err.fault) start _ _ whole (put-cut-off _ c.in-Err.fault reader reader
+    _ _ _ _ c.requires c.in-Err.ensures.puts)

@@ -3,8 +3,8 @@ use Rattle.std.proofs.Common.{sym, subst, refl}
 use Rattle.hyd_cert.specs.ReaderView.{ReaderView, IsGoing}
 use Rattle.hyd_sim.specs.View.{standing_of}
 use Rattle.hyd_cert_check.specs.declared.outcome.CheckFault.TheVariants.{Output}
-use Rattle.hyd_cert_check.proofs.PenLemmas.{not_cert, put-in, put-cut}
-use Rattle.hyd_cert_check.proofs.EndLemmas.{so-far-begun, first-cut, ending-puts}
+use Rattle.hyd_cert_check.proofs.PenLemmas.{not_cert, put-in, put-cut-off}
+use Rattle.hyd_cert_check.proofs.EndLemmas.{so-far-begun, first-cut-short, ending-puts}
 use Rattle.hyd_cert_check.proofs.whole_check.put_check.Goals as goal
 
 pub put_first-requires : goal.put_first-requires
@@ -28,8 +28,8 @@ put_ending-requires g c = c.in-Ok-take_records.ensures.unbroken
 pub returns-in-Err-clause-puts : goal.returns-in-Err-clause-puts
 returns-in-Err-clause-puts g c =
     let r = c.args.reader.now in
-    first-cut c.args.sim.now.project (Output c.in-Err.fault) _ _ c.project-project.ensures.is_sim.sound
-    (put-cut _ c.in-Err.fault r r _ _ _ _ c.requires.unbroken c.in-Err.ensures)
+    first-cut-short c.args.sim.now.project (Output c.in-Err.fault) _ _ c.project-project.ensures.is_sim.sound
+    (put-cut-off _ c.in-Err.fault r r _ _ _ _ c.requires.unbroken c.in-Err.ensures)
 
 pub returns-in-Err-take_records-clause-puts : goal.returns-in-Err-take_records-clause-puts
 returns-in-Err-take_records-clause-puts g c =

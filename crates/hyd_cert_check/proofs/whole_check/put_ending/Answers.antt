@@ -5,8 +5,8 @@ use Rattle.hyd_spec.specs.ProgramTypes.{Project}
 use Rattle.hyd_sim.specs.View.{standing_of}
 use Rattle.hyd_cert_check.specs.RecordByRecord.{conclusion_line}
 use Rattle.hyd_cert_check.specs.declared.outcome.CheckFault.TheVariants.{Output}
-use Rattle.hyd_cert_check.proofs.PenLemmas.{not_cert, put-in, put-cut, put-as, cut-as}
-use Rattle.hyd_cert_check.proofs.EndLemmas.{last-whole, last-cut, whole-as}
+use Rattle.hyd_cert_check.proofs.PenLemmas.{not_cert, put-in, put-cut-off, put-as, cut-off-as}
+use Rattle.hyd_cert_check.proofs.EndLemmas.{last-whole, last-cut-short, whole-as}
 use Rattle.hyd_cert_check.proofs.whole_check.put_ending.Goals as goal
 
 pub put_conclusion-requires : goal.put_conclusion-requires
@@ -29,7 +29,7 @@ returns-in-Err g c = λ start reader read.
     let sim = c.args.sim.now in
     let text = ap (λ (p : Project). conclusion_line p c.number.result c.args.conclusion) c.project.ensures.project
     ∙ ap (λ (n : ℕ). conclusion_line sim.project n c.args.conclusion) c.number.ensures in
-    last-cut sim.project c.args.conclusion (standing_of sim) start _ _ c.project.ensures.is_sim.sound read
+    last-cut-short sim.project c.args.conclusion (standing_of sim) start _ _ c.project.ensures.is_sim.sound read
     (Output c.in-Err.fault)
-    (cut-as (Output c.in-Err.fault) _ _ _ _ text (put-cut _ c.in-Err.fault reader reader _ _ _ _ c.requires
+    (cut-off-as (Output c.in-Err.fault) _ _ _ _ text (put-cut-off _ c.in-Err.fault reader reader _ _ _ _ c.requires
     c.in-Err.ensures))

@@ -17,7 +17,7 @@ pub returns-in-Err-clause-broken_off : goal.returns-in-Err-clause-broken_off
 returns-in-Err-clause-broken_off g c =
     text_breaks_off c.args.sim.now.project c.args.text.now (files_seen c.args.files) _ _ _ _ _
     (c.write_text.ensures.others c.args.files.cert.now (λ same. c.requires.apart (sym same)))
-    c.write_text.ensures.creates c.in-Err.ensures.cut_short
+    c.write_text.ensures.creates c.in-Err.ensures.cut_off
 
 pub returns-in-Err-clause-keeps_cert : goal.returns-in-Err-clause-keeps_cert
 returns-in-Err-clause-keeps_cert g c =

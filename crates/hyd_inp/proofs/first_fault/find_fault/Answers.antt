@@ -3,7 +3,7 @@ use Rattle.hyd_inp.proofs.first_fault.find_fault.Goals as goal
 
 pub returns-clause-fault : goal.returns-clause-fault
 returns-clause-fault c = some_of_text c.args.text.now c.new-reader.result.text c.in_ok-fault.fault
-    c.new-reader.ensures.text c.if-text-gt-LONGEST.false c.in_ok-fault.ensures.fault
+    c.new-reader.ensures.text c.if-text-gt-LONGEST_TEXT.false c.in_ok-fault.ensures.fault
 
 pub returns-clause-none : goal.returns-clause-none
 returns-clause-none c = none_of_text c.args.text.now c.new-reader.result.text c.in_ok-fault.fault

@@ -4,7 +4,7 @@ use Rattle.hyd_inp.proofs.project.read_project.Goals as goal
 pub returns-in-Some-clause-fault : goal.returns-in-Some-clause-fault
 returns-in-Some-clause-fault c =
     fault_read c.args.text.now c.new-reader.result.text c.in_ok-fault.field-0 c.in-Some.fault
-    c.new-reader.ensures.text c.if-text-gt-LONGEST.false c.in-Some.is c.in_ok-fault.ensures.fault
+    c.new-reader.ensures.text c.if-text-gt-LONGEST_TEXT.false c.in-Some.is c.in_ok-fault.ensures.fault
 
 pub build-requires-clause-by_itself : goal.build-requires-clause-by_itself
 build-requires-clause-by_itself c = alone_read c.args.text.now c.new-reader.result.text c.as_slice-lines.result.now

@@ -1,11 +1,12 @@
 use Rattle.std.proofs.Common.{sym}
 use Rattle.hyd_spec_input.specs.Moments.{is_colon}
-use Rattle.hyd_option_and_rule_lines.proofs.Colons.{cut_at, not_cut}
+use Rattle.hyd_option_and_rule_lines.proofs.Colons.{split_at, not_split}
 use Rattle.hyd_option_and_rule_lines.proofs.hours.split_colon.Goals as goal
 
 pub returns-in_err-place-clause-none : goal.returns-in_err-place-clause-none
 returns-in_err-place-clause-none c = rw c.from_residual.ensures
-    (not_cut is_colon c.args.word.now (sym c.in_err-place.ensures))
+    (not_split is_colon c.args.word.now (sym c.in_err-place.ensures))
 
 pub returns-then-place-word-clause-some : goal.returns-then-place-word-clause-some
-returns-then-place-word-clause-some c = cut_at is_colon c.args.word.now c.in_ok-place.place (sym c.in_ok-place.ensures)
+returns-then-place-word-clause-some c = split_at is_colon c.args.word.now c.in_ok-place.place (sym
+    c.in_ok-place.ensures)

@@ -21,4 +21,4 @@ pub returns-in-Fcv : goal.returns-in-Fcv
 returns-in-Fcv c us bends = rw c.in-Fcv.is c.valve_law-in-Fcv.ensures
 
 pub returns-in-Gpv : goal.returns-in-Gpv
-returns-in-Gpv c us bends = absurd (rw c.in-Gpv.is at c.requires.plain)
+returns-in-Gpv c us bends = absurd (rw c.in-Gpv.is at c.requires.no_curve)

@@ -22,4 +22,4 @@ pub returns-in-Pump : goal.returns-in-Pump
 returns-in-Pump c bends = rw c.in-Pump.is (rw (to_z-of_z w64 c.args.speed c.ranges.speed) at c.pump_law.ensures)
 
 pub returns-in-CurvePump : goal.returns-in-CurvePump
-returns-in-CurvePump c bends = absurd (rw c.in-CurvePump.is at c.requires.plain)
+returns-in-CurvePump c bends = absurd (rw c.in-CurvePump.is at c.requires.no_curve)

@@ -6,8 +6,7 @@ use Rattle.hyd_spec.specs.Assignment.{head_at}
 use Rattle.hyd_spec_certificates.specs.Certificate.{Passes}
 use Rattle.hyd_spec_certificates.specs.PeriodNetwork.{GridJunction}
 use Rattle.hyd_period_network.specs.NetAsPeriodNetwork.{grid_of}
-use Rattle.hyd_lemmas.proofs.ListsAndOptions.{same_item}
-use Rattle.hyd_vector_check.proofs.Lookups.{junction-there}
+use Rattle.hyd_lemmas.proofs.ListsOptionsAndResults.{same_item, item_there}
 use Rattle.hyd_period_vectors.specs.TurnsTowardProposedHeads.{AreInTurn}
 use Rattle.hyd_period_vectors.proofs.Reaching.{turns-more}
 use Rattle.hyd_period_vectors.proofs.starting.take_turn.Goals as goal
@@ -25,7 +24,7 @@ returns c =
     let e = c.requires.one_each in
     let b = c.junctions-junctions.ensures.count in
     let inside : i < length v = omega (arith, a, b, e) in
-    let at = junction-there grid.junctions i (omega (arith, inside, long)) in
+    let at = item_there grid.junctions i (omega (arith, inside, long)) in
     let read : to_z w64 (of_z w64 c.head_of.result) ≡ c.head_of.result = omega (arith, ints) in
     let head : to_z w64 (of_z w64 c.head_of.result) ≡ head_at v i = read ∙ c.head_of.ensures in
     subst (λ (x : ℤ). AreInTurn grid problem side v (slice_set y i x)) (sym head)

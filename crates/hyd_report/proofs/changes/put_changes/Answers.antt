@@ -4,7 +4,7 @@ use Rattle.hyd_spec.specs.declared.Change.{Change}
 use Rattle.hyd_spec_reports.specs.ReportLine.{line_text}
 use Rattle.hyd_spec_reports.specs.Report.{change_line}
 use Rattle.hyd_report.proofs.Joining.{joined-more, joined-split}
-use Rattle.hyd_io.proofs.PutLemmas.{puts_then, puts_cut, puts_same}
+use Rattle.hyd_io.proofs.PutLemmas.{puts_then, puts_cut_off, puts_same}
 use Rattle.hyd_report.proofs.changes.put_changes.Goals as goal
 
 pub returns-in-Err : goal.returns-in-Err
@@ -12,7 +12,7 @@ returns-in-Err g c =
     let text : Change → List ℕ = λ change. line_text c.args.project.now (change_line c.args.time change) in
     puts_same _ _ _ _ _ _ _ (joined-split text c.args.changes.now c.loop-i.i c.index-changes-i.result
     c.loop-i-test.true)
-    (puts_cut _ _ c.in-Err.fault _ _ _ _ (puts_then _ _ _ _ _ _ _ _ _ c.loop-i.invariant
+    (puts_cut_off _ _ c.in-Err.fault _ _ _ _ (puts_then _ _ _ _ _ _ _ _ _ c.loop-i.invariant
     (puts_same _ _ _ _ _ _ _ (ap text c.index-changes-i.is) c.in-Err.ensures)))
 
 pub loop-i-preserved : goal.loop-i-preserved

@@ -2,14 +2,14 @@
 use Rattle.std.proofs.Common.{◌<◌, length, arith}
 use Rattle.hyd_period_network.specs.NetAsPeriodNetwork.{grid_of}
 use Rattle.hyd_report.specs.NodeAndLinkLines.{junction_line}
-use Rattle.hyd_report.proofs.LoopLemmas.{line_put, line_cut}
+use Rattle.hyd_report.proofs.LoopLemmas.{line_put, line_cut_off}
 use Rattle.hyd_report.proofs.junctions.put_junctions.Goals as goal
 
 pub returns-in-Err : goal.returns-in-Err
 returns-in-Err g c =
     let within : c.loop-j.j < length (grid_of c.args.net.now).junctions = omega
     (arith, c.junctions-j-end.ensures.each, c.junctions-j-end.ensures.count) in
-    line_cut c.args.project.now (junction_line c.args.project.now c.args.lower.now c.args.upper.now)
+    line_cut_off c.args.project.now (junction_line c.args.project.now c.args.lower.now c.args.upper.now)
     (grid_of c.args.net.now).junctions
     c.loop-j.j _ _ _ _ _ _ c.in-Err.fault within c.loop-j.invariant c.in-Err.ensures
 

@@ -8,7 +8,7 @@ use Rattle.hyd_spec_certificates.specs.declared.Side.TheVariants.{Upper, Lower}
 use Rattle.hyd_period_network.specs.Periods.{ends_of}
 use Rattle.hyd_period_network.specs.NetAsPeriodNetwork.{grid_of, states_of}
 use Rattle.hyd_io.specs.Putting.{Puts}
-use Rattle.hyd_lemmas.proofs.ListsAndOptions.{item_there}
+use Rattle.hyd_lemmas.proofs.ListsOptionsAndResults.{item_there}
 use Rattle.hyd_report.proofs.LineLemmas.{link_put}
 use Rattle.hyd_report.proofs.LinkLemmas.{link_word}
 use Rattle.hyd_report.proofs.links.put_link.Goals as goal

@@ -7,7 +7,7 @@ use Rattle.hyd_spec_certificates.specs.declared.Side.TheVariants.{Upper, Lower}
 use Rattle.hyd_period_network.specs.Periods.{ends_of}
 use Rattle.hyd_period_network.specs.NetAsPeriodNetwork.{grid_of, states_of}
 use Rattle.hyd_report.specs.NodeAndLinkLines.{link_line}
-use Rattle.hyd_report.proofs.LoopLemmas.{line_put, line_cut}
+use Rattle.hyd_report.proofs.LoopLemmas.{line_put, line_cut_off}
 use Rattle.hyd_report.proofs.links.put_links.Goals as goal
 
 pub returns-in-Err : goal.returns-in-Err
@@ -21,7 +21,7 @@ returns-in-Err g c =
       ap length c.requires.of.ends
           ∙ length-map c.args.project.now.links.list ends_of,
     ) in
-    line_cut c.args.project.now (link_line c.args.project.now (grid_of net) below above
+    line_cut_off c.args.project.now (link_line c.args.project.now (grid_of net) below above
     (states_of net)) c.args.project.now.links.list
     c.loop-l.l _ _ _ _ _ _ c.in-Err.fault within c.loop-l.invariant c.in-Err.ensures
 

@@ -3,7 +3,7 @@ use Rattle.std.proofs.Common.{◌≡◌, ◌∙◌, ap}
 use Rattle.std.specs.Fmt.{decimal}
 use Rattle.hyd_spec_reports.specs.ReportLine.{refused_period}
 use Rattle.hyd_report.proofs.StopLemmas.{refused_text}
-use Rattle.hyd_io.proofs.PutLemmas.{puts_then, puts_cut, puts_same}
+use Rattle.hyd_io.proofs.PutLemmas.{puts_then, puts_cut_off, puts_same}
 use Rattle.hyd_report.proofs.refused_records.put_refused.Goals as goal
 
 pub returns-in-Err : goal.returns-in-Err
@@ -11,7 +11,7 @@ returns-in-Err g c =
     let number : c.bytes.result.now ≡ decimal (refused_period c.args.cause.now) = c.bytes.ensures ∙
     (c.number-period.ensures.text ∙ ap decimal (c.from.ensures ∙ c.refused_period.ensures)) in
     puts_same _ _ _ _ _ _ _ (refused_text c.args.project.now c.args.cause.now _ _ c.as_slice.ensures number)
-    (puts_cut _ _ c.in-Err.fault _ _ _ _ c.in-Err.ensures)
+    (puts_cut_off _ _ c.in-Err.fault _ _ _ _ c.in-Err.ensures)
 
 pub returns : goal.returns
 returns g c =

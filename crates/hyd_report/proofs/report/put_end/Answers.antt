@@ -3,7 +3,7 @@ use Rattle.std.proofs.Common.{◌+◌, drop, refl}
 use Rattle.hyd_spec_reports.specs.Report.{change_line, event_line}
 use Rattle.hyd_report.specs.EventTextsAndChangesByRules.{before_rules}
 use Rattle.hyd_report.proofs.LineLemmas.{end_text}
-use Rattle.hyd_io.proofs.PutLemmas.{puts_then, puts_cut, puts_same}
+use Rattle.hyd_io.proofs.PutLemmas.{puts_then, puts_cut_off, puts_same}
 use Rattle.hyd_report.proofs.report.put_end.Goals as goal
 
 pub returns-in-Err : goal.returns-in-Err
@@ -14,7 +14,7 @@ returns-in-Err g c =
     (end_text c.args.project.now event_line change_line c.end_of-time.result end c.as_slice.result.now facts.events.list
     (drop (before_rules facts.changes.list) facts.changes.list) (drop (before_rules facts.changes.list)
     facts.changes.list) c.end_of-time.ensures c.as_slice.ensures refl)
-    (puts_cut _ _ c.in-Err.fault _ _ _ _ c.in-Err.ensures)
+    (puts_cut_off _ _ c.in-Err.fault _ _ _ _ c.in-Err.ensures)
 
 pub returns : goal.returns
 returns g c =

@@ -7,7 +7,7 @@ use Rattle.hyd_period_network.specs.NetAsPeriodNetwork.{grid_of, states_of}
 use Rattle.hyd_report.specs.PeriodLines.{start_lines, middle_lines, end_lines}
 use Rattle.hyd_period_network.proofs.Counts.{links_count}
 use Rattle.hyd_report.proofs.LineLemmas.{three_text}
-use Rattle.hyd_io.proofs.PutLemmas.{puts_then, puts_cut, puts_same}
+use Rattle.hyd_io.proofs.PutLemmas.{puts_then, puts_cut_off, puts_same}
 use Rattle.hyd_report.proofs.ReportLemmas.{lines_are_report}
 use Rattle.hyd_report.proofs.report.put_report.Goals as goal
 
@@ -17,7 +17,7 @@ returns-in-Err-clause-puts g c =
     let middle = middle_lines c.args.project.now (grid_of c.args.net.now) (states_of c.args.net.now)
     (row_of c.args.row.now) facts in
     puts_same _ _ _ _ _ _ _ (three_text c.args.project.now (start_lines facts) middle (end_lines facts))
-    (puts_cut _ _ c.in-Err.fault _ _ _ _ c.in-Err.ensures)
+    (puts_cut_off _ _ c.in-Err.fault _ _ _ _ c.in-Err.ensures)
 
 pub returns-in-Err-put_middle-clause-puts : goal.returns-in-Err-put_middle-clause-puts
 returns-in-Err-put_middle-clause-puts g c =
@@ -25,7 +25,7 @@ returns-in-Err-put_middle-clause-puts g c =
     let middle = middle_lines c.args.project.now (grid_of c.args.net.now) (states_of c.args.net.now)
     (row_of c.args.row.now) facts in
     puts_same _ _ _ _ _ _ _ (three_text c.args.project.now (start_lines facts) middle (end_lines facts))
-    (puts_then _ _ _ _ _ _ _ _ _ c.in-Ok.ensures (puts_cut _ _ c.in-Err-put_middle.fault _ _ _ _
+    (puts_then _ _ _ _ _ _ _ _ _ c.in-Ok.ensures (puts_cut_off _ _ c.in-Err-put_middle.fault _ _ _ _
     c.in-Err-put_middle.ensures))
 
 pub returns-clause-puts : goal.returns-clause-puts

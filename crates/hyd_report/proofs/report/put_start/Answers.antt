@@ -3,11 +3,11 @@ use Rattle.std.proofs.Common.{take}
 use Rattle.hyd_spec_reports.specs.Report.{change_line}
 use Rattle.hyd_report.specs.EventTextsAndChangesByRules.{before_rules}
 use Rattle.hyd_report.proofs.LineLemmas.{items_text}
-use Rattle.hyd_io.proofs.PutLemmas.{puts_then, puts_cut, puts_same}
+use Rattle.hyd_io.proofs.PutLemmas.{puts_then, puts_cut_off, puts_same}
 use Rattle.hyd_report.proofs.report.put_start.Goals as goal
 
 pub returns-in-Err : goal.returns-in-Err
-returns-in-Err g c = puts_cut _ _ c.in-Err.fault _ _ _ _ c.in-Err.ensures
+returns-in-Err g c = puts_cut_off _ _ c.in-Err.fault _ _ _ _ c.in-Err.ensures
 
 pub returns : goal.returns
 returns g c =

@@ -11,7 +11,7 @@ use Rattle.hyd_period_network.specs.NetAsPeriodNetwork.{grid_of, states_of}
 use Rattle.hyd_bounds.specs.VectorsInOrder.{AreInOrder}
 use Rattle.hyd_report.specs.NodeAndLinkLines.{texts, reservoir_line, tank_line, link_line}
 use Rattle.hyd_report.proofs.LineLemmas.{in_order, state_text}
-use Rattle.hyd_io.proofs.PutLemmas.{puts_then, puts_cut, puts_same, puts_ready}
+use Rattle.hyd_io.proofs.PutLemmas.{puts_then, puts_cut_off, puts_same, puts_ready}
 use Rattle.hyd_report.proofs.report.put_state.Goals as goal
 
 pub put_junctions-requires-clause-ordered : goal.put_junctions-requires-clause-ordered
@@ -41,7 +41,7 @@ put_tanks_and_links-requires-clause-ready g c =
     (puts_ready _ _ _ _ _ _ (c.in-Ok.ensures c.args.project.now) c.requires.ready))
 
 pub returns-in-Err : goal.returns-in-Err
-returns-in-Err g c = puts_cut _ _ c.in-Err.fault _ _ _ _ (c.in-Err.ensures c.args.project.now)
+returns-in-Err g c = puts_cut_off _ _ c.in-Err.fault _ _ _ _ (c.in-Err.ensures c.args.project.now)
 
 pub returns-in-Err-put_junctions : goal.returns-in-Err-put_junctions
 returns-in-Err-put_junctions g c =
@@ -58,7 +58,7 @@ returns-in-Err-put_junctions g c =
     row.main.upper (grid_of net).junctions rs tls
     c.vector-lower.ensures c.vector-upper.ensures)
     (puts_then _ _ _ _ _ _ _ _ _ (c.in-Ok.ensures project)
-    (puts_cut _ (texts project rs ++ texts project tls) c.in-Err-put_junctions.fault _ _ _ _
+    (puts_cut_off _ (texts project rs ++ texts project tls) c.in-Err-put_junctions.fault _ _ _ _
     c.in-Err-put_junctions.ensures))
 
 pub returns-in-Err-put_reservoirs : goal.returns-in-Err-put_reservoirs
@@ -77,7 +77,7 @@ returns-in-Err-put_reservoirs g c =
     c.vector-lower.ensures c.vector-upper.ensures)
     (puts_then _ _ _ _ _ _ _ _ _ (c.in-Ok.ensures project)
     (puts_then _ _ _ _ _ _ _ _ _ c.in-Ok-put_junctions.ensures
-    (puts_cut _ (texts project tls) c.in-Err-put_reservoirs.fault _ _ _ _ c.in-Err-put_reservoirs.ensures)))
+    (puts_cut_off _ (texts project tls) c.in-Err-put_reservoirs.fault _ _ _ _ c.in-Err-put_reservoirs.ensures)))
 
 pub returns : goal.returns
 returns g c =

@@ -3,7 +3,7 @@ use Rattle.std.proofs.Common.{refl}
 use Rattle.hyd_cert.specs.RecordView.{row_of}
 use Rattle.hyd_period_network.specs.NetAsPeriodNetwork.{grid_of, states_of}
 use Rattle.hyd_report.proofs.LineLemmas.{tanks_text}
-use Rattle.hyd_io.proofs.PutLemmas.{puts_then, puts_cut, puts_same}
+use Rattle.hyd_io.proofs.PutLemmas.{puts_then, puts_cut_off, puts_same}
 use Rattle.hyd_report.proofs.report.put_tanks_and_links.Goals as goal
 
 pub returns-in-Err : goal.returns-in-Err
@@ -16,7 +16,7 @@ returns-in-Err g c =
     c.as_slice-2.result.now facts.inflows.list
     c.as_slice-3.result.now facts.tanks.list row.main.lower row.main.lower row.main.upper row.main.upper
     c.as_slice.ensures c.as_slice-2.ensures c.as_slice-3.ensures refl refl)
-    (puts_cut _ _ c.in-Err.fault _ _ _ _ c.in-Err.ensures)
+    (puts_cut_off _ _ c.in-Err.fault _ _ _ _ c.in-Err.ensures)
 
 pub returns : goal.returns
 returns g c =

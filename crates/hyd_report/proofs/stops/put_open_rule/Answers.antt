@@ -3,13 +3,13 @@ use Rattle.std.proofs.Common.{◌≡◌, ◌∙◌, ◌+◌, ◌++◌, ap, codes
 use Rattle.std.specs.Fmt.{decimal, signed_decimal}
 use Rattle.hyd_spec_reports.specs.ReportLine.{rule_id}
 use Rattle.hyd_report.proofs.StopLemmas.{rule_text}
-use Rattle.hyd_io.proofs.PutLemmas.{puts_then, puts_cut, puts_same}
+use Rattle.hyd_io.proofs.PutLemmas.{puts_then, puts_cut_off, puts_same}
 use Rattle.hyd_report.proofs.stops.put_open_rule.Goals as goal
 
 pub returns-in-Err : goal.returns-in-Err
 returns-in-Err g c =
     puts_same _ _ _ _ _ _ _ (rule_text _ _ _ _ c.as_slice.ensures c.rule_id.ensures)
-    (puts_cut _ _ c.in-Err.fault _ _ _ _ c.in-Err.ensures)
+    (puts_cut_off _ _ c.in-Err.fault _ _ _ _ c.in-Err.ensures)
 
 pub returns : goal.returns
 returns g c =

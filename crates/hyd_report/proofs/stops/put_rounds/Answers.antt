@@ -2,15 +2,15 @@
 use Rattle.std.proofs.Common.{codes, ◌∙◌, ap}
 use Rattle.std.specs.Fmt.{decimal}
 use Rattle.hyd_report.proofs.StopLemmas.{three_pieces}
-use Rattle.hyd_io.proofs.PutLemmas.{puts_then, puts_cut, puts_same}
+use Rattle.hyd_io.proofs.PutLemmas.{puts_then, puts_cut_off, puts_same}
 use Rattle.hyd_report.proofs.stops.put_rounds.Goals as goal
 
 pub returns-in-Err : goal.returns-in-Err
-returns-in-Err g c = puts_cut _ _ c.in-Err.fault _ _ _ _ c.in-Err.ensures
+returns-in-Err g c = puts_cut_off _ _ c.in-Err.fault _ _ _ _ c.in-Err.ensures
 
 pub returns-in-Err-put_problem : goal.returns-in-Err-put_problem
 returns-in-Err-put_problem g c =
-    puts_then _ _ _ _ _ _ _ _ _ c.in-Ok.ensures (puts_cut _ _ c.in-Err-put_problem.fault _ _ _ _
+    puts_then _ _ _ _ _ _ _ _ _ c.in-Ok.ensures (puts_cut_off _ _ c.in-Err-put_problem.fault _ _ _ _
     c.in-Err-put_problem.ensures)
 
 pub returns : goal.returns

@@ -4,7 +4,7 @@ use Rattle.std.specs.Fmt.{decimal}
 use Rattle.hyd_spec_reports.specs.ReportLine.{clock_text}
 use Rattle.hyd_spec_reports.specs.Stops.{period_of}
 use Rattle.hyd_report.proofs.StopLemmas.{stop_text}
-use Rattle.hyd_io.proofs.PutLemmas.{puts_then, puts_cut, puts_same}
+use Rattle.hyd_io.proofs.PutLemmas.{puts_then, puts_cut_off, puts_same}
 use Rattle.hyd_report.proofs.stops.put_stop.Goals as goal
 
 pub returns-in-Err : goal.returns-in-Err
@@ -13,7 +13,7 @@ returns-in-Err g c =
     (c.number-period.ensures.text ∙ ap decimal (c.from.ensures ∙ c.period_of.ensures)) in
     puts_same _ _ _ _ _ _ _ (stop_text c.args.project.now c.args.time c.args.cause.now _ _ _ c.as_slice.ensures number
     (c.bytes-2.ensures ∙ (c.clock-time.ensures.text ∙ ap clock_text c.from-2.ensures)))
-    (puts_cut _ _ c.in-Err.fault _ _ _ _ c.in-Err.ensures)
+    (puts_cut_off _ _ c.in-Err.fault _ _ _ _ c.in-Err.ensures)
 
 pub returns : goal.returns
 returns g c =

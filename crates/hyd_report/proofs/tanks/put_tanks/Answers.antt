@@ -4,7 +4,7 @@ use Rattle.std.specs.Prelude.{Ok, Err, slice_get}
 use Rattle.hyd_report.specs.NodeAndLinkLines.{tank_line}
 use Rattle.hyd_io.specs.Putting.{Puts}
 use Rattle.hyd_report.proofs.LineLemmas.{tank_read}
-use Rattle.hyd_report.proofs.LoopLemmas.{line_put, line_cut}
+use Rattle.hyd_report.proofs.LoopLemmas.{line_put, line_cut_off}
 use Rattle.hyd_report.proofs.tanks.put_tanks.Goals as goal
 
 pub returns-in-Err : goal.returns-in-Err
@@ -12,7 +12,7 @@ returns-in-Err g c =
     let k = c.loop-k.k in
     let project = c.args.project.now in
     let within : k < length project.tanks.list = omega arith in
-    line_cut project (tank_line project c.args.levels.now c.args.inflows.now c.args.states.now) project.tanks.list
+    line_cut_off project (tank_line project c.args.levels.now c.args.inflows.now c.args.states.now) project.tanks.list
     k _ _ _ _ _ _ c.in-Err.fault within c.loop-k.invariant
     (tank_read (slice_get project.tanks.list k) project
     (λ (text : List ℕ). Puts g.D.Desk.files g.D.Desk.rest g.D.Desk.written g.D.Desk.printed g.D.Desk.target

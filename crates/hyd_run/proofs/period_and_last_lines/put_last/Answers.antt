@@ -1,7 +1,7 @@
 -- The END line, and then the last line of the report.
 use Rattle.std.proofs.Common.{subst, sym}
 use Rattle.std.specs.Prelude.{IsTrue}
-use Rattle.hyd_run.proofs.PenLemmas.{on_any, both-put, first-cut}
+use Rattle.hyd_run.proofs.PenLemmas.{on_any, both-put, first-cut-off}
 use Rattle.hyd_run.proofs.period_and_last_lines.put_last.Goals as goal
 
 pub put_end-requires : goal.put_end-requires
@@ -13,7 +13,7 @@ put_last_line-requires-clause-ready g c = on_any _ _ (subst IsTrue (sym c.in-Ok.
 
 pub returns-in-Err : goal.returns-in-Err
 returns-in-Err g c = λ standing at.
-    rw (← c.is_finished.ensures) (first-cut _ _ c.in-Err.fault _ _ _ _ _ c.requires.unbroken c.in-Err.ensures)
+    rw (← c.is_finished.ensures) (first-cut-off _ _ c.in-Err.fault _ _ _ _ _ c.requires.unbroken c.in-Err.ensures)
 
 pub returns : goal.returns
 returns g c = λ standing at.

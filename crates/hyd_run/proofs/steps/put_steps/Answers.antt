@@ -1,6 +1,6 @@
 -- One step after another.
 use Rattle.std.proofs.Common.{◌∙◌}
-use Rattle.hyd_run.proofs.StepLemmas.{steps-more, steps-cut, steps-end, steps-over}
+use Rattle.hyd_run.proofs.StepLemmas.{steps-more, steps-cut-off, steps-end, steps-over}
 use Rattle.hyd_run.proofs.steps.put_steps.Goals as goal
 
 pub returns-in-Ok-Some-clause-puts : goal.returns-in-Ok-Some-clause-puts
@@ -18,7 +18,7 @@ returns-in-Err-clause-puts g c =
     let i = c.loop-end.invariant in
     let p = c.put_step.ensures.project ∙ i.project in
     let s = c.put_step.ensures.settings ∙ i.settings in
-    λ start so_far. steps-cut _ _ c.in-Err.fault _ _ start _ _ p s c.in-Err.ensures.puts (i.so_far start so_far)
+    λ start so_far. steps-cut-off _ _ c.in-Err.fault _ _ start _ _ p s c.in-Err.ensures.puts (i.so_far start so_far)
 
 pub loop-end-preserved : goal.loop-end-preserved
 loop-end-preserved g c =

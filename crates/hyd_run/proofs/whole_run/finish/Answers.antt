@@ -1,6 +1,6 @@
 -- Both pens are emptied.
 use Rattle.hyd_run.specs.Runs.{outcome_of}
-use Rattle.hyd_run.proofs.RunLemmas.{whole-emptied, whole-cut}
+use Rattle.hyd_run.proofs.RunLemmas.{whole-emptied, whole-cut-off}
 use Rattle.hyd_run.proofs.EndLemmas.{pen-fresh}
 use Rattle.hyd_run.proofs.whole_run.finish.Goals as goal
 
@@ -20,4 +20,4 @@ returns-in-Ok-clause-report g c =
 
 pub returns-in-Err-clause-puts : goal.returns-in-Err-clause-puts
 returns-in-Err-clause-puts g c = λ project settings start whole.
-    whole-cut project settings c.in-Err.fault (outcome_of c.args.end) start _ _ whole c.in-Err.ensures.puts
+    whole-cut-off project settings c.in-Err.fault (outcome_of c.args.end) start _ _ whole c.in-Err.ensures.puts

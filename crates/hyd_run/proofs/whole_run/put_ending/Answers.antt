@@ -3,7 +3,7 @@ use Rattle.std.proofs.Common.{sym, subst}
 use Rattle.hyd_net.specs.Sound.{Sound}
 use Rattle.hyd_sim.specs.View.{standing_of}
 use Rattle.hyd_run.specs.Runs.{outcome_of}
-use Rattle.hyd_run.proofs.EndLemmas.{ended, ended-cut}
+use Rattle.hyd_run.proofs.EndLemmas.{ended, ended-cut-off}
 use Rattle.hyd_run.proofs.PeriodLemmas.{small-number}
 use Rattle.hyd_run.proofs.whole_run.put_ending.Goals as goal
 
@@ -22,7 +22,7 @@ returns-in-Ok g c = λ ends start so_far.
 
 pub returns-in-Err : goal.returns-in-Err
 returns-in-Err g c = λ ends start so_far.
-    ended-cut _ c.project.result.now c.args.sim.now.settings c.in-Err.fault (outcome_of c.args.end) (standing_of
+    ended-cut-off _ c.project.result.now c.args.sim.now.settings c.in-Err.fault (outcome_of c.args.end) (standing_of
     c.args.sim.now) start _ _ c.number.result
     c.project.ensures.project c.number.ensures ends
     (c.in-Err.ensures (standing_of c.args.sim.now) (sym c.time.ensures)) so_far

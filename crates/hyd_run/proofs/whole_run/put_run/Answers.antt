@@ -1,7 +1,7 @@
 -- The front, the steps and the end.
 use Rattle.std.proofs.Common.{◌∙◌, ap}
 use Rattle.hyd_cert.specs.RecordView.{header_of}
-use Rattle.hyd_run.proofs.EndLemmas.{begun, begun-cut, ending-puts}
+use Rattle.hyd_run.proofs.EndLemmas.{begun, begun-cut-off, ending-puts}
 use Rattle.hyd_sim.specs.View.{standing_of}
 use Rattle.hyd_run.specs.Runs.{outcome_of}
 use Rattle.hyd_run.proofs.whole_run.put_run.Goals as goal
@@ -14,7 +14,7 @@ put_ending-requires g c = c.in-Ok-put_steps.ensures.unbroken
 
 pub returns-in-Err-clause-puts : goal.returns-in-Err-clause-puts
 returns-in-Err-clause-puts g c =
-    begun-cut _ _ c.in-Err.fault _ _ _ (ap header_of c.row.ensures ∙ c.project-project.ensures.is_sim.header)
+    begun-cut-off _ _ c.in-Err.fault _ _ _ (ap header_of c.row.ensures ∙ c.project-project.ensures.is_sim.header)
     c.in-Err.ensures
 
 pub returns-in-Err-put_steps-clause-puts : goal.returns-in-Err-put_steps-clause-puts

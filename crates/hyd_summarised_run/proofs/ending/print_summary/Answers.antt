@@ -1,6 +1,6 @@
 -- The counts, and then the last line.
 use Rattle.std.proofs.Common.{refl, append-nil}
-use Rattle.hyd_io.proofs.PutLemmas.{puts_then, puts_cut, puts_same, puts_ready}
+use Rattle.hyd_io.proofs.PutLemmas.{puts_then, puts_cut_off, puts_same, puts_ready}
 use Rattle.hyd_summarised_run.proofs.TextLemmas.{at_time}
 use Rattle.hyd_summarised_run.proofs.ending.print_summary.Goals as goal
 
@@ -14,7 +14,7 @@ empty-requires g c =
 
 pub returns-in-Err-clause-puts : goal.returns-in-Err-clause-puts
 returns-in-Err-clause-puts g c = λ standing at.
-    rw (← c.len-junctions.ensures, ← c.len-links.ensures) (puts_cut _ _ c.in-Err.fault _ _ _ _ c.in-Err.ensures)
+    rw (← c.len-junctions.ensures, ← c.len-links.ensures) (puts_cut_off _ _ c.in-Err.fault _ _ _ _ c.in-Err.ensures)
 
 pub returns-in-Err-put_last_line-clause-puts : goal.returns-in-Err-put_last_line-clause-puts
 returns-in-Err-put_last_line-clause-puts g c = λ standing at.

@@ -6,7 +6,7 @@ use Rattle.hyd_run.specs.Runs.{outcome_of}
 use Rattle.hyd_run.proofs.PenLemmas.{on_any}
 use Rattle.hyd_run.proofs.PeriodLemmas.{small-number}
 use Rattle.hyd_summarised_run.proofs.PenLemmas.{report-put}
-use Rattle.hyd_summarised_run.proofs.SumLemmas.{close-cut, is-whole, summary-cut}
+use Rattle.hyd_summarised_run.proofs.SumLemmas.{close-cut-off, is-whole, summary-cut-off}
 use Rattle.hyd_summarised_run.proofs.ending.put_ending.Goals as goal
 
 pub print_summary-requires-clause-sound : goal.print_summary-requires-clause-sound
@@ -17,7 +17,8 @@ print_summary-requires-clause-ready g c = on_any _ _ c.in-Ok.ensures.puts.unbrok
 
 pub returns-in-Err-clause-puts : goal.returns-in-Err-clause-puts
 returns-in-Err-clause-puts g c = λ ends start so_far.
-    rw c.requires.report (close-cut _ c.args.sim.now.settings (outcome_of c.args.ended.end) (standing_of c.args.sim.now)
+    rw c.requires.report (close-cut-off _ c.args.sim.now.settings (outcome_of c.args.ended.end) (standing_of
+    c.args.sim.now)
     c.args.ended.events c.number-records.result start _ c.number-records.ensures ends so_far c.in-Err.fault _
     (rw c.is_finished.ensures at c.in-Err.ensures.puts))
 
@@ -33,7 +34,8 @@ returns-in-Ok-print_summary-clause-puts g c = λ ends start so_far.
 
 pub returns-in-Err-print_summary-clause-puts : goal.returns-in-Err-print_summary-clause-puts
 returns-in-Err-print_summary-clause-puts g c = λ ends start so_far.
-    summary-cut _ c.args.sim.now.settings (outcome_of c.args.ended.end) (standing_of c.args.sim.now) c.args.ended.events
+    summary-cut-off _ c.args.sim.now.settings (outcome_of c.args.ended.end) (standing_of c.args.sim.now)
+    c.args.ended.events
     c.number-records.result start _ c.number-records.ensures ends so_far c.in-Err-print_summary.fault _ _
     (rw c.is_finished.ensures at c.in-Ok.ensures.puts) c.in-Ok.ensures.empty
     (report-put _ _ _ _ _ _ _ c.in-Ok.ensures.puts.unbroken

@@ -1,12 +1,12 @@
 -- The text, and then the number.
-use Rattle.hyd_io.proofs.PutLemmas.{puts_then, puts_cut, puts_ready}
+use Rattle.hyd_io.proofs.PutLemmas.{puts_then, puts_cut_off, puts_ready}
 use Rattle.hyd_summarised_run.proofs.summary.put_counted.Goals as goal
 
 pub put_number-requires : goal.put_number-requires
 put_number-requires g c = puts_ready _ _ _ _ _ _ c.in-Ok.ensures c.requires
 
 pub returns-in-Err : goal.returns-in-Err
-returns-in-Err g c = puts_cut _ _ c.in-Err.fault _ _ _ _ c.in-Err.ensures
+returns-in-Err g c = puts_cut_off _ _ c.in-Err.fault _ _ _ _ c.in-Err.ensures
 
 pub returns : goal.returns
 returns g c = puts_then _ _ _ _ _ _ _ _ _ c.in-Ok.ensures c.put_number.ensures

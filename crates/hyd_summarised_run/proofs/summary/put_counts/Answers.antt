@@ -1,5 +1,5 @@
 -- The pieces are the line.
-use Rattle.hyd_io.proofs.PutLemmas.{puts_then, puts_cut, puts_same, puts_ready}
+use Rattle.hyd_io.proofs.PutLemmas.{puts_then, puts_cut_off, puts_same, puts_ready}
 use Rattle.hyd_summarised_run.proofs.TextLemmas.{summary_is}
 use Rattle.hyd_summarised_run.proofs.summary.put_counts.Goals as goal
 
@@ -10,7 +10,7 @@ pub returns-in-Err : goal.returns-in-Err
 returns-in-Err g c =
     let counts = c.args.counts in
     puts_same _ _ _ _ _ _ _ (summary_is counts.junctions counts.links counts.periods counts.events)
-    (puts_cut _ _ c.in-Err.fault _ _ _ _ c.in-Err.ensures)
+    (puts_cut_off _ _ c.in-Err.fault _ _ _ _ c.in-Err.ensures)
 
 pub returns : goal.returns
 returns g c =

@@ -6,7 +6,7 @@ use Rattle.hyd_run.specs.Runs.{outcome_of}
 use Rattle.hyd_run.proofs.EndLemmas.{fresh-open}
 use Rattle.hyd_run.proofs.PenLemmas.{on_any}
 use Rattle.hyd_summarised_run.proofs.PenLemmas.{cert-put}
-use Rattle.hyd_summarised_run.proofs.SumLemmas.{begun, begun-cut, ending-sums}
+use Rattle.hyd_summarised_run.proofs.SumLemmas.{begun, begun-cut-off, ending-sums}
 use Rattle.hyd_summarised_run.proofs.whole_run.put_run.Goals as goal
 
 pub put_head-requires : goal.put_head-requires
@@ -22,7 +22,7 @@ put_ending-requires-clause-unbroken g c = c.in-Ok-put_steps.ensures.unbroken
 
 pub returns-in-Err-clause-puts : goal.returns-in-Err-clause-puts
 returns-in-Err-clause-puts g c =
-    begun-cut _ _ c.in-Err.fault _ _ _ (ap header_of c.row.ensures ∙ c.project-project.ensures.is_sim.header)
+    begun-cut-off _ _ c.in-Err.fault _ _ _ (ap header_of c.row.ensures ∙ c.project-project.ensures.is_sim.header)
     (cert-put _ _ _ _ _ _ _ (fresh-open _ _ _ c.requires.certificate c.requires.report c.requires.ready)
     c.in-Err.ensures)
 

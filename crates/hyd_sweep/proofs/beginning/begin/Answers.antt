@@ -7,8 +7,8 @@ use Rattle.std.proofs.lemmas.List.Edits.{map_over_more}
 use Rattle.hyd_spec.specs.Assignment.{head_at}
 use Rattle.hyd_spec_certificates.specs.SearchSteps.{IsStart}
 use Rattle.hyd_spec_reports.specs.Stops.{beginning}
-use Rattle.hyd_theorems_on_raises.proofs.Beginnings.{start-end}
-use Rattle.hyd_sweep.proofs.Ends.{filled, beginning-of}
+use Rattle.hyd_theorems_on_raises.proofs.Beginnings.{start-end, beginning-is}
+use Rattle.hyd_sweep.proofs.Ends.{filled}
 use Rattle.hyd_sweep.proofs.beginning.begin.Goals as goal
 
 pub loop-i-init : goal.loop-i-init
@@ -34,7 +34,7 @@ all-put c =
     let head = to_z w64 (of_z w64 c.near_end-end.result) in
     c.loop-i.invariant ∙ (ap (λ (n : ℕ). map (λ (x : ℤ). head) (take n xs) ++ drop n xs) whole
     ∙ (filled xs head ∙ (ap (replicate (length xs)) (kept ∙ c.near_end-end.ensures)
-    ∙ sym (beginning-of c.args.side (length xs)))))
+    ∙ sym (beginning-is c.args.side (length xs)))))
 
 pub returns-clause-heads : goal.returns-clause-heads
 returns-clause-heads c = all-put c

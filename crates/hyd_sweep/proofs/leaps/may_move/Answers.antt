@@ -9,8 +9,7 @@ use Rattle.hyd_spec_certificates.specs.Certificate.{Passes}
 use Rattle.hyd_spec_certificates.specs.SearchSteps.{Fails}
 use Rattle.hyd_spec_certificates.specs.PeriodNetwork.{GridJunction}
 use Rattle.hyd_period_network.specs.NetAsPeriodNetwork.{grid_of}
-use Rattle.hyd_lemmas.proofs.ListsAndOptions.{same_item}
-use Rattle.hyd_vector_check.proofs.Lookups.{junction-there}
+use Rattle.hyd_lemmas.proofs.ListsOptionsAndResults.{same_item, item_there}
 use Rattle.hyd_sweep.proofs.Values.{free-fails, fails-free, held-stays}
 use Rattle.hyd_sweep.proofs.Turns.{one-turn}
 use Rattle.hyd_sweep.proofs.leaps.may_move.Goals as goal
@@ -39,7 +38,7 @@ returns-in-Some c =
     let e = c.junctions-junctions.ensures.each in omega (arith, a, b, e)) in (
       (λ e. absurd (false≢true e)),
       (λ may. (
-          let at = junction-there grid.junctions i within in
+          let at = item_there grid.junctions i within in
           absurd (elim (may at.0 at.1) [
             | inl same ↦ false≢true (sym c.if-is_same.false ∙ c.is_same.ensures.1 (head ∙ (same ∙ sym from)))
             | inr fails ↦ held-stays held grid steady c.args.problem c.args.side c.args.u.now i c.requires.inside
@@ -73,7 +72,7 @@ returns-in-None c =
           subst (λ (j : GridJunction). Passes grid problem side heads i j)
           (same_item GridJunction junction other (sym at ∙ there)) passes)))))),
       (λ may. not-yes c.passes.result (λ yes. (
-          let at = junction-there grid.junctions i within in
+          let at = item_there grid.junctions i within in
           elim (may at.0 at.1) [
             | inl same ↦ false≢true (sym c.if-is_same.false ∙ c.is_same.ensures.1 (head ∙ (same ∙ sym from)))
             | inr fails ↦ fails-free held grid steady problem side u i c.requires.inside heads at.0 c.in-None.ensures

@@ -2,9 +2,9 @@ use Rattle.std.proofs.Common.{◌≡◌, ◌<◌, ◌∙◌, sym, w64, to_z, of_
 use Rattle.std.proofs.lemmas.Int.{ints}
 use Rattle.hyd_spec.specs.Assignment.{head_at}
 use Rattle.hyd_period_network.specs.NetAsPeriodNetwork.{grid_of}
-use Rattle.hyd_vector_check.proofs.Lookups.{junction-there}
 use Rattle.hyd_sweep.proofs.Values.{suits-there, free-suits, suits-free}
 use Rattle.hyd_sweep.proofs.rounds.suits.Goals as goal
+use Rattle.hyd_lemmas.proofs.ListsOptionsAndResults.{item_there}
 
 pub returns-in-Some : goal.returns-in-Some
 returns-in-Some c =
@@ -23,7 +23,7 @@ returns-in-Some c =
     let e = c.junctions-junctions.ensures.each in omega (arith, a, b, e)) in (
       (λ same junction at. (suits-there held grid steady c.args.problem c.args.side u i c.requires.inside
           c.in-Some.head u junction is).0 (sym here ∙ (c.is_same.ensures.0 same ∙ there-kept))),
-      (λ suits. c.is_same.ensures.1 (let at = junction-there grid.junctions i within in
+      (λ suits. c.is_same.ensures.1 (let at = item_there grid.junctions i within in
           here ∙ ((suits-there held grid steady c.args.problem c.args.side u i c.requires.inside c.in-Some.head u at.0
           is).1 (suits at.0 at.1) ∙ sym there-kept))),
     )

@@ -3,9 +3,10 @@ use Rattle.std.specs.Int.{w128, int_max}
 use Rattle.std.proofs.lemmas.Int.{ints, to_z-of_z}
 use Rattle.hyd_num.specs.Rational.{floor}
 use Rattle.hyd_tank.specs.Contents.{bounds_of, in_ticks}
-use Rattle.hyd_tank.proofs.Contents.{some_parts, floor_between}
+use Rattle.hyd_tank.proofs.Contents.{floor_between}
 use Rattle.hyd_tank.proofs.Ends.{floor_moved}
 use Rattle.hyd_tank.proofs.content.lower_content.Goals as goal
+use Rattle.hyd_theorems_on_definitions.proofs.Vessels.{some-area}
 
 pub returns-in-Some : goal.returns-in-Some
 returns-in-Some c =
@@ -23,7 +24,7 @@ moved_down-requires-clause-number c =
     let between = rw (b, p) at (c.in_default.ensures.between refl) in
     let e = rw (b, p) at c.floor.ensures in
     let range = floor_between (bounds_of c.args.bounds) (in_ticks c.args.breadth c.args.parts)
-    (some_parts c.args.breadth c.requires.breadth.at_least) between in
+    (some-area c.args.breadth c.requires.breadth.at_least) between in
     record { at_least = omega (arith, ints, e, range.0, range.1); at_most = omega (arith, ints, e, range.0, range.1) }
 
 pub returns : goal.returns

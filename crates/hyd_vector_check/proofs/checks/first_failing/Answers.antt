@@ -5,8 +5,7 @@ use Rattle.hyd_spec_certificates.specs.PeriodNetwork.{GridJunction}
 use Rattle.hyd_spec_certificates.specs.Certificate.{Passes, fails}
 use Rattle.hyd_period_network.specs.NetAsPeriodNetwork.{grid_of}
 use Rattle.hyd_vector_check.specs.NetOutflowBySide.{PassesAt}
-use Rattle.hyd_lemmas.proofs.ListsAndOptions.{same_item}
-use Rattle.hyd_vector_check.proofs.Lookups.{junction-there}
+use Rattle.hyd_lemmas.proofs.ListsOptionsAndResults.{same_item, item_there}
 use Rattle.hyd_vector_check.proofs.checks.first_failing.Goals as goal
 
 pub returns-then-not-passes-clause-some : goal.returns-then-not-passes-clause-some
@@ -15,7 +14,7 @@ returns-then-not-passes-clause-some c =
     let i = c.loop-i.i in
     let inside : i < length grid.junctions = (let a = c.loop-i-test.true in let b = c.junctions-i-end.ensures.each in
     let d = c.junctions-i-end.ensures.count in omega (arith, a, b, d)) in
-    let at = junction-there grid.junctions i inside in
+    let at = item_there grid.junctions i inside in
     fails at.0 c.requires.in_box at.1
     (λ suits. false≢true (sym c.if-not-passes.true ∙ c.passes.ensures.1 (λ other there.
     subst (λ (j : GridJunction). Passes grid c.args.problem c.args.side c.args.u.now i j)

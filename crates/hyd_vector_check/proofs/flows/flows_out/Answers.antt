@@ -8,7 +8,8 @@ use Rattle.hyd_spec_certificates.specs.PeriodNetwork.{all_heads}
 use Rattle.hyd_period_network.specs.declared.net_types.Tie.{Tie}
 use Rattle.hyd_period_network.specs.NetAsPeriodNetwork.{grid_of}
 use Rattle.hyd_period_network.specs.LinkEnds.{ties_share}
-use Rattle.hyd_vector_check.specs.NetOutflowBySide.{flow_by, is_lower, is_upper, flows_out}
+use Rattle.hyd_period_network.specs.NetInvariant.{is_upper}
+use Rattle.hyd_vector_check.specs.NetOutflowBySide.{flow_by, is_lower, flows_out}
 use Rattle.hyd_vector_check.proofs.flows.flows_out.Goals as goal
 
 pub overflow_add-sum : goal.overflow_add-sum

@@ -9,7 +9,7 @@ use Rattle.hyd_watched_levels.proofs.controls.acts.Goals as goal
 
 pub returns : goal.returns
 returns c =
-    c.holds.ensures
+    c.control_holds.ensures
     ∙ ap (λ (t : ℤ). is_yes (control_truth (levels_of c.level_at-level.result) c.args.above t))
     (to_z-of_z w64 c.args.ticks c.ranges.ticks)
     ∙ ap (λ (x : Interval). is_yes (control_truth x c.args.above c.args.ticks)) c.level_at-level.ensures

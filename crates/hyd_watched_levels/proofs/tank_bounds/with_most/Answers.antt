@@ -4,7 +4,7 @@ use Rattle.std.proofs.lemmas.Int.{ints}
 use Rattle.hyd_net.specs.NetworkRanges.{IsTank}
 use Rattle.hyd_spec.specs.ProgramTypes.{Tank}
 use Rattle.hyd_watched_levels.specs.Watched.{AreEnds}
-use Rattle.hyd_lemmas.proofs.ListsAndOptions.{item_is}
+use Rattle.hyd_lemmas.proofs.ListsOptionsAndResults.{item_is}
 use Rattle.hyd_watched_levels.proofs.Reaching.{each_is}
 use Rattle.hyd_watched_levels.proofs.Adding.{no_most, most_so}
 use Rattle.hyd_watched_levels.proofs.tank_bounds.with_most.Goals as goal

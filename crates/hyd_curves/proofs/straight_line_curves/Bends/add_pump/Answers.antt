@@ -10,8 +10,8 @@ use Rattle.hyd_text_rows.specs.FirstWrongRow.{rows_at}
 use Rattle.hyd_text_rows.proofs.FoundLemmas.{row_at}
 use Rattle.hyd_curves.specs.NamedStraightLineCurves.{IsSmallHead, pump_names}
 use Rattle.hyd_curves.specs.Points.{points_in}
-use Rattle.hyd_curves.proofs.BendRowLemmas.{other_pump, next_pump, as_before, with_one, pump_small, pump_is_right, many}
-use Rattle.hyd_curves.proofs.BendRowLemmas.{few}
+use Rattle.hyd_curves.proofs.BendRowLemmas.{other_pump, next_pump, as_before, with_one, pump_small, pump_is_right}
+use Rattle.hyd_curves.proofs.BendRowLemmas.{many_points, few}
 use Rattle.hyd_curves.proofs.straight_line_curves.Bends.add_pump.Goals as goal
 
 nothing : Line
@@ -63,7 +63,7 @@ add-requires-clause-small c =
     pump_small rows c.args.place row c.in-Ok.row.curve.now c.requires.with_others
     (row_at text lines c.args.place nothing c.requires.within) (sym c.is_pumps.ensures ∙ c.if-not-is_pumps.false)
     c.in-Ok.ensures.1.curve
-    (many c.named-points.result.now (curve_named rows c.in-Ok.row.curve.now) named c.if-points-lt4.false) in
+    (many_points c.named-points.result.now (curve_named rows c.in-Ok.row.curve.now) named c.if-points-lt4.false) in
     let same : head_points c.args.unit (is_us_unit c.args.unit) (points_in c.named-points.result.now)
     ≡ bend_points rows c.in-Ok.row.curve.now = rw (c.requires.unit, named) refl in
     subst (All IsSmallHead) (sym same) small
@@ -83,5 +83,5 @@ returns c =
     (next_pump rows c.args.place row c.in-Ok.row.curve.now true
     (row_at text lines c.args.place nothing c.requires.within) (sym c.is_pumps.ensures ∙ c.if-not-is_pumps.false)
     c.in-Ok.ensures.1.curve
-    (many c.named-points.result.now (curve_named rows c.in-Ok.row.curve.now) named c.if-points-lt4.false))
+    (many_points c.named-points.result.now (curve_named rows c.in-Ok.row.curve.now) named c.if-points-lt4.false))
     c.in_ok-add.ensures.names (c.in_ok-add.ensures.lists rows c.requires.bends.lists same)

@@ -1,5 +1,6 @@
 use Rattle.std.proofs.Common.{◌≡◌, ◌≤◌, ◌*◌, ◌^◌, ◌+◌, length, pos, to_z, of_z, w64, ◌+ℤ◌, ◌*ℤ◌, ap, subst, arith, ◌∙◌}
 use Rattle.std.proofs.lemmas.Int.{ints}
+use Rattle.hyd_spec.specs.Scale.{missed_flow_ticks}
 use Rattle.hyd_period_network.specs.NetView.{NetView}
 use Rattle.hyd_period_network.specs.NetInvariant.{IsSoundNet}
 use Rattle.hyd_period_network.specs.LinkEnds.{ties_from}
@@ -31,7 +32,7 @@ overflow_mul-result c = let s = small c in omega (arith, ints, s)
 pub returns : goal.returns
 returns c =
     let s = small c in
-    let same : to_z w64 (of_z w64 (to_z w64 (of_z w64 (to_z w64 c.len.result +ℤ pos 3)) *ℤ pos 10))
-    ≡ pos ((c.len.result + 3) * 10) = omega (arith, ints, s) in
+    let same : to_z w64 (of_z w64 (to_z w64 (of_z w64 (to_z w64 c.len.result +ℤ pos 3)) *ℤ pos missed_flow_ticks))
+    ≡ pos ((c.len.result + 3) * missed_flow_ticks) = omega (arith, ints, s) in
     margin_is c.args.self.now c.args.junction c.len.result _ (subst IsSoundNet c.self.view_is c.self.invariant.0)
     (count_is c ∙ ap (λ (n : NetView). length (ties_from c.args.junction 0 n.ends)) c.self.view_is) same
