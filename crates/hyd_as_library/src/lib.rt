@@ -3,7 +3,7 @@
 #![tactic(auto)]
 
 ghost use Rattle.std.specs.Prelude.{◌≡◌, ◌≢◌, ◌⊎◌, ℕ, List, Some, None, IsTrue, IsFalse, IfOk, IfErr, OnOk, IsErrOf};
-ghost use Rattle.hyd_net.specs.Sound.{Sound};
+ghost use Rattle.hyd_net.specs.Sound.{IsSound};
 ghost use Rattle.hyd_io.specs.FailureCounts.{with_opened, with_created};
 ghost use Rattle.hyd_io.specs.MemoryView.{memory};
 ghost use Rattle.hyd_spec_certificates.specs.RecordAndStanding.{initial_standing};
@@ -177,7 +177,7 @@ pub fn run_at(alloc: Global, sim: &mut Sim, desk: &mut MemDesk) -> Result<RunEnd
 
 /// A record for the certificates of a network.
 fn record_for(alloc: Global, project: &Project) -> Result<Record, OutOfMemory>
-    requires { Sound project.now }
+    requires { IsSound project.now }
     ensures { IfOk result (λ row. header_of row ≡ header_for project.now) }
 {
     let junctions = project.junctions.len() as u32;

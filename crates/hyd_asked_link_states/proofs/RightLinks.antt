@@ -9,7 +9,7 @@ use Rattle.hyd_spec_input.specs.SingleRows.{IsWrongByItself}
 use Rattle.hyd_spec_input.specs.Faults.{NoneIs}
 use Rattle.hyd_spec_input.specs.Tables.{place, is_link, link_rows, link_named}
 use Rattle.hyd_theorems_on_input.proofs.Names.{named_stands}
-use Rattle.hyd_theorems_on_input.proofs.Places.{kept_stands, kept_passes}
+use Rattle.hyd_theorems_on_input.proofs.ListsByPlace.{kept_stands, kept_passes}
 use Rattle.hyd_asked_link_states.specs.AskedLinks.{IsRightLink}
 use Rattle.hyd_theorems_on_input.proofs.Faultless.{none_from}
 

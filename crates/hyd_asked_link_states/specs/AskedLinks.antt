@@ -20,7 +20,7 @@ use Rattle.hyd_net.specs.declared.refusal_cause.Cause.{Cause}
 use Rattle.hyd_net.specs.declared.refusal_cause.Cause.TheVariants.{Syntax, Range, Unsupported}
 use Rattle.hyd_net.specs.declared.links.LinkState.{LinkState}
 use Rattle.hyd_net.specs.declared.links.LinkState.TheVariants.{Open, Speed, Throttle}
-use Rattle.hyd_text_rows.specs.QuantityRanges.{flow_fault}
+use Rattle.hyd_rows_and_tables.specs.QuantityRanges.{flow_fault}
 use Rattle.hyd_asked_link_states.specs.declared.link_types.LinkType.{LinkType}
 use Rattle.hyd_asked_link_states.specs.declared.link_types.LinkType.TheVariants.{Pipe, CheckPipe, Pump, Tcv, Fcv, Gpv}
 

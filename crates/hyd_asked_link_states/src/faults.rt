@@ -15,7 +15,7 @@ use hyd_net::Cause;
 use hyd_net::ranges::{GREATEST_COEFFICIENT, GREATEST_SPEED};
 use hyd_num::{Decimal, FlowUnit};
 use hyd_option_and_rule_lines::Asked;
-use hyd_text_rows::flow_fault;
+use hyd_rows_and_tables::flow_fault;
 
 // Range of a speed that isn't from 0 to 10.
 fn speed_fault(number: Decimal) -> Option<Cause>

@@ -4,10 +4,10 @@
 
 mod faults;
 mod link_types;
-mod settings;
+mod states_and_valve_laws;
 
 pub use faults::state_fault;
 pub use link_types::{LinkType, link_type};
-pub use settings::{
+pub use states_and_valve_laws::{
     is_refused, is_refused_valve, limit_state, link_state, speed_state, throttle_state, valve_law,
 };

@@ -1,6 +1,6 @@
-pub mod Flowing
-pub mod Inflowing
-pub mod Leaving
-pub mod Wording
-pub mod Holding
+pub mod FlowBoxes
+pub mod InflowsInOrder
+pub mod OutflowBoxes
+pub mod StatusWordByOwnLaw
+pub mod FlowsInSpans
 pub mod Pinned

@@ -12,11 +12,11 @@ use Rattle.hyd_spec_certificates.specs.declared.Side.TheVariants.{Upper, Lower}
 use Rattle.hyd_spec_certificates.specs.Interval.{Interval, exactly, width}
 use Rattle.hyd_spec_certificates.specs.PeriodNetwork.{Grid, end_on, opposite, tank_side, all_heads, fixed_heads}
 use Rattle.hyd_spec_certificates.specs.Certificate.{IsCertificate}
-use Rattle.hyd_theorems_on_definitions.specs.TermsOfTheorems.{IsSteady}
+use Rattle.hyd_theorems_on_definitions.specs.TermsOfTheorems.{IsSteady, TanksInOrder}
 use Rattle.hyd_num.proofs.Integers.{one_times}
 use Rattle.hyd_theorems_on_nesting.proofs.TwoSides.{heads_below_plus}
 use Rattle.hyd_vector_check.specs.ComparisonPrinciple.{FixedWithin}
-use Rattle.hyd_bounds.specs.VectorsInOrder.{AreInOrder, TanksInOrder, tank_width}
+use Rattle.hyd_bounds.specs.VectorsInOrder.{AreInOrder, tank_width}
 
 -- the ends of tanks from number k on, with tank p pinned
 abbrev ends : Side → ℕ → ℕ → List Interval → List ℤ

@@ -1,5 +1,5 @@
 -- What bounds are between: vectors below and above.
-use Rattle.std.specs.Prelude.{◌≡◌, ℕ, ◌+◌, ℤ, pos, ◌+ℤ◌, ◌≤ℤ◌, List, length, All, Some, slice_get, slice_index_or}
+use Rattle.std.specs.Prelude.{◌≡◌, ℕ, ◌+◌, ℤ, pos, ◌+ℤ◌, ◌≤ℤ◌, List, length, All, slice_index_or}
 use Rattle.hyd_num.specs.declared.decimals.Span.{Span}
 use Rattle.hyd_spec.specs.Assignment.{head_at}
 use Rattle.hyd_spec_certificates.specs.Interval.{Interval, exactly, width}
@@ -20,10 +20,6 @@ pub record IsVector (net : NetView) (u : List ℤ) : Type 0 where
 -- each head below is at most the one above it and t more
 abbrev pub AreInOrder : ℤ → List ℤ → List ℤ → Type 0
 AreInOrder t below above = (node : ℕ) → head_at below node ≤ℤ (head_at above node +ℤ t)
-
--- each tank's interval is in order
-abbrev pub TanksInOrder : Grid → Type 0
-TanksInOrder grid = (k : ℕ) (x : Interval) → slice_get grid.tanks k ≡ Some x → x.lo ≤ℤ x.hi
 
 -- how far the interval of a tank is wide
 abbrev pub tank_width : Grid → ℕ → ℤ

@@ -17,7 +17,7 @@ ghost use Rattle.hyd_spec_certificates.specs.FlowIntervals.{difference};
 ghost use Rattle.hyd_spec_reports.specs.Report.{by_drive, by_setting, status_of};
 ghost use Rattle.hyd_period_network.specs.ExactLaw.{exact_law, one_way_law};
 ghost use Rattle.hyd_period_network.specs.NetAsPeriodNetwork.{grid_of, states_of, own_laws};
-ghost use Rattle.hyd_law.specs.Curves.{IsCurve};
+ghost use Rattle.hyd_law.specs.KnotsOfStraightLines.{IsCurve};
 ghost use Rattle.hyd_law.specs.ComposedLaws.{IsDifference, IsLift};
 ghost use Rattle.hyd_law.specs.LinkLaws.{IsSoundLink, LinkAccepts};
 ghost use Rattle.hyd_law.specs.declared.link_law.LinkLaw.TheVariants.{Pump, Bent as BentLaw};

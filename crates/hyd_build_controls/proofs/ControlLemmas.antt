@@ -30,11 +30,11 @@ use Rattle.hyd_spec_input.specs.Tables.{is_of, rows_of, words_of, words_of_row, 
 use Rattle.hyd_spec_input.specs.Tables.{allows_link}
 use Rattle.hyd_spec_input.specs.RowsTogether as others
 use Rattle.hyd_theorems_on_input.proofs.Faultless.{or_none, all_none, unless_none, needed_none, section_is, none_from}
-use Rattle.hyd_theorems_on_input.proofs.Points.{is_head_lies}
-use Rattle.hyd_text_rows.proofs.FoundLemmas.{filter_more, filter_same}
+use Rattle.hyd_theorems_on_input.proofs.CurvePoints.{is_head_lies}
+use Rattle.hyd_rows_and_tables.proofs.FoundLemmas.{filter_more, filter_same}
 use Rattle.hyd_build_controls.specs.Controls.{IsRightWhen, AreControls}
 use Rattle.hyd_build_controls.specs.CheckedRows.{IsRightControl}
-use Rattle.hyd_theorems_on_input.proofs.Matching.{match_push}
+use Rattle.hyd_theorems_on_input.proofs.MatchedLists.{match_push}
 use Rattle.hyd_build_controls.proofs.NumberLemmas.{tank_numbered}
 
 -- ---- a name that is known

@@ -14,7 +14,7 @@ use Rattle.hyd_theorems_on_input.proofs.Names.{First, Second, Third, one_of_thre
 use Rattle.hyd_theorems_on_input.proofs.Names.{link_ids_are}
 use Rattle.hyd_theorems_on_input.proofs.Names.{tank_ids_are}
 use Rattle.hyd_theorems_on_input.proofs.Occurs.{occurs_at, has_number}
-use Rattle.hyd_theorems_on_input.proofs.Places.{Stands, kept_stands, kept_passes}
+use Rattle.hyd_theorems_on_input.proofs.ListsByPlace.{Stands, kept_stands, kept_passes}
 
 -- ---- items that a filter keeps, and of two lists
 

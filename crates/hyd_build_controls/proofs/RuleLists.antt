@@ -14,7 +14,7 @@ use Rattle.hyd_spec_input.specs.Tables.{is_of, words_of}
 use Rattle.hyd_spec_input.specs.declared.Stage.{Stage}
 use Rattle.hyd_spec_input.specs.declared.Stage.TheVariants.{Named, Outside}
 use Rattle.hyd_theorems_on_input.proofs.RuleLines.{rule_is}
-use Rattle.hyd_theorems_on_input.proofs.Matching.{match_push}
+use Rattle.hyd_theorems_on_input.proofs.MatchedLists.{match_push}
 use Rattle.hyd_judge_single_rows.proofs.StageLemmas.{next_stage}
 use Rattle.hyd_build_controls.specs.Rules.{lines_from, rest_of_rule, stage_at, AreParts, AreRules}
 

@@ -10,18 +10,18 @@ ghost use Rattle.hyd_spec_input.specs.InForce as force;
 ghost use Rattle.hyd_spec_input.specs.MeaningsAcrossRows.{link_ids};
 ghost use Rattle.hyd_spec_input.specs.Project.{IsAction};
 ghost use Rattle.hyd_spec_input.specs.Tables.{link_rows};
-ghost use Rattle.hyd_text_rows.specs.FirstWrongRow.{rows_at};
-ghost use Rattle.hyd_text_rows.specs.IdTables.{IsTable};
+ghost use Rattle.hyd_rows_and_tables.specs.FirstWrongRow.{rows_at};
+ghost use Rattle.hyd_rows_and_tables.specs.IdTables.{IsTable};
 ghost use Rattle.hyd_build_controls.specs.CheckedRows.{IsRightAction};
 
-use crate::numbering::number_of;
+use crate::name_numbers_and_ticks::number_of;
 use hyd_asked_link_states::link_state;
 use hyd_lex::{Line, Lines};
 use hyd_net::{Action, LinkState, Names};
 use hyd_num::FlowUnit;
 use hyd_option_and_rule_lines::asked_at;
 use hyd_row_words::or_empty;
-use hyd_text_rows::Table;
+use hyd_rows_and_tables::Table;
 
 // What stands for an action of a file with a fault.
 const NO_ACTION: Action = Action {

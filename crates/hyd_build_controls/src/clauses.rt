@@ -17,7 +17,7 @@ ghost use Rattle.hyd_spec_input.specs.RuleRows.{begins_with};
 ghost use Rattle.hyd_build_controls.specs.Values.{is_quantity, IsAmountOf};
 ghost use Rattle.hyd_build_controls.specs.Clauses.{HasNumber, IsOfAttribute};
 
-use crate::numbering::number_of;
+use crate::name_numbers_and_ticks::number_of;
 use crate::values::{quantity_value, time_value};
 use hyd_lex::{Line, Lines};
 use hyd_net::{Clause, Joined, Names, RuleClause, Value, What};

@@ -13,18 +13,18 @@ ghost use Rattle.hyd_spec_input.specs.InForce as force;
 ghost use Rattle.hyd_spec_input.specs.MeaningsAcrossRows.{tank_ids, link_ids};
 ghost use Rattle.hyd_spec_input.specs.Project.{Match, IsControl, IsWhen};
 ghost use Rattle.hyd_spec_input.specs.Tables.{is_of, words_of, link_rows};
-ghost use Rattle.hyd_text_rows.specs.FirstWrongRow.{rows_at};
-ghost use Rattle.hyd_text_rows.specs.IdTables.{IsTable};
+ghost use Rattle.hyd_rows_and_tables.specs.FirstWrongRow.{rows_at};
+ghost use Rattle.hyd_rows_and_tables.specs.IdTables.{IsTable};
 ghost use Rattle.hyd_build_controls.specs.Controls.{IsRightWhen, AreControls};
 
-use crate::numbering::{level_ticks, number_of};
+use crate::name_numbers_and_ticks::{level_ticks, number_of};
 use hyd_asked_link_states::link_state;
 use hyd_lex::{Line, Lines};
 use hyd_net::{Control, LinkState, List, Names, OutOfMemory, When};
 use hyd_num::FlowUnit;
 use hyd_option_and_rule_lines::{WhenLine, read_control};
 use hyd_row_words::or_empty;
-use hyd_text_rows::{Table, is_controls};
+use hyd_rows_and_tables::{Table, is_controls};
 use std::alloc::Global;
 
 // What stands for a control of a file with a fault.

@@ -4,7 +4,7 @@
 mod actions;
 mod clauses;
 mod controls;
-mod numbering;
+mod name_numbers_and_ticks;
 mod rule_parts;
 mod rules;
 mod values;

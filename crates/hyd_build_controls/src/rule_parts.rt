@@ -19,8 +19,8 @@ ghost use Rattle.hyd_spec_input.specs.RuleRows.{begins_with};
 ghost use Rattle.hyd_spec_input.specs.Project.{Match, IsClause, IsAction};
 ghost use Rattle.hyd_spec_input.specs.Tables.{link_rows};
 ghost use Rattle.hyd_spec_input.specs.declared.Stage.TheVariants.{Named};
-ghost use Rattle.hyd_text_rows.specs.FirstWrongRow.{rows_at};
-ghost use Rattle.hyd_text_rows.specs.IdTables.{IsTable};
+ghost use Rattle.hyd_rows_and_tables.specs.FirstWrongRow.{rows_at};
+ghost use Rattle.hyd_rows_and_tables.specs.IdTables.{IsTable};
 ghost use Rattle.hyd_build_controls.specs.Rules as rules;
 ghost use Rattle.hyd_build_controls.specs.Rules.{is_clause_word, IsRightClause, rest_of_rule, stage_at};
 
@@ -34,8 +34,8 @@ use hyd_net::{
 use hyd_num::FlowUnit;
 use hyd_option_and_rule_lines::{ClauseLine, RuleLine, read_rule_line};
 use hyd_row_words::number;
+use hyd_rows_and_tables::Table;
 use hyd_spec_input::{RuleWord, Stage};
-use hyd_text_rows::Table;
 use std::alloc::Global;
 
 /// The actions of a rule where its clauses hold, or where they don't.

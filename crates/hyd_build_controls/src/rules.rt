@@ -11,8 +11,8 @@ ghost use Rattle.hyd_spec_input.specs.InForce as force;
 ghost use Rattle.hyd_spec_input.specs.MeaningsAcrossRows.{node_ids, tank_ids, link_ids, rule_groups};
 ghost use Rattle.hyd_spec_input.specs.Project.{Match, IsRule};
 ghost use Rattle.hyd_spec_input.specs.Tables.{words_of, link_rows};
-ghost use Rattle.hyd_text_rows.specs.FirstWrongRow.{rows_at};
-ghost use Rattle.hyd_text_rows.specs.IdTables.{IsTable};
+ghost use Rattle.hyd_rows_and_tables.specs.FirstWrongRow.{rows_at};
+ghost use Rattle.hyd_rows_and_tables.specs.IdTables.{IsTable};
 ghost use Rattle.hyd_build_controls.specs.Rules.{NamesRule, AreRules, rest_of_rule};
 
 use crate::rule_parts::{Branch, actions_of, clauses_of, priority_of};
@@ -21,7 +21,7 @@ use hyd_lex::{Line, Lines};
 use hyd_net::{List, Names, OutOfMemory, Rule};
 use hyd_num::FlowUnit;
 use hyd_row_words::or_empty;
-use hyd_text_rows::Table;
+use hyd_rows_and_tables::Table;
 use std::alloc::Global;
 
 fn bytes_of(alloc: Global, word: &[u8]) -> Result<List<u8>, OutOfMemory>

@@ -17,7 +17,7 @@ use Rattle.hyd_spec_input.specs.Moments.{moment_word, unit_word, time_nano, time
 use Rattle.hyd_spec_input.specs.OptionRows.{demand_words, demand_value, demand_line, step_line, step_or_start_line}
 use Rattle.hyd_spec_input.specs.OptionRows.{start_line}
 use Rattle.hyd_spec_input.specs.Tables.{rows_of}
-use Rattle.hyd_text_rows.specs.FirstWrongRow.{rows_at, row_in}
+use Rattle.hyd_rows_and_tables.specs.FirstWrongRow.{rows_at, row_in}
 use Rattle.hyd_theorems_on_input.proofs.Faultless.{AreRight, right_alone, or_none, all_none, unless_none, needed_none}
 use Rattle.hyd_theorems_on_input.proofs.InForce.{IsInForce, in_force}
 use Rattle.hyd_build_ids_and_options.specs.InForce.{GivesTime}

@@ -14,40 +14,13 @@ use Rattle.hyd_spec_lines.specs.declared.section.Section.TheVariants.{Junctions,
 use Rattle.hyd_spec_lines.specs.declared.section.Section.TheVariants.{Valves}
 use Rattle.hyd_spec_input.specs.MeaningsAcrossRows.{is_among, new_names, node_ids, tank_ids, link_ids}
 use Rattle.hyd_spec_input.specs.Tables.{is_of, rows_of, own_id}
-use Rattle.hyd_text_rows.proofs.FoundLemmas.{filter_more, filter_same}
-use Rattle.hyd_lemmas.proofs.Trials.{or-turned}
+use Rattle.hyd_rows_and_tables.proofs.FoundLemmas.{filter_more, filter_same}
 use Rattle.hyd_theorems_on_input.proofs.Occurs.{itself, when, occurs, occurs_append, Once}
 use Rattle.hyd_theorems_on_input.proofs.Faultless.{AreRight}
 use Rattle.hyd_theorems_on_input.proofs.Names.{own_ids, node_ids_are, link_ids_are, tank_ids_are, nodes_once, among_is}
-use Rattle.hyd_theorems_on_input.proofs.Names.{links_once}
+use Rattle.hyd_theorems_on_input.proofs.Names.{links_once, and_name, one_more}
 
 -- ---- one name more
-
--- a name that isn't there is appended
-abbrev pub with_name : Bool → List (List ℕ) → List ℕ → List (List ℕ)
-with_name true names name = names
-with_name false names name = names ++ name ∷ []
-
-with_first : (b : Bool) (id name : List ℕ) (names : List (List ℕ))
-    → id ∷ with_name b names name ≡ with_name b (id ∷ names) name
-with_first true id name names = refl
-with_first false id name names = refl
-
-pub one_more : (name : List ℕ) (seen names : List (List ℕ))
-    → new_names seen (names ++ name ∷ []) ≡ with_name (is_among name seen || is_among name (new_names seen names))
-    (new_names seen names) name
-one_more name seen [] = elim (cases_Bool (is_among name seen)) [
-  | inl t ↦ rw t refl
-  | inr f ↦ rw f refl
-]
-one_more name seen (id ∷ ids) = elim (cases_Bool (is_among id seen)) [
-  | inl t ↦ rw t (one_more name seen ids)
-  | inr f ↦ rw f (ap (λ more. id ∷ more) (one_more name (id ∷ seen) ids)
-      ∙ with_first (is_among name (id ∷ seen) || is_among name (new_names (id ∷ seen) ids)) id name (new_names
-      (id ∷ seen) ids)
-      ∙ ap (λ b. with_name b (id ∷ new_names (id ∷ seen) ids) name)
-      (or-turned (bytes_eq name id) (is_among name seen) (is_among name (new_names (id ∷ seen) ids))))
-]
 
 both_in_turn : (a b c : Bool) → (a || (b || c)) ≡ ((a || b) || c)
 both_in_turn true b c = refl
@@ -60,7 +33,7 @@ among_both name (x ∷ xs) ys = ap (λ b. bytes_eq name x || b) (among_both name
 
 -- what an added name tells
 new_or_old : (name : List ℕ) (ids : List (List ℕ)) (added : Bool) → ((added ≡ false) ↔ Contains ids name)
-    → (b : Bool) → is_among name ids ≡ b → (if added then ids ++ name ∷ [] else ids) ≡ with_name b ids name
+    → (b : Bool) → is_among name ids ≡ b → (if added then ids ++ name ∷ [] else ids) ≡ and_name b ids name
 new_or_old name ids added present true e =
     let old : added ≡ false = present.1 (Contains-from_any (λ x y h. (bytes_decides x y).0 h) name ids (sym
     (among_is name ids) ∙ e)) in
@@ -71,7 +44,7 @@ new_or_old name ids false present false e =
     ∙ sym (among_is name ids) ∙ e))
 
 with_append : (b : Bool) (before names : List (List ℕ)) (name : List ℕ)
-    → with_name b (before ++ names) name ≡ before ++ with_name b names name
+    → and_name b (before ++ names) name ≡ before ++ and_name b names name
 with_append true before names name = refl
 with_append false before names name = append_assoc before names (name ∷ [])
 
@@ -82,7 +55,7 @@ added_more : (name : List ℕ) (before names ids after : List (List ℕ)) (added
 added_more name before names ids after added present is e =
     let b : Bool = is_among name before || is_among name (new_names before names) in
     let there : is_among name ids ≡ b = ap (is_among name) is ∙ among_both name before (new_names before names) in
-    e ∙ new_or_old name ids added present b there ∙ ap (λ xs. with_name b xs name) is
+    e ∙ new_or_old name ids added present b there ∙ ap (λ xs. and_name b xs name) is
     ∙ with_append b before (new_names before names) name ∙ sym (ap (λ xs. before ++ xs) (one_more name before names))
 
 -- ---- the IDs of a section, one row further

@@ -22,13 +22,13 @@ use Rattle.hyd_spec_input.specs.MeaningsAcrossRows.{is_among, new_names, number_
 use Rattle.hyd_spec_input.specs.Project.{Match, IsPattern}
 use Rattle.hyd_spec_input.specs.Tables.{is_of, own_id, rows_of, rows_with, row_multipliers, pattern_named, words_of}
 use Rattle.hyd_theorems_on_input.proofs.Faultless.{section_is}
-use Rattle.hyd_text_rows.proofs.FoundLemmas.{filter_more, filter_same}
+use Rattle.hyd_rows_and_tables.proofs.FoundLemmas.{filter_more, filter_same}
 use Rattle.hyd_theorems_on_input.proofs.Occurs.{same_name, itself, other_name, when, occurs, Once, occurs_at}
 use Rattle.hyd_theorems_on_input.proofs.Occurs.{names_once}
 use Rattle.hyd_theorems_on_input.proofs.Occurs.{has_number}
-use Rattle.hyd_theorems_on_input.proofs.Places.{split_at}
+use Rattle.hyd_theorems_on_input.proofs.ListsByPlace.{split_at}
+use Rattle.hyd_theorems_on_input.proofs.Names.{and_name, one_more}
 use Rattle.hyd_build_ids_and_options.specs.PatternsSoFar.{each, ids_of, given, all_given, AreFilled, opened}
-use Rattle.hyd_build_ids_and_options.proofs.NameLemmas.{with_name, one_more}
 
 -- ---- the list of one pattern is written
 
@@ -174,7 +174,7 @@ record Opened (rows : List Row) (row : Row) (n : ℕ) : Type 0 where
   at : At (own_id row) (ids_of (rows ++ row ∷ [])) n
 
 abbrev names_with : List Row → Row → List (List ℕ)
-names_with rows row = with_name (is_among (own_id row) (ids_of rows)) (ids_of rows) (own_id row)
+names_with rows row = and_name (is_among (own_id row) (ids_of rows)) (ids_of rows) (own_id row)
 
 ids_more : (rows : List Row) (row : Row) → ids_of (rows ++ row ∷ []) ≡ names_with rows row
 ids_more rows row = ap (new_names []) (map-append own_id rows (row ∷ [])) ∙ one_more (own_id row) [] (map own_id rows)

@@ -8,9 +8,9 @@ use Rattle.hyd_spec_input.specs.SingleRows as itself
 use Rattle.hyd_spec_input.specs.SingleRows.{IsWrongByItself}
 use Rattle.hyd_spec_input.specs.RowsTogether as others
 use Rattle.hyd_spec_input.specs.Faults.{NoneIs, IsWrongWithOthers}
-use Rattle.hyd_text_rows.specs.FirstWrongRow.{rows_at}
+use Rattle.hyd_rows_and_tables.specs.FirstWrongRow.{rows_at}
 use Rattle.hyd_theorems_on_input.proofs.Faultless.{AreRight, none_from}
-use Rattle.hyd_theorems_on_input.proofs.Places.{source}
+use Rattle.hyd_theorems_on_input.proofs.ListsByPlace.{source}
 use Rattle.hyd_theorems_on_input.proofs.NoEmptyWords.{no_empty_word}
 
 words_of_line : (text : List ℕ) (lines : List Line) (k : ℕ) (row : Row) → slice_get (rows_at text lines) k ≡ Some row

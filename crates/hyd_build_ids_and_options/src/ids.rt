@@ -10,11 +10,11 @@ ghost use Rattle.hyd_spec_input.specs.MeaningsAcrossRows as across;
 ghost use Rattle.hyd_spec_input.specs.MeaningsAcrossRows.{new_names};
 ghost use Rattle.hyd_spec_input.specs.Tables as table;
 ghost use Rattle.hyd_spec_input.specs.Tables.{rows_of};
-ghost use Rattle.hyd_text_rows.specs.FirstWrongRow.{rows_at};
+ghost use Rattle.hyd_rows_and_tables.specs.FirstWrongRow.{rows_at};
 
 use hyd_lex::{Line, Lines, Section};
 use hyd_net::{Names, OutOfMemory};
-use hyd_text_rows::own_id;
+use hyd_rows_and_tables::own_id;
 use std::alloc::Global;
 
 // The place of a section in the list of them all.

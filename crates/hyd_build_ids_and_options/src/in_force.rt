@@ -7,7 +7,7 @@ ghost use Rattle.hyd_spec_lines.specs.WordsOfLines.{text_of};
 ghost use Rattle.hyd_spec_lines.specs.Lines.{LiesIn, row_of};
 ghost use Rattle.hyd_spec_input.specs.InForce.{last_where};
 ghost use Rattle.hyd_spec_input.specs.Tables.{rows_of};
-ghost use Rattle.hyd_text_rows.specs.FirstWrongRow.{rows_at, row_in};
+ghost use Rattle.hyd_rows_and_tables.specs.FirstWrongRow.{rows_at, row_in};
 ghost use Rattle.hyd_build_ids_and_options.specs.InForce as force;
 
 use crate::ids::is_of;

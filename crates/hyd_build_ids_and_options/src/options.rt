@@ -11,7 +11,7 @@ ghost use Rattle.hyd_spec_input.specs.Columns as column;
 ghost use Rattle.hyd_spec_input.specs.InForce as force;
 ghost use Rattle.hyd_spec_input.specs.MeaningsAcrossRows as across;
 ghost use Rattle.hyd_spec_input.specs.Project.{IsOptions};
-ghost use Rattle.hyd_text_rows.specs.FirstWrongRow.{rows_at, row_in};
+ghost use Rattle.hyd_rows_and_tables.specs.FirstWrongRow.{rows_at, row_in};
 
 use crate::in_force::last_line;
 use hyd_lex::{Line, Lines, Section};

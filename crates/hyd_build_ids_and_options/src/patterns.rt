@@ -13,7 +13,7 @@ ghost use Rattle.hyd_spec_input.specs.DemandCurveAndStatusRows as row;
 ghost use Rattle.hyd_spec_input.specs.Faults.{NoneIs, IsWrongWithOthers};
 ghost use Rattle.hyd_spec_input.specs.MeaningsAcrossRows as across;
 ghost use Rattle.hyd_spec_input.specs.Project.{Match, IsPattern};
-ghost use Rattle.hyd_text_rows.specs.FirstWrongRow.{rows_at};
+ghost use Rattle.hyd_rows_and_tables.specs.FirstWrongRow.{rows_at};
 ghost use Rattle.hyd_build_ids_and_options.specs.PatternsSoFar.{each, opened, AreFilled};
 
 use crate::ids::is_of;

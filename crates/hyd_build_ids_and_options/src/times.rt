@@ -10,7 +10,7 @@ ghost use Rattle.hyd_spec_input.specs.Faults.{NoneIs, IsWrongWithOthers};
 ghost use Rattle.hyd_spec_input.specs.InForce as force;
 ghost use Rattle.hyd_spec_input.specs.Moments as moment;
 ghost use Rattle.hyd_spec_input.specs.Project.{IsTimes};
-ghost use Rattle.hyd_text_rows.specs.FirstWrongRow.{rows_at, row_in};
+ghost use Rattle.hyd_rows_and_tables.specs.FirstWrongRow.{rows_at, row_in};
 ghost use Rattle.hyd_build_ids_and_options.specs.InForce.{GivesTime};
 
 use crate::in_force::last_line;

@@ -9,11 +9,11 @@ use Rattle.hyd_spec_lines.specs.declared.section.Section.TheVariants.{Pipes, Pum
 use Rattle.hyd_net.specs.declared.links.Link.{Link}
 use Rattle.hyd_spec_input.specs.Project.{IsLink, Match}
 use Rattle.hyd_spec_input.specs.Tables.{place, is_of, is_link, rows_of}
-use Rattle.hyd_text_rows.specs.FirstWrongRow.{rows_at}
-use Rattle.hyd_text_rows.proofs.FoundLemmas.{filter_more, filter_same}
-use Rattle.hyd_text_rows.proofs.SectionLemmas.{all_rows}
+use Rattle.hyd_rows_and_tables.specs.FirstWrongRow.{rows_at}
+use Rattle.hyd_rows_and_tables.proofs.FoundLemmas.{filter_more, filter_same}
+use Rattle.hyd_rows_and_tables.proofs.SectionLemmas.{all_rows}
 use Rattle.hyd_build_links.specs.Built.{AreBuilt}
-use Rattle.hyd_theorems_on_input.proofs.Matching.{match_push}
+use Rattle.hyd_theorems_on_input.proofs.MatchedLists.{match_push}
 use Rattle.hyd_asked_link_states.specs.AskedLinks.{is_link_section}
 
 -- ---- sections

@@ -21,9 +21,9 @@ use Rattle.hyd_theorems_on_input.proofs.Faultless.{AreRight}
 use Rattle.hyd_theorems_on_input.proofs.Names.{First, Second, Third, one_of_three, node_ids_are, own_ids, row_named}
 use Rattle.hyd_theorems_on_input.proofs.Names.{link_new, named_stands}
 use Rattle.hyd_theorems_on_input.proofs.Occurs.{itself, occurs, occurs_append, occurs_at, has_number, kept_once}
-use Rattle.hyd_theorems_on_input.proofs.Places.{kept_stands, kept_passes}
-use Rattle.hyd_text_rows.specs.FirstWrongRow.{rows_at}
-use Rattle.hyd_text_rows.specs.IdTables.{AreFirsts}
+use Rattle.hyd_theorems_on_input.proofs.ListsByPlace.{kept_stands, kept_passes}
+use Rattle.hyd_rows_and_tables.specs.FirstWrongRow.{rows_at}
+use Rattle.hyd_rows_and_tables.specs.IdTables.{AreFirsts}
 use Rattle.hyd_build_links.specs.CheckedRows.{HasNumber}
 
 -- a name that occurs has a number

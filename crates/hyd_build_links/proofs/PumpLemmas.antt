@@ -24,7 +24,7 @@ use Rattle.hyd_spec_input.specs.MeaningsAcrossRows.{pattern_number}
 use Rattle.hyd_spec_input.specs.NetworkRows.{pump_curve, pump_pattern}
 use Rattle.hyd_spec_input.specs.Project.{IsPumpKind}
 use Rattle.hyd_spec_input.specs.Tables.{curve_named}
-use Rattle.hyd_lemmas.proofs.Trials.{lt_z-yes}
+use Rattle.hyd_lemmas.proofs.BooleanTests.{lt_z-yes}
 use Rattle.hyd_build_links.specs.Pumps.{ArePumpPoints, IsPumpLaw}
 use Rattle.hyd_curves.specs.Points.{points_in}
 use Rattle.hyd_build_links.specs.declared.pump_laws.PumpLaw.{PumpLaw}

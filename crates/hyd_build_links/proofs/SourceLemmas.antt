@@ -9,7 +9,7 @@ use Rattle.hyd_spec_input.specs.CapacitiesOutOfRange.{IsRefusedIn, IsRefusedRow}
 use Rattle.hyd_spec_input.specs.Tables.{is_of}
 use Rattle.hyd_spec_input.specs.RowsTogether as others
 use Rattle.hyd_theorems_on_input.proofs.Faultless.{AreRight, section_is, none_from}
-use Rattle.hyd_theorems_on_input.proofs.Places.{source}
+use Rattle.hyd_theorems_on_input.proofs.ListsByPlace.{source}
 use Rattle.hyd_build_links.specs.CheckedRows.{IsRightSource, rows_from}
 use Rattle.hyd_build_links.specs.declared.link_source.LinkSource.{LinkSource}
 use Rattle.hyd_theorems_on_input.proofs.NoEmptyWords.{no_empty_word}

@@ -34,7 +34,7 @@ use Rattle.hyd_theorems_on_input.proofs.Names.{row_named, link_new}
 use Rattle.hyd_theorems_on_input.proofs.Occurs.{same_name}
 use Rattle.hyd_asked_link_states.proofs.StateLemmas as states
 use Rattle.hyd_asked_link_states.specs.AskedLinks.{IsRightLink, IsSettable, IsThrottled, limit_fault}
-use Rattle.hyd_text_rows.proofs.SectionLemmas.{all_rows}
+use Rattle.hyd_rows_and_tables.proofs.SectionLemmas.{all_rows}
 use Rattle.hyd_asked_link_states.proofs.RightLinks.{right_link}
 use Rattle.hyd_build_links.specs.CheckedRows.{IsRowOf, rows_from}
 use Rattle.hyd_build_links.specs.declared.link_source.LinkSource.{LinkSource}

@@ -8,8 +8,8 @@ use Rattle.hyd_spec_input.specs.Faults.{NoneIs, IsWrongWithOthers}
 use Rattle.hyd_spec_input.specs.InForce as force
 use Rattle.hyd_spec_input.specs.MeaningsAcrossRows.{number_in, node_ids, pattern_ids, bend_names}
 use Rattle.hyd_spec_input.specs.Tables.{link_rows}
-use Rattle.hyd_text_rows.specs.FirstWrongRow.{rows_at}
-use Rattle.hyd_text_rows.specs.IdTables.{IsTable}
+use Rattle.hyd_rows_and_tables.specs.FirstWrongRow.{rows_at}
+use Rattle.hyd_rows_and_tables.specs.IdTables.{IsTable}
 use Rattle.hyd_curves.specs.Points.{ArePoints}
 use Rattle.hyd_build_links.specs.declared.link_source.LinkSource.{LinkSource}
 

@@ -6,12 +6,7 @@ use Rattle.hyd_spec_lines.specs.declared.line.Line.{Line}
 use Rattle.hyd_spec_lines.specs.declared.section.Section.TheVariants.{Status}
 use Rattle.hyd_spec_input.specs.MeaningsAcrossRows.{number_in, last_naming}
 use Rattle.hyd_spec_input.specs.Tables.{rows_of}
-use Rattle.hyd_text_rows.specs.FirstWrongRow.{row_in}
-
--- so many, all without a line
-pub record AreNone (last : List (Option Line)) (count : ℕ) : Type 0 where
-  pub count_is : length last ≡ count
-  pub none : All (λ (line : Option Line). line ≡ None) last
+use Rattle.hyd_rows_and_tables.specs.FirstWrongRow.{row_in}
 
 -- for each name that has a number, the line of its last row of [STATUS] among the first rows
 pub record AreStatuses (text : List ℕ) (rows : List Row) (k : ℕ) (names : List (List ℕ))

@@ -4,7 +4,7 @@
 
 mod link_source;
 mod links;
-mod numbering;
+mod name_numbers;
 mod pipes;
 mod pump_laws;
 mod pumps;

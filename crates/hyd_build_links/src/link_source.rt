@@ -5,7 +5,7 @@ use hyd_curves::Points;
 use hyd_lex::Line;
 use hyd_net::Names;
 use hyd_num::FlowUnit;
-use hyd_text_rows::Table;
+use hyd_rows_and_tables::Table;
 
 /// The rows of a file, and what its rows of links name.
 #[derive(Clone, Copy, Drop)]

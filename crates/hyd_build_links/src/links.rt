@@ -11,7 +11,7 @@ ghost use Rattle.hyd_asked_link_states.specs.AskedLinks.{is_link_section};
 ghost use Rattle.hyd_build_links.specs.Built.{AreBuilt};
 
 use crate::link_source::LinkSource;
-use crate::numbering::number;
+use crate::name_numbers::number;
 use crate::pipes::pipe_kind;
 use crate::pumps::pump_kind;
 use crate::starts::start_of;

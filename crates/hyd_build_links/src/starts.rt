@@ -20,7 +20,7 @@ use hyd_asked_link_states::{limit_state, link_state, speed_state, throttle_state
 use hyd_lex::{Line, Lines, Section};
 use hyd_net::LinkState;
 use hyd_network_rows::{PipeStatus, ValveSetting, read_pipe, read_pump, read_status, read_valve};
-use hyd_text_rows::own_id;
+use hyd_rows_and_tables::own_id;
 
 // The state of a pipe's status word; a pipe with a check valve is open.
 fn status_state(status: PipeStatus) -> LinkState

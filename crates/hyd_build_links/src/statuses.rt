@@ -7,14 +7,14 @@ ghost use Rattle.hyd_spec_lines.specs.Lines.{LiesIn, Row};
 ghost use Rattle.hyd_spec_input.specs.MeaningsAcrossRows.{last_naming};
 ghost use Rattle.hyd_spec_lines.specs.declared.section.Section.TheVariants.{Status};
 ghost use Rattle.hyd_spec_input.specs.Tables.{rows_of};
-ghost use Rattle.hyd_text_rows.specs.FirstWrongRow.{rows_at, row_in};
-ghost use Rattle.hyd_text_rows.specs.IdTables.{IsEven};
+ghost use Rattle.hyd_rows_and_tables.specs.FirstWrongRow.{rows_at, row_in};
+ghost use Rattle.hyd_rows_and_tables.specs.IdTables.{IsEven, AreNone};
 ghost use Rattle.hyd_build_links.specs.CheckedRows.{HasNumber};
-ghost use Rattle.hyd_build_links.specs.Statuses.{AreNone, AreStatuses};
+ghost use Rattle.hyd_build_links.specs.Statuses.{AreStatuses};
 
 use hyd_lex::{Line, Lines};
 use hyd_net::OutOfMemory;
-use hyd_text_rows::{Table, is_status, own_id};
+use hyd_rows_and_tables::{Table, is_status, own_id};
 use std::alloc::Global;
 
 // So many without a line.

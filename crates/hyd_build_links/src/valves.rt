@@ -8,7 +8,7 @@ ghost use Rattle.hyd_spec_input.specs.Tables.{is_of};
 ghost use Rattle.hyd_build_links.specs.CheckedRows.{IsRowOf, rows_from};
 
 use crate::link_source::LinkSource;
-use crate::numbering::number;
+use crate::name_numbers::number;
 use hyd_asked_link_states::valve_law;
 use hyd_lex::{Line, Lines};
 use hyd_net::LinkKind;

@@ -1,14 +1,13 @@
 -- The demands of junctions, one row further.
 use Rattle.std.proofs.Common.{◌≡◌, ◌+◌, ◌^◌, ◌<◌, ◌≤◌, ◌++◌, ℕ, true, false, List, [], ◌∷◌, map, length, take, position}
 use Rattle.std.proofs.Common.{Option, Some, None, slice_get, refl, sym, ap, ◌∙◌, subst, arith, get_or, append-nil}
-use Rattle.std.proofs.Common.{length-append}
 use Rattle.std.specs.Prelude.{slice_set, slice_index_or, ℤ, unsigned_abs}
 use Rattle.std.specs.Str.{bytes_eq}
 use Rattle.std.specs.Cmp.Lexicographic.{bytes_decides}
 use Rattle.std.proofs.lemmas.Int.{ints}
 use Rattle.std.proofs.lemmas.List.{map-set, map-append, length-map, get_or-set_same, get_or-set_other, length-set}
 use Rattle.std.proofs.lemmas.List.{get_or-map}
-use Rattle.std.proofs.lemmas.List.Elements.{filter-append, All-push, All-map}
+use Rattle.std.proofs.lemmas.List.Elements.{filter-append, All-map}
 use Rattle.hyd_num.specs.FileQuantity.{flow_ticks}
 use Rattle.hyd_num.specs.declared.flow_units.FlowUnit.{FlowUnit}
 use Rattle.hyd_spec_lines.specs.WordsOfLines.{text_of}
@@ -28,13 +27,13 @@ use Rattle.hyd_spec_input.specs.Tables.{is_of, rows_of, rows_with, own_id, node_
 use Rattle.hyd_spec_input.specs.RowsTogether as others
 use Rattle.hyd_theorems_on_input.proofs.Faultless.{all_none}
 use Rattle.hyd_theorems_on_input.proofs.NodeRanges.{flow_right}
-use Rattle.hyd_text_rows.specs.FirstWrongRow.{rows_at}
-use Rattle.hyd_text_rows.specs.IdTables.{AreFirsts}
-use Rattle.hyd_text_rows.proofs.FoundLemmas.{filter_more, filter_same}
-use Rattle.hyd_text_rows.proofs.SectionLemmas.{all_rows}
-use Rattle.hyd_text_rows.proofs.TableLemmas.{even}
-use Rattle.hyd_build_nodes.specs.DemandsAndEmitters.{demand_by, each, AreEmpty, IsSetAt, value_of, AreDemands}
-use Rattle.hyd_build_nodes.proofs.RightLemmas.{among}
+use Rattle.hyd_rows_and_tables.specs.FirstWrongRow.{rows_at}
+use Rattle.hyd_rows_and_tables.specs.IdTables.{AreFirsts, AreEmpty}
+use Rattle.hyd_rows_and_tables.proofs.FoundLemmas.{filter_more, filter_same}
+use Rattle.hyd_rows_and_tables.proofs.SectionLemmas.{all_rows}
+use Rattle.hyd_rows_and_tables.proofs.TableLemmas.{even}
+use Rattle.hyd_build_nodes.specs.DemandsAndEmitters.{demand_by, each, IsSetAt, value_of, AreDemands}
+use Rattle.hyd_build_nodes.proofs.RowsWithoutFault.{among}
 use Rattle.hyd_build_nodes.proofs.ReservoirLemmas.{pattern_is}
 use Rattle.hyd_build_nodes.proofs.GatherLemmas.{set_named, default_at, known_there}
 
@@ -58,13 +57,6 @@ one_more lists number was now demand l w n =
       here = rw (e, old) (get_or-set_same (each lists) number now.list [] (omega (arith, m, l)) ∙ n);
       others = λ k apart. rw e (get_or-set_other (each lists) number k now.list [] apart);
     }
-
-pub empty_more : (lists : List (ListView Demand)) (k : ℕ) (list : ListView Demand) → AreEmpty lists k
-    → list.list ≡ [] → AreEmpty (lists ++ list ∷ []) (k + 1)
-empty_more lists k list before none = record {
-  count_is = length-append lists (list ∷ []) ∙ ap (λ n. n + 1) before.count_is;
-  none = All-push (λ (list : ListView Demand). list.list ≡ []) lists list before.none none;
-}
 
 pub before_rows : (text : List ℕ) (rows : List Row) (names : List (List ℕ)) (firsts : List Line)
     (lists : List (ListView Demand)) → AreFirsts text (node_rows rows) names firsts → AreEmpty lists (length firsts)

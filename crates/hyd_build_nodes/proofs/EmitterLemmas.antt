@@ -1,12 +1,10 @@
 -- The emitters of junctions, one row further.
-use Rattle.std.proofs.Common.{◌≡◌, ◌+◌, ◌*◌, ◌^◌, ◌<◌, ◌≤◌, ◌++◌, ℕ, Bool, true, false, List, [], ◌∷◌, length, take}
-use Rattle.std.proofs.Common.{position, Option, Some, None, slice_get, refl, sym, ap, ◌∙◌, subst, arith, length-append}
-use Rattle.std.proofs.Common.{inl, inr}
+use Rattle.std.proofs.Common.{◌≡◌, ◌+◌, ◌*◌, ◌^◌, ◌<◌, ◌≤◌, ℕ, Bool, true, false, List, [], ◌∷◌, length, take, position}
+use Rattle.std.proofs.Common.{Option, Some, None, slice_get, refl, sym, ap, ◌∙◌, subst, arith, inl, inr}
 use Rattle.std.specs.Prelude.{slice_set, ℤ, pos, ◌≤ℤ◌}
 use Rattle.std.specs.Str.{bytes_eq}
 use Rattle.std.specs.Cmp.Lexicographic.{bytes_decides}
 use Rattle.std.proofs.lemmas.List.{get_or-set_same, get_or-set_other, length-set}
-use Rattle.std.proofs.lemmas.List.Elements.{All-push}
 use Rattle.hyd_num.specs.declared.link_capacities.Capacity.{Capacity}
 use Rattle.hyd_num.specs.declared.flow_units.FlowUnit.{FlowUnit}
 use Rattle.hyd_spec_lines.specs.Lines.{Row}
@@ -28,14 +26,14 @@ use Rattle.hyd_spec_input.specs.Project.{IsEmitter}
 use Rattle.hyd_spec_input.specs.Tables.{is_of, rows_of, own_id, node_rows}
 use Rattle.hyd_spec_input.specs.RowsTogether as others
 use Rattle.hyd_theorems_on_input.proofs.Faultless.{all_none, needed_none, within, section_is, none_from}
-use Rattle.hyd_text_rows.specs.FirstWrongRow.{rows_at}
-use Rattle.hyd_text_rows.specs.IdTables.{AreFirsts}
-use Rattle.hyd_text_rows.proofs.FoundLemmas.{filter_more, filter_same}
-use Rattle.hyd_text_rows.proofs.SectionLemmas.{all_rows}
-use Rattle.hyd_text_rows.proofs.TableLemmas.{even}
-use Rattle.hyd_build_nodes.specs.DemandsAndEmitters.{IsSetAt, value_of, AreNone, AreEmitters}
+use Rattle.hyd_rows_and_tables.specs.FirstWrongRow.{rows_at}
+use Rattle.hyd_rows_and_tables.specs.IdTables.{AreFirsts, AreNone}
+use Rattle.hyd_rows_and_tables.proofs.FoundLemmas.{filter_more, filter_same}
+use Rattle.hyd_rows_and_tables.proofs.SectionLemmas.{all_rows}
+use Rattle.hyd_rows_and_tables.proofs.TableLemmas.{even}
+use Rattle.hyd_build_nodes.specs.DemandsAndEmitters.{IsSetAt, value_of, AreEmitters}
 use Rattle.hyd_theorems_on_input.proofs.InForce.{last_where_push}
-use Rattle.hyd_build_nodes.proofs.RightLemmas.{alone, among}
+use Rattle.hyd_build_nodes.proofs.RowsWithoutFault.{alone, among}
 use Rattle.hyd_build_nodes.proofs.GatherLemmas.{set_named, default_at, known_there}
 
 -- ---- the last row that names a junction, one row more
@@ -95,13 +93,6 @@ skip_row rows k row names emitters before is other =
     let P : List Row → Type 0 = λ rs. (name : List ℕ) → IsEmitter (force.unit rows) (coefficient (last_naming name rs))
     (value_of None emitters (number_in names name)) in
     record { even = before.even; named = subst P (sym same) before.named }
-
-pub none_more : (emitters : List (Option Capacity)) (k : ℕ) → AreNone emitters k
-    → AreNone (emitters ++ None ∷ []) (k + 1)
-none_more emitters k before = record {
-  count_is = length-append emitters (None ∷ []) ∙ ap (λ n. n + 1) before.count_is;
-  none = All-push (λ (emitter : Option Capacity). emitter ≡ None) emitters None before.none refl;
-}
 
 pub before_rows : (text : List ℕ) (rows : List Row) (names : List (List ℕ)) (firsts : List Line)
     (emitters : List (Option Capacity)) → AreFirsts text (node_rows rows) names firsts

@@ -13,9 +13,9 @@ use Rattle.hyd_spec_lines.specs.declared.section.Section.TheVariants.{Junctions}
 use Rattle.hyd_spec_input.specs.MeaningsAcrossRows.{number_in}
 use Rattle.hyd_spec_input.specs.Tables.{is_of, is_node, node_rows, own_id, row_with, has_id}
 use Rattle.hyd_spec_input.specs.RowsTogether.{known_as, known_junction}
-use Rattle.hyd_text_rows.specs.IdTables.{AreFirsts}
-use Rattle.hyd_text_rows.proofs.FoundLemmas.{one_name, has_more}
-use Rattle.hyd_text_rows.proofs.TableLemmas.{not_found, has_id-is}
+use Rattle.hyd_rows_and_tables.specs.IdTables.{AreFirsts}
+use Rattle.hyd_rows_and_tables.proofs.FoundLemmas.{one_name, has_more}
+use Rattle.hyd_rows_and_tables.proofs.TableLemmas.{not_found, has_id-is}
 use Rattle.hyd_build_nodes.specs.DemandsAndEmitters.{IsSetAt, value_of}
 
 -- ---- names

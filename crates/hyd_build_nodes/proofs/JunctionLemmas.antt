@@ -28,12 +28,12 @@ use Rattle.hyd_spec_input.specs.Tables.{is_of, is_node, rows_of, rows_with, own_
 use Rattle.hyd_spec_input.specs.RowsTogether as others
 use Rattle.hyd_theorems_on_input.proofs.Faultless.{all_none}
 use Rattle.hyd_theorems_on_input.proofs.NodeRanges.{head_right, flow_right}
-use Rattle.hyd_text_rows.specs.IdTables.{AreFirsts}
+use Rattle.hyd_rows_and_tables.specs.IdTables.{AreFirsts}
 use Rattle.hyd_build_nodes.specs.ReservoirsAndTanks.{IsSmall}
 use Rattle.hyd_build_nodes.specs.DemandsAndEmitters.{demand_by, each, value_of, AreDemands, AreEmitters}
 use Rattle.hyd_build_nodes.specs.WholeJunctions.{IsJunctionBy, AreParts}
 use Rattle.hyd_build_nodes.specs.declared.junctions.Parts.{Parts}
-use Rattle.hyd_build_nodes.proofs.RightLemmas.{among, small_head, built_more}
+use Rattle.hyd_build_nodes.proofs.RowsWithoutFault.{among, small_head, built_more}
 use Rattle.hyd_build_nodes.proofs.ReservoirLemmas.{pattern_is}
 use Rattle.hyd_build_nodes.proofs.GatherLemmas.{own_there}
 use Rattle.hyd_build_nodes.proofs.DemandLemmas.{small_flow, demands_in}

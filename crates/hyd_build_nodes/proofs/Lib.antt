@@ -1,4 +1,4 @@
-pub mod RightLemmas
+pub mod RowsWithoutFault
 pub mod ReservoirLemmas
 pub mod TankLemmas
 pub mod GatherLemmas

@@ -16,7 +16,7 @@ use Rattle.hyd_spec_input.specs.RowsTogether as others
 use Rattle.hyd_theorems_on_input.proofs.Faultless.{all_none}
 use Rattle.hyd_theorems_on_input.proofs.NodeRanges.{head_right}
 use Rattle.hyd_build_nodes.specs.ReservoirsAndTanks.{number_of, IsReservoirOf}
-use Rattle.hyd_build_nodes.proofs.RightLemmas.{among, small_head}
+use Rattle.hyd_build_nodes.proofs.RowsWithoutFault.{among, small_head}
 
 pub pattern_is : (rows : List Row) (name : Option (List ℕ)) → number_of
     (pattern_ids rows) name ≡ pattern_number rows name

@@ -21,12 +21,12 @@ use Rattle.hyd_spec_input.specs.Project.{Match, IsTank, shape_number}
 use Rattle.hyd_spec_input.specs.Tables.{is_of, rows_of}
 use Rattle.hyd_spec_input.specs.RowsTogether as others
 use Rattle.hyd_spec_input.specs.RowsTogether.{us}
-use Rattle.hyd_lemmas.proofs.Trials.{le_z-yes}
+use Rattle.hyd_lemmas.proofs.BooleanTests.{le_z-yes}
 use Rattle.hyd_theorems_on_input.proofs.Faultless.{all_none, needed_none, in_range, within}
 use Rattle.hyd_theorems_on_input.proofs.NodeRanges.{head_right, head_rises, head_sum}
 use Rattle.hyd_build_nodes.specs.ReservoirsAndTanks.{number_of, AreSmall, IsTankOf, HasTankMore}
-use Rattle.hyd_theorems_on_input.proofs.Points.{no_head}
-use Rattle.hyd_build_nodes.proofs.RightLemmas.{alone, among, small_head, built_more}
+use Rattle.hyd_theorems_on_input.proofs.CurvePoints.{no_head}
+use Rattle.hyd_build_nodes.proofs.RowsWithoutFault.{alone, among, small_head, built_more}
 
 shape_is : (rows : List Row) (name : Option (List ℕ)) → number_of (shape_names rows) name ≡ shape_number rows name
 shape_is rows None = refl

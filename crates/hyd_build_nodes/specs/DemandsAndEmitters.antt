@@ -1,6 +1,5 @@
 -- What belongs to junctions, by the numbers that their names have in a table.
 use Rattle.std.specs.Prelude.{◌≡◌, ℕ, List, [], map, length, take, Option, Some, None, slice_index_or, ℤ}
-use Rattle.std.specs.List.{All}
 use Rattle.hyd_num.specs.FileQuantity.{flow_ticks}
 use Rattle.hyd_num.specs.declared.link_capacities.Capacity.{Capacity}
 use Rattle.hyd_num.specs.declared.flow_units.FlowUnit.{FlowUnit}
@@ -22,11 +21,6 @@ demand_by unit patterns base pattern = record { base = flow_ticks unit base; pat
 abbrev pub each : List (ListView Demand) → List (List Demand)
 each lists = map (λ (list : ListView Demand). list.list) lists
 
--- so many lists, all empty
-pub record AreEmpty (lists : List (ListView Demand)) (count : ℕ) : Type 0 where
-  pub count_is : length lists ≡ count
-  pub none : All (λ (list : ListView Demand). list.list ≡ []) lists
-
 -- one value is another, the others are as before
 pub record IsSetAt {A : Type 0} (default : A) (before after : List A) (number : ℕ) (value : A) : Type 0 where
   pub even : length after ≡ length before
@@ -43,11 +37,6 @@ pub record AreDemands (rows : List Row) (k : ℕ) (names : List (List ℕ)) (lis
   pub even : length lists ≡ length names
   pub named : (name : List ℕ) → value_of [] lists (number_in names name)
       ≡ map (demand_of_row rows) (rows_with name (rows_of Demands (take k rows)))
-
--- so many without an emitter
-pub record AreNone (emitters : List (Option Capacity)) (count : ℕ) : Type 0 where
-  pub count_is : length emitters ≡ count
-  pub none : All (λ (emitter : Option Capacity). emitter ≡ None) emitters
 
 -- for each name, the emitter of its number is that of the last row that names it, among the first
 pub record AreEmitters (rows : List Row) (k : ℕ) (names : List (List ℕ)) (emitters : List

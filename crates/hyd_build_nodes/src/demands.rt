@@ -12,9 +12,9 @@ ghost use Rattle.hyd_spec_input.specs.Faults.{NoneIs, IsWrongWithOthers};
 ghost use Rattle.hyd_spec_input.specs.InForce as force;
 ghost use Rattle.hyd_spec_input.specs.MeaningsAcrossRows.{pattern_ids};
 ghost use Rattle.hyd_spec_input.specs.Tables.{node_rows};
-ghost use Rattle.hyd_text_rows.specs.FirstWrongRow.{rows_at};
-ghost use Rattle.hyd_text_rows.specs.IdTables.{IsTable};
-ghost use Rattle.hyd_build_nodes.specs.DemandsAndEmitters.{AreDemands, AreEmpty, each, IsSetAt, demand_by as demand_as};
+ghost use Rattle.hyd_rows_and_tables.specs.FirstWrongRow.{rows_at};
+ghost use Rattle.hyd_rows_and_tables.specs.IdTables.{IsTable, AreEmpty};
+ghost use Rattle.hyd_build_nodes.specs.DemandsAndEmitters.{AreDemands, each, IsSetAt, demand_by as demand_as};
 ghost use Rattle.hyd_spec_lines.specs.WordsOfLines.{text_of};
 
 use crate::quantities::{flow_of, number_named};
@@ -22,7 +22,7 @@ use hyd_lex::{Line, Lines};
 use hyd_net::{Demand, List, Names, OutOfMemory};
 use hyd_network_rows::read_demand;
 use hyd_num::{Decimal, FlowUnit};
-use hyd_text_rows::{Table, is_demands};
+use hyd_rows_and_tables::{Table, is_demands};
 use std::alloc::Global;
 
 // So many empty lists.

@@ -10,16 +10,16 @@ ghost use Rattle.hyd_spec_input.specs.Faults.{NoneIs, IsWrongWithOthers};
 ghost use Rattle.hyd_spec_input.specs.InForce as force;
 ghost use Rattle.hyd_spec_input.specs.Project.{IsEmitter};
 ghost use Rattle.hyd_spec_input.specs.Tables.{node_rows};
-ghost use Rattle.hyd_text_rows.specs.FirstWrongRow.{rows_at};
-ghost use Rattle.hyd_text_rows.specs.IdTables.{IsTable};
-ghost use Rattle.hyd_build_nodes.specs.DemandsAndEmitters.{AreEmitters, AreNone};
+ghost use Rattle.hyd_rows_and_tables.specs.FirstWrongRow.{rows_at};
+ghost use Rattle.hyd_rows_and_tables.specs.IdTables.{IsTable, AreNone};
+ghost use Rattle.hyd_build_nodes.specs.DemandsAndEmitters.{AreEmitters};
 
 use hyd_capacities::emitter_capacity;
 use hyd_lex::{Line, Lines};
 use hyd_net::OutOfMemory;
 use hyd_network_rows::read_emitter;
 use hyd_num::{Capacity, Decimal, FlowUnit};
-use hyd_text_rows::{Table, is_emitters};
+use hyd_rows_and_tables::{Table, is_emitters};
 use std::alloc::Global;
 
 // The emitter of a coefficient, none where it is 0.

@@ -16,8 +16,8 @@ ghost use Rattle.hyd_spec_input.specs.MeaningsAcrossRows as across;
 ghost use Rattle.hyd_spec_input.specs.MeaningsAcrossRows.{pattern_ids};
 ghost use Rattle.hyd_spec_input.specs.Project.{Match, IsJunction};
 ghost use Rattle.hyd_spec_input.specs.Tables.{rows_of, node_rows};
-ghost use Rattle.hyd_text_rows.specs.FirstWrongRow.{rows_at};
-ghost use Rattle.hyd_text_rows.specs.IdTables.{IsTable};
+ghost use Rattle.hyd_rows_and_tables.specs.FirstWrongRow.{rows_at};
+ghost use Rattle.hyd_rows_and_tables.specs.IdTables.{IsTable};
 ghost use Rattle.hyd_build_nodes.specs.ReservoirsAndTanks.{IsSmall};
 ghost use Rattle.hyd_build_nodes.specs.DemandsAndEmitters as gathered;
 ghost use Rattle.hyd_build_nodes.specs.WholeJunctions.{AreParts, IsJunctionBy};
@@ -29,7 +29,7 @@ use hyd_lex::{Line, Lines};
 use hyd_net::{Demand, Junction, List, Names, OutOfMemory};
 use hyd_network_rows::{JunctionRow, read_junction};
 use hyd_num::{Capacity, FlowUnit};
-use hyd_text_rows::{Table, is_junctions};
+use hyd_rows_and_tables::{Table, is_junctions};
 use std::alloc::Global;
 
 /// What junctions are made of besides their rows: the table of nodes and, by the numbers of their IDs, demands and

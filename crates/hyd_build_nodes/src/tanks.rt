@@ -16,7 +16,7 @@ ghost use Rattle.hyd_spec_input.specs.MeaningsAcrossRows.{shape_names};
 ghost use Rattle.hyd_spec_input.specs.NetworkRows as row;
 ghost use Rattle.hyd_spec_input.specs.Project.{Match, IsTank};
 ghost use Rattle.hyd_spec_input.specs.Tables.{rows_of};
-ghost use Rattle.hyd_text_rows.specs.FirstWrongRow.{rows_at};
+ghost use Rattle.hyd_rows_and_tables.specs.FirstWrongRow.{rows_at};
 ghost use Rattle.hyd_build_nodes.specs.ReservoirsAndTanks.{AreSmall, HasTankMore, IsSmall, IsTankBy};
 
 use crate::quantities::{head_of, number_named};
@@ -24,7 +24,7 @@ use hyd_lex::{Line, Lines};
 use hyd_net::{List, Names, OutOfMemory, Tank};
 use hyd_network_rows::{TankRow, read_tank};
 use hyd_num::{Decimal, FlowUnit};
-use hyd_text_rows::is_tanks;
+use hyd_rows_and_tables::is_tanks;
 use std::alloc::Global;
 
 // The square of a diameter's billionths, times and over a number, cut.

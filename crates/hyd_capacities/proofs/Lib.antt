@@ -1,4 +1,4 @@
 pub mod Exponents
 pub mod HeadTicks
 pub mod PipePairs
-pub mod Refusals
+pub mod CapacitiesNotRefused

@@ -2,7 +2,7 @@
 #![tactic(auto)]
 
 ghost use Rattle.std.specs.Prelude.{◌≡◌, ◌<◌, ◌≤◌, ◌+◌, ◌^◌, Some, length, map, slice_get};
-ghost use Rattle.hyd_net.specs.Sound.{Sound};
+ghost use Rattle.hyd_net.specs.Sound.{IsSound};
 ghost use Rattle.hyd_spec.specs.ProgramTypes.{Tank};
 ghost use Rattle.hyd_spec.specs.NodeNumbers.{tank_count};
 ghost use Rattle.hyd_spec_certificates.specs.Spans.{levels_of};
@@ -19,7 +19,7 @@ use hyd_watched_levels::{inflow_at, stock_at};
 
 // The carried levels of one tank.
 fn carried_of(project: &Project, facts: &Facts, tank: u32, seconds: u32) -> LevelSpan
-    requires sound { Sound project.now }
+    requires sound { IsSound project.now }
     requires tanks { HaveTanks project.now facts.now }
     requires in_range { tank < length project.now.tanks.list }
     requires seconds { seconds ≤ 10 ^ 8 }
@@ -36,7 +36,7 @@ fn carried_of(project: &Project, facts: &Facts, tank: u32, seconds: u32) -> Leve
 /// start and what flows into its tanks. What the list held before goes. It has room for an item for each tank, so no
 /// memory is taken.
 pub fn put_carried(project: &Project, facts: &Facts, seconds: u32, levels: &mut List<LevelSpan>)
-    requires sound { Sound project.now }
+    requires sound { IsSound project.now }
     requires tanks { HaveTanks project.now facts.now }
     requires seconds { seconds ≤ 10 ^ 8 }
     requires room { tank_count project.now ≤ length levels.old.list + levels.old.spare }

@@ -23,7 +23,7 @@ use Rattle.hyd_spec_input.specs.RowsTogether as others
 use Rattle.hyd_spec_input.specs.CapacitiesOutOfRange.{IsRefusedEmitter, IsRefusedRow}
 use Rattle.hyd_spec_input.specs.Faults.{IsWrongWithOthers, NoneIs, IsFirst, IsFault}
 use Rattle.hyd_cases_of_definitions.specs.Input.{great_emitter}
-use Rattle.hyd_lemmas.proofs.Enclosing.{IsDown-near}
+use Rattle.hyd_lemmas.proofs.PairOperations.{IsDown-near}
 
 -- ---- the pair that it stands for
 

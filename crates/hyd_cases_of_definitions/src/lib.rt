@@ -10,7 +10,7 @@ pub mod count_limits;
 pub mod curves;
 pub mod decisions;
 pub mod each_kind_of_link;
-pub mod enclosing;
+pub mod enclosing_functions;
 pub mod exact_flows;
 pub mod flows_tanks_and_run_start;
 pub mod generated;

@@ -13,7 +13,7 @@ use Rattle.hyd_num.specs.Pairs.{IsRoot533}
 use Rattle.hyd_num.specs.CapacityPairs.{IsMade}
 use Rattle.hyd_num.proofs.RoundingLemmas.{IsUp-exact, IsUp-next}
 use Rattle.hyd_cases_of_histories.specs.Spurs.{long_pipe}
-use Rattle.hyd_lemmas.proofs.Enclosing.{IsDown-near}
+use Rattle.hyd_lemmas.proofs.PairOperations.{IsDown-near}
 use Rattle.hyd_cases_of_histories.proofs.RoundPairs.{IsDown-exact, twice, ratio, product}
 
 -- ---- rounding

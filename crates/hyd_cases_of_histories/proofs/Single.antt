@@ -14,7 +14,7 @@ use Rattle.hyd_spec.specs.Assignment.{Assignment, LinksFollow, none, more, Junct
 use Rattle.hyd_spec.specs.PeriodLength.{at_end}
 use Rattle.hyd_spec.specs.History.{IsHistory}
 use Rattle.hyd_cases_of_histories.specs.OneLink.{Spur, network_of, junction_of, link_of, period_of}
-use Rattle.hyd_lemmas.proofs.Trials.{lt-yes}
+use Rattle.hyd_lemmas.proofs.BooleanTests.{lt-yes}
 
 -- ---- tests that fail
 

@@ -7,7 +7,7 @@ use Rattle.std.proofs.lemmas.List.Elements.{All-from_recursion}
 use Rattle.std.proofs.lemmas.List.Kept.{AllPairs-cons}
 use Rattle.hyd_num.specs.CapacityPairs.{IsMade}
 use Rattle.hyd_net.specs.Ids.{AreDistinct, IsId}
-use Rattle.hyd_net.specs.Sound.{HasIds, HasEnds, IsWithinLimits, IsPattern, Sound}
+use Rattle.hyd_net.specs.Sound.{HasIds, HasEnds, IsWithinLimits, IsPattern, IsSound}
 use Rattle.hyd_net.specs.NetworkRanges.{HasOptions, IsJunction, IsReservoir, IsTank, HasSizes, HasQuantities}
 use Rattle.hyd_net.specs.NumberRanges.{IsHead}
 use Rattle.hyd_net.specs.States.{CanHave}
@@ -101,7 +101,7 @@ module _ (spur : Spur) (own : IsOwnSound spur) where
     diameters = λ number below. (pos 0, across number below);
   }
 
-  pub sound : Sound (network_of spur)
+  pub sound : IsSound (network_of spur)
   sound = record {
     ids = ids;
     counts = own.counts;

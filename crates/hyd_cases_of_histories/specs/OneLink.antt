@@ -1,15 +1,11 @@
 -- A small network: a reservoir (node 1), one link from it to a junction (node 0). No tank, no pattern and no rule.
 use Rattle.std.specs.Prelude.{ℕ, ℤ, pos, Bool, false, List, [], ◌∷◌, Option, None, codes}
 use Rattle.std.proofs.Common.{lit≤}
-use Rattle.hyd_net.specs.ListView.{ListView}
+use Rattle.hyd_net.specs.ListView.{ListView, listed}
 use Rattle.hyd_spec.specs.ProgramTypes.{Project, Junction, Link, FlowUnit, Cmd, Decimal, Capacity, LinkKind, LinkState}
 use Rattle.hyd_spec.specs.ProgramTypes.{Tcv}
 use Rattle.hyd_spec.specs.ProgramTypes.{Linear, Open, HeadPoint, Control}
 use Rattle.hyd_spec.specs.PeriodLength.{Period}
-
--- A list without room for more.
-abbrev pub listed : {T : Type 0} → List T → ListView T
-listed items = record { list = items; spare = 0 }
 
 -- What such networks differ in: the unit of flow, whether the demand is driven by pressure (from 5 to 21 of the unit of
 -- pressures), the reservoir's head, the link, the junction's elevation (head ticks), demand (flow ticks) and emitter,

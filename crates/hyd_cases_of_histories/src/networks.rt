@@ -1,7 +1,7 @@
 //! The small networks are ones that a file can stand for.
 #![tactic(auto)]
 
-ghost use Rattle.hyd_net.specs.Sound.{Sound};
+ghost use Rattle.hyd_net.specs.Sound.{IsSound};
 ghost use Rattle.hyd_cases_of_histories.specs.OneLink.{network_of};
 ghost use Rattle.hyd_cases_of_histories.specs.Spurs.{pipe_spur, check_spur, pump_spur, setting_spur, emitter_spur};
 ghost use Rattle.hyd_cases_of_histories.specs.Spurs.{driven_spur};
@@ -9,19 +9,19 @@ ghost use Rattle.hyd_cases_of_histories.specs.Timed.{timed_spur};
 
 /// Of links.
 pub fn links()
-    ensures pipe { Sound (network_of pipe_spur) }
-    ensures check_valve { Sound (network_of check_spur) }
-    ensures pump { Sound (network_of pump_spur) }
-    ensures control_valve { Sound (network_of setting_spur) }
+    ensures pipe { IsSound (network_of pipe_spur) }
+    ensures check_valve { IsSound (network_of check_spur) }
+    ensures pump { IsSound (network_of pump_spur) }
+    ensures control_valve { IsSound (network_of setting_spur) }
 {}
 
 /// Of outflows.
 pub fn outflows()
-    ensures emitter { Sound (network_of emitter_spur) }
-    ensures driven_demand { Sound (network_of driven_spur) }
+    ensures emitter { IsSound (network_of emitter_spur) }
+    ensures driven_demand { IsSound (network_of driven_spur) }
 {}
 
 /// Of controls.
 pub fn controls()
-    ensures { Sound (network_of timed_spur) }
+    ensures { IsSound (network_of timed_spur) }
 {}

@@ -30,7 +30,7 @@ use Rattle.hyd_cases_of_runs.proofs.BasinRun.{no_control, not_before, no_changes
 use Rattle.hyd_cases_of_runs.proofs.VillageFlows.{at_setting}
 use Rattle.hyd_cases_of_runs.proofs.VillageLengths.{not_full, not_empty}
 use Rattle.hyd_lemmas.proofs.Each.{each_one}
-use Rattle.hyd_lemmas.proofs.Trials.{none_below, from, or-left, or-right, and-true}
+use Rattle.hyd_lemmas.proofs.BooleanTests.{none_below, from, or-left, or-right, and-true}
 
 module _ (basin : Basin) where
   -- ---- heads and flows

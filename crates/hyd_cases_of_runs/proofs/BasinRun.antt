@@ -20,7 +20,7 @@ use Rattle.hyd_spec_certificates.specs.Interval.{Interval, exactly, shifted}
 use Rattle.std.specs.List.{list_any}
 use Rattle.hyd_spec.specs.Tank.{walls_of}
 use Rattle.hyd_spec_certificates.specs.Stocks.{may_reach, must_reach}
-use Rattle.hyd_lemmas.proofs.Trials.{none_below, from, any_of}
+use Rattle.hyd_lemmas.proofs.BooleanTests.{none_below, from, any_of}
 use Rattle.hyd_spec_certificates.specs.PeriodNetwork.{Grid, GridLink, GridJunction, tank_intervals, grid_links}
 use Rattle.hyd_spec_certificates.specs.FlowIntervals.{difference}
 use Rattle.hyd_spec_certificates.specs.Certificate.{IsInBox, IsCertificate}

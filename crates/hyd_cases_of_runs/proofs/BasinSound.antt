@@ -9,7 +9,7 @@ use Rattle.hyd_net.specs.ListView.{ListView}
 use Rattle.hyd_net.specs.Ids.{IsId}
 use Rattle.hyd_net.specs.Curves.{AreRising, IsVolumeCurve}
 use Rattle.hyd_net.specs.NumberRanges.{Lies, IsHead}
-use Rattle.hyd_net.specs.Sound.{HasIds, HasEnds, IsPattern, Sound}
+use Rattle.hyd_net.specs.Sound.{HasIds, HasEnds, IsPattern, IsSound}
 use Rattle.hyd_net.specs.NetworkRanges.{IsJunction, IsReservoir, IsTank, IsShapeOf, HasSizes, HasQuantities}
 use Rattle.hyd_net.specs.States.{CanHave}
 use Rattle.hyd_net.specs.ControlsAndRules.{node_count, IsControl, IsRule}
@@ -18,7 +18,7 @@ use Rattle.hyd_net.specs.RoundedFileNumbers.{IsStateAcross, IsAcross, IsAllMade}
 use Rattle.hyd_spec.specs.ProgramTypes.{Cmd, VolumePoint}
 use Rattle.hyd_num.specs.CapacityPairs.{IsMade}
 use Rattle.std.specs.Option.{IfSome}
-use Rattle.hyd_lemmas.proofs.Trials.{le-yes}
+use Rattle.hyd_lemmas.proofs.BooleanTests.{le-yes}
 use Rattle.hyd_cases_of_runs.specs.Basin.{Basin, basin_network, feed, open_to, curved, spilling}
 use Rattle.hyd_lemmas.proofs.ListsOptionsAndResults.{differ}
 use Rattle.hyd_cases_of_runs.proofs.VillageSound.{nothing}
@@ -90,7 +90,7 @@ module _ (basin : Basin) where
   sound_basin : basin.duration ≤ 10 ^ 8 → length basin.shapes ≤ 1000
       → sum_by (λ (shape : ListView VolumePoint). length shape.list) basin.shapes ≤ 100000
       → IsTank basin.shapes basin.tank → IsAreaMade Cmd basin.tank → IsStateMade Cmd (open_to basin)
-      → CanHave (feed basin).kind (open_to basin) → Sound (basin_network basin)
+      → CanHave (feed basin).kind (open_to basin) → IsSound (basin_network basin)
   sound_basin long few short tank area state can = record {
     ids = ids;
     counts = record {
@@ -196,7 +196,7 @@ is_shape = record {
   apart = le-yes _ _ refl;
 }
 
-pub curved_sound : Sound (basin_network curved)
+pub curved_sound : IsSound (basin_network curved)
 curved_sound = sound_basin curved (omega arith) (omega arith) (omega arith)
     (record {
       bottom = record { at_least = omega (arith, ints); at_most = omega (arith, ints) };
@@ -216,7 +216,7 @@ curved_sound = sound_basin curved (omega arith) (omega arith) (omega arith)
       };
     })
 
-pub spilling_sound : Sound (basin_network spilling)
+pub spilling_sound : IsSound (basin_network spilling)
 spilling_sound = sound_basin spilling (omega arith) (omega arith) (omega arith)
     (record {
       bottom = record { at_least = omega (arith, ints); at_most = omega (arith, ints) };

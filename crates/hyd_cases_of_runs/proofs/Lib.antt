@@ -1,5 +1,5 @@
-pub mod TownIs
-pub mod HamletIs
+pub mod TwoTankTownAsOneValue
+pub mod HamletAsOneValue
 pub mod VillageGrids
 pub mod VillageCertificates
 pub mod VillageSeconds
@@ -18,7 +18,7 @@ pub mod ShallowRun
 pub mod ShallowHistory
 pub mod VillageSound
 pub mod NarrowRecords
-pub mod RoundsAre
+pub mod RaisesOnSmallGrid
 pub mod BasinRun
 pub mod BasinHistory
 pub mod BasinSound

@@ -5,7 +5,7 @@ use Rattle.hyd_spec.specs.Assignment.{head_at}
 use Rattle.hyd_spec_certificates.specs.RecordAndStanding.{Record, Standing}
 use Rattle.hyd_spec_certificates.specs.Decided.{level_of_tank}
 use Rattle.hyd_spec_certificates.specs.Narrow.{widest, IsNarrow}
-use Rattle.hyd_lemmas.proofs.Trials.{le-yes, all_pass, each_passes}
+use Rattle.hyd_lemmas.proofs.BooleanTests.{le-yes, all_pass, each_passes}
 
 -- whether the heads of a junction, the next levels of a tank are narrow
 abbrev pub head_fits : ℤ → Standing → Record → ℕ → ℤ → Bool

@@ -15,7 +15,7 @@ use Rattle.hyd_spec_certificates.specs.RecordAndStanding.{Record, Vectors, vecto
 use Rattle.hyd_spec_certificates.specs.Valid.{IsProblem, AreCertificates}
 use Rattle.hyd_spec_reports.specs.Stops.{EarlierHaveCertificates}
 use Rattle.hyd_cases_of_runs.specs.Village.{Choice, village_with}
-use Rattle.hyd_lemmas.proofs.Trials.{le-yes, le-from, both-first, both-second, all_pass, each_passes}
+use Rattle.hyd_lemmas.proofs.BooleanTests.{le-yes, le-from, both-first, both-second, all_pass, each_passes}
 
 -- ---- heads and junctions
 

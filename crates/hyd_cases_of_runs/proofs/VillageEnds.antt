@@ -8,7 +8,7 @@ use Rattle.hyd_cases_of_runs.specs.VillageRun.{standing_0, standing_1, standing_
 use Rattle.hyd_cases_of_runs.specs.VillageRun.{grid_3, row_0, row_1, row_2, row_3}
 use Rattle.hyd_cases_of_runs.proofs.VillageSeconds.{clock_length, matter, matter_test, no_rule, earliest_end}
 use Rattle.hyd_cases_of_runs.proofs.VillageSeconds.{latest_end}
-use Rattle.hyd_lemmas.proofs.Trials.{from}
+use Rattle.hyd_lemmas.proofs.BooleanTests.{from}
 
 -- the clock allows eight seconds from 0 and from 8 on, five from 11, two from 14
 clock_0 : IsClockLength village 0 8

@@ -14,7 +14,7 @@ use Rattle.hyd_spec.specs.PeriodLength.{Period}
 use Rattle.hyd_cases_of_runs.specs.Village.{Choice, village_with, mill, farm, feed_link, drop_link}
 use Rattle.hyd_cases_of_runs.specs.VillagePeriods.{village_period}
 use Rattle.hyd_lemmas.proofs.Each.{each_two}
-use Rattle.hyd_lemmas.proofs.Trials.{same_either_way, le-yes}
+use Rattle.hyd_lemmas.proofs.BooleanTests.{same_either_way, le-yes}
 
 -- a flow of a valve without loss coefficient, at scale 1000
 pub straight : (x q : ℤ) → int_le (pos 1000000 *ℤ (q -ℤ pos 10000)) (pos 8026822656 *ℤ x) ≡ true

@@ -13,7 +13,7 @@ use Rattle.hyd_spec_certificates.specs.Decided.{links_at}
 use Rattle.hyd_spec_certificates.specs.Valid.{IsGridAt}
 use Rattle.hyd_cases_of_runs.specs.Village.{Choice, village_with, mill, farm}
 use Rattle.hyd_cases_of_runs.specs.VillagePeriods.{village_grid}
-use Rattle.hyd_lemmas.proofs.Trials.{same_either_way}
+use Rattle.hyd_lemmas.proofs.BooleanTests.{same_either_way}
 
 module _ (choice : Choice) where
   -- no demand depends on the pressure

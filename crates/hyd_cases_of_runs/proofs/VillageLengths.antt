@@ -21,7 +21,7 @@ use Rattle.hyd_cases_of_runs.specs.Village.{Choice, village_with, village, usual
 use Rattle.hyd_cases_of_runs.specs.VillageHistory.{period_0, period_1, period_2, period_3, period_4}
 use Rattle.hyd_lemmas.proofs.Each.{each_one}
 use Rattle.hyd_cases_of_runs.proofs.VillageSeconds.{only_control, not_before, is_empty_list, some_change}
-use Rattle.hyd_lemmas.proofs.Trials.{none_below, from, or-left, or-right, and-true}
+use Rattle.hyd_lemmas.proofs.BooleanTests.{none_below, from, or-left, or-right, and-true}
 
 -- ---- by levels
 

@@ -25,7 +25,7 @@ use Rattle.hyd_cases_of_runs.specs.VillageRun.{grid_2, grid_3, grid_4, row_0, ro
 use Rattle.hyd_cases_of_runs.specs.VillageRun.{lines_1}
 use Rattle.hyd_cases_of_runs.specs.VillageRun.{lines_2, lines_3, lines_4}
 use Rattle.hyd_cases_of_runs.proofs.VillageEnds.{first_ends, second_ends, third_ends, fourth_ends}
-use Rattle.hyd_lemmas.proofs.Trials.{le-yes, both-first, both-second}
+use Rattle.hyd_lemmas.proofs.BooleanTests.{le-yes, both-first, both-second}
 
 -- ---- printed numbers
 

@@ -16,7 +16,7 @@ use Rattle.hyd_spec_certificates.specs.Decided.{Watch, watches, SomeMayReach, So
 use Rattle.hyd_spec_certificates.specs.Decided.{inflow_of_tank, IsClockLength, IsEarliestEnd, IsLatestEnd, rule_truths}
 use Rattle.hyd_spec_certificates.specs.Decided.{decided_changes, RulesMatter, NoRuleMatters}
 use Rattle.hyd_cases_of_runs.specs.Village.{Choice, village_with, level_control}
-use Rattle.hyd_lemmas.proofs.Trials.{none_below, from, or-left, or-right, and-true, any_of}
+use Rattle.hyd_lemmas.proofs.BooleanTests.{none_below, from, or-left, or-right, and-true, any_of}
 
 -- ---- by the clock
 

@@ -6,7 +6,7 @@ use Rattle.std.proofs.lemmas.Int.{ints}
 use Rattle.std.proofs.lemmas.List.Elements.{All-from_recursion}
 use Rattle.std.proofs.lemmas.List.Kept.{AllPairs-cons}
 use Rattle.hyd_net.specs.Ids.{AreDistinct, IsId}
-use Rattle.hyd_net.specs.Sound.{HasIds, HasEnds, IsPattern, Sound}
+use Rattle.hyd_net.specs.Sound.{HasIds, HasEnds, IsPattern, IsSound}
 use Rattle.hyd_net.specs.NetworkRanges.{IsJunction, IsDemand, IsReservoir, IsTank, HasSizes, HasQuantities}
 use Rattle.hyd_net.specs.States.{CanHave}
 use Rattle.hyd_net.specs.ControlsAndRules.{node_count, IsControl, IsClause, CanCommand, IsRule}
@@ -173,7 +173,7 @@ made = record {
   diameters = λ number below. (pos 0, across number below);
 }
 
-pub sound : Sound village
+pub sound : IsSound village
 sound = record {
   ids = ids;
   counts = record {

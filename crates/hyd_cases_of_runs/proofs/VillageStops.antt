@@ -26,7 +26,7 @@ use Rattle.hyd_cases_of_runs.proofs.VillageRecords.{in_range}
 use Rattle.hyd_cases_of_runs.proofs.VillageSeconds.{clock_length, matter, matter_test, no_rule, earliest_end}
 use Rattle.hyd_cases_of_runs.proofs.VillageSeconds.{latest_end}
 use Rattle.hyd_cases_of_runs.proofs.VillageTight.{first_tight, two_heads}
-use Rattle.hyd_lemmas.proofs.Trials.{from}
+use Rattle.hyd_lemmas.proofs.BooleanTests.{from}
 
 -- ---- demands and vectors
 

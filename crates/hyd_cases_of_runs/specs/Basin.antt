@@ -3,7 +3,7 @@
 -- periods, a history of each at scale 1000, and what was written and printed.
 use Rattle.std.specs.Prelude.{ℕ, ℤ, pos, false, true, List, [], ◌∷◌, ◌++◌, None, Some, codes}
 use Rattle.std.proofs.Common.{lit≤}
-use Rattle.hyd_net.specs.ListView.{ListView}
+use Rattle.hyd_net.specs.ListView.{ListView, listed}
 use Rattle.hyd_spec.specs.ProgramTypes.{Project, Tank, VolumePoint, Link, Fcv, Linear, LinkState, Limit, Cmd}
 use Rattle.hyd_spec.specs.declared.TankState.{TankState}
 use Rattle.hyd_spec.specs.declared.TankState.TheVariants.{Between, Full}
@@ -16,7 +16,6 @@ use Rattle.hyd_spec_certificates.specs.PeriodNetwork.{Grid}
 use Rattle.hyd_spec_certificates.specs.RecordAndStanding.{Record, Standing, no_vectors}
 use Rattle.hyd_spec_reports.specs.ReportLine.{ReportLine, TimeLine, ReservoirLine, TankLine, LinkLine, FilledLine}
 use Rattle.hyd_spec_reports.specs.PromisesOfRunsAndChecks.{Found}
-use Rattle.hyd_cases_of_runs.specs.Village.{listed}
 
 -- ---- the network
 

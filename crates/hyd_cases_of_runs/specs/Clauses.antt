@@ -7,8 +7,9 @@ use Rattle.hyd_spec_certificates.specs.declared.Verdict.{Verdict}
 use Rattle.hyd_spec_certificates.specs.Decided.{clause_truth}
 use Rattle.hyd_spec_certificates.specs.Interval.{Interval}
 use Rattle.hyd_spec_certificates.specs.RecordAndStanding.{Record, Standing}
-use Rattle.hyd_cases_of_runs.specs.Town.{compared}
-use Rattle.hyd_cases_of_runs.specs.TownPeriods.{standing_at_two, grid_at_two, grid_when_full, row_at_two, row_when_full}
+use Rattle.hyd_cases_of_runs.specs.TwoTankTown.{compared}
+use Rattle.hyd_cases_of_runs.specs.TwoTankTownPeriods.{standing_at_two, grid_at_two, grid_when_full, row_at_two}
+use Rattle.hyd_cases_of_runs.specs.TwoTankTownPeriods.{row_when_full}
 use Rattle.hyd_cases_of_runs.specs.Hamlet.{standing_at_start, grid_at_start, row_at_start}
 
 -- ---- the hamlet

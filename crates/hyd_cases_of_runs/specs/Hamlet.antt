@@ -11,7 +11,7 @@ use Rattle.hyd_spec.specs.Law.{LinearLaw, Capped}
 use Rattle.hyd_spec_certificates.specs.EnclosingFunctions.{Fixed}
 use Rattle.hyd_spec_certificates.specs.PeriodNetwork.{Grid}
 use Rattle.hyd_spec_certificates.specs.RecordAndStanding.{Record, Standing}
-use Rattle.hyd_cases_of_runs.specs.Town.{listed, no_room, zero_number, tenth, one, compared}
+use Rattle.hyd_cases_of_runs.specs.TwoTankTown.{listed, no_room, zero_number, tenth, one, compared}
 
 -- UNITS GPM
 abbrev pub options : Options

@@ -1,8 +1,8 @@
-pub mod Town
-pub mod TownPeriods
-pub mod TownHistory
-pub mod TownReport
-pub mod TownReadings
+pub mod TwoTankTown
+pub mod TwoTankTownPeriods
+pub mod TwoTankTownHistory
+pub mod TwoTankTownReport
+pub mod TwoTankTownReadings
 pub mod Hamlet
 pub mod Clauses
 pub mod Village

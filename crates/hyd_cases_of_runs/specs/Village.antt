@@ -3,16 +3,12 @@
 use Rattle.std.specs.Prelude.{ℤ, pos, true, false, List, [], ◌∷◌, None, Some, codes}
 use Rattle.std.specs.Int.Signed.{≤ℤ_refl}
 use Rattle.std.proofs.Common.{lit≤}
-use Rattle.hyd_net.specs.ListView.{ListView}
+use Rattle.hyd_net.specs.ListView.{listed}
 use Rattle.hyd_spec.specs.ProgramTypes.{Project, Junction, Tank, Link, Tcv, Fcv, Linear, Closed, Throttle, Limit}
 use Rattle.hyd_spec.specs.ProgramTypes.{Control}
 use Rattle.hyd_spec.specs.ProgramTypes.{AtLevel, Rule, RuleClause, And, Level, Status, Less, Equal, Amount, ValueClosed}
 use Rattle.hyd_spec.specs.ProgramTypes.{Cmd}
 use Rattle.hyd_spec.specs.ProgramTypes.{LinkState}
-
--- A list without room for more.
-abbrev pub listed : {T : Type 0} → List T → ListView T
-listed items = record { list = items; spare = 0 }
 
 -- The mill takes the whole of its demand for eight seconds, then half of it, in turn.
 abbrev pub mill : Junction

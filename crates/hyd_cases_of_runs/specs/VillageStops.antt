@@ -5,7 +5,8 @@ use Rattle.std.proofs.Common.{lit≤}
 use Rattle.hyd_spec.specs.ProgramTypes.{Project, Closed, And, Level, Status, Less, Equal, Amount, ValueActive}
 use Rattle.hyd_spec_certificates.specs.Interval.{Interval}
 use Rattle.hyd_spec_certificates.specs.Decided.{OpenRule}
-use Rattle.hyd_cases_of_runs.specs.Village.{Choice, listed, mill, farm, tower, usual, village}
+use Rattle.hyd_cases_of_runs.specs.Village.{Choice, mill, farm, tower, usual, village}
+use Rattle.hyd_net.specs.ListView.{listed}
 
 -- The mill takes 120 million cubic metres a day.
 abbrev pub thirsty : Project

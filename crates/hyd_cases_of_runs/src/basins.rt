@@ -4,7 +4,7 @@
 #![tactic(auto)]
 
 ghost use Rattle.std.specs.Prelude.{◌≡◌, true};
-ghost use Rattle.hyd_net.specs.Sound.{Sound};
+ghost use Rattle.hyd_net.specs.Sound.{IsSound};
 ghost use Rattle.hyd_spec_certificates.specs.RecordAndStanding.{initial_standing};
 ghost use Rattle.hyd_spec.specs.History.{IsHistory, initial_links};
 ghost use Rattle.hyd_spec_reports.specs.ReportLine.{report_text, done_line};
@@ -18,8 +18,8 @@ ghost use Rattle.hyd_cases_of_runs.specs.Basin.{spilling_written, spilling_print
 
 /// The basins are networks that a file can stand for.
 pub fn networks()
-    ensures curved { Sound (basin_network curved) }
-    ensures spilling { Sound (basin_network spilling) }
+    ensures curved { IsSound (basin_network curved) }
+    ensures spilling { IsSound (basin_network spilling) }
 {}
 
 /// Levels and volumes at the start of the run.

@@ -7,9 +7,9 @@ ghost use Rattle.hyd_spec.specs.ProgramTypes.{Status, Time, Clock, ValueOpen, Va
 ghost use Rattle.hyd_spec_certificates.specs.declared.Verdict.TheVariants.{Yes, No, Unknown};
 ghost use Rattle.hyd_spec_certificates.specs.PeriodNetwork.{grid_links};
 ghost use Rattle.hyd_spec_certificates.specs.Decided.{links_at, flow_boxes, inflow_boxes, rule_truths};
-ghost use Rattle.hyd_cases_of_runs.specs.Town.{IsTown, numbers, amount};
-ghost use Rattle.hyd_cases_of_runs.specs.TownPeriods.{standing_at_start, standing_at_two, standing_when_full};
-ghost use Rattle.hyd_cases_of_runs.specs.TownPeriods.{standing_at_three, row_at_two};
+ghost use Rattle.hyd_cases_of_runs.specs.TwoTankTown.{IsTown, numbers, amount};
+ghost use Rattle.hyd_cases_of_runs.specs.TwoTankTownPeriods.{standing_at_start, standing_at_two, standing_when_full};
+ghost use Rattle.hyd_cases_of_runs.specs.TwoTankTownPeriods.{standing_at_three, row_at_two};
 ghost use Rattle.hyd_cases_of_runs.specs.Hamlet.{IsHamlet, hamlet, pounds_12_9, pounds_4_3, pounds_4_333};
 ghost use Rattle.hyd_cases_of_runs.specs.Hamlet.{pounds_12_999};
 ghost use Rattle.hyd_cases_of_runs.specs.Hamlet.{grid_at_start, row_at_start};

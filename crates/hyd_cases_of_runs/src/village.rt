@@ -4,7 +4,7 @@
 
 ghost use Rattle.std.specs.Prelude.{◌≡◌, true, List, [], ◌∷◌, length};
 ghost use Rattle.std.specs.List.{AllByRecursion};
-ghost use Rattle.hyd_net.specs.Sound.{Sound};
+ghost use Rattle.hyd_net.specs.Sound.{IsSound};
 ghost use Rattle.hyd_spec_certificates.specs.RecordAndStanding.{Standing, initial_standing};
 ghost use Rattle.hyd_spec_certificates.specs.Decided.{EndsBy, WithoutRules, ByRules};
 ghost use Rattle.hyd_spec.specs.History.{IsHistory, initial_links};
@@ -27,7 +27,7 @@ ghost use Rattle.hyd_cases_of_runs.specs.VillageTexts.{written, printed};
 
 /// The village is a network that a file can stand for.
 pub fn network()
-    ensures { Sound village }
+    ensures { IsSound village }
 {}
 
 /// The standing at the start of the run, and the grid of each period.

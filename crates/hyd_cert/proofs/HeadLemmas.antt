@@ -8,7 +8,7 @@ use Rattle.std.proofs.lemmas.List.{take_more_set, length-take-le}
 use Rattle.std.proofs.lemmas.List.Elements.{All-push}
 use Rattle.std.proofs.lemmas.Bool.Decides.{Decides-ltb}
 use Rattle.hyd_io.specs.DeskBytes.{prepend_known}
-use Rattle.hyd_io.proofs.ToldLemmas.{prepend_known-prepend_known}
+use Rattle.hyd_io.proofs.MovedBytesLemmas.{prepend_known-prepend_known}
 use Rattle.hyd_io.specs.declared.desk.Faults.{Faults}
 use Rattle.hyd_io.specs.FailureCounts.{with_read_fault}
 use Rattle.hyd_spec_certificates.specs.Certificate.{IsInBox}

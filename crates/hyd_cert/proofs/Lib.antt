@@ -1,10 +1,10 @@
-pub mod GoesLemmas
+pub mod TextsAtFault
 pub mod HeadLemmas
 pub mod LineLemmas
 pub mod Numerals
-pub mod Pieces
-pub mod ReadingLemmas
-pub mod SentenceLemmas
+pub mod SplitTexts
+pub mod CertificatesLineByLine
+pub mod WholeTextLemmas
 pub mod VectorLemmas
 pub mod VersionLemmas
 pub mod WritingLemmas

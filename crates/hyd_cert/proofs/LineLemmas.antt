@@ -21,7 +21,7 @@ use Rattle.hyd_cert.specs.NextLine.{IsPeriodOrEnd}
 use Rattle.hyd_cert.specs.Lines.{Header, IsHeadLine, IsPeriodLine, IsEndLine, IsHeaderLine, end_word}
 use Rattle.hyd_lemmas.proofs.ListsOptionsAndResults.{same_item}
 use Rattle.hyd_cert.proofs.Numerals.{short_numeral}
-use Rattle.hyd_cert.proofs.Pieces.{split-same, has_none}
+use Rattle.hyd_cert.proofs.SplitTexts.{split-same, has_none}
 
 -- ---- numerals have digits alone
 

@@ -12,7 +12,7 @@ use Rattle.std.proofs.lemmas.Int.Digits.{digits_value_more}
 use Rattle.std.proofs.lemmas.Str.Parse.{IsNumeralModel, numerals_by_value, tells_digits, digits_value_short, digit_at}
 use Rattle.std.proofs.lemmas.Int.{ints}
 use Rattle.hyd_spec_certificates.specs.Certificate.{IsInBox}
-use Rattle.hyd_io.proofs.ToldLemmas.{take-drop}
+use Rattle.hyd_io.proofs.MovedBytesLemmas.{take-drop}
 use Rattle.std.proofs.lemmas.List.{take_more, take_all, length-take-le}
 
 pub own : IsNumeralModel (AllDigits 10) (digits_value 10)

@@ -21,11 +21,11 @@ use Rattle.hyd_cert.specs.declared.answers.CertFault.TheVariants.{Read, Grammar,
 use Rattle.hyd_cert.specs.declared.answers.CertNext.{CertNext}
 use Rattle.hyd_cert.specs.declared.answers.Stand.{Stand}
 use Rattle.hyd_cert.specs.declared.answers.Stand.TheVariants as stand
-use Rattle.hyd_cert.proofs.Pieces.{split-same}
+use Rattle.hyd_cert.proofs.SplitTexts.{split-same}
 use Rattle.hyd_cert.proofs.HeadLemmas.{place_head, period_is}
-use Rattle.hyd_cert.proofs.GoesLemmas.{stands_alone, may_stand, next_same, has_rest}
+use Rattle.hyd_cert.proofs.TextsAtFault.{stands_alone, may_stand, next_same, has_rest}
 use Rattle.hyd_cert.proofs.VectorLemmas.{row_text}
-use Rattle.hyd_cert.proofs.ReadingLemmas.{by_heads, flat}
+use Rattle.hyd_cert.proofs.CertificatesLineByLine.{by_heads, flat}
 
 at_least_one : (header : Header) (place : Place) (t : Option (List ℕ)) (number : ℕ) → IsFault header place t number
     → 0 < number

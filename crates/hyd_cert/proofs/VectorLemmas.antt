@@ -13,7 +13,7 @@ use Rattle.std.proofs.lemmas.Slice.{overwrites, take-put_mid_below, between-put_
 use borrow.Rule.Slice.PartMut.{put_mid}
 use Rattle.std.specs.List.{refill}
 use Rattle.hyd_io.specs.DeskBytes.{prepend_known}
-use Rattle.hyd_io.proofs.ToldLemmas.{prepend_known-prepend_known}
+use Rattle.hyd_io.proofs.MovedBytesLemmas.{prepend_known-prepend_known}
 use Rattle.hyd_spec_certificates.specs.Certificate.{IsInBox}
 use Rattle.hyd_spec_certificates.specs.declared.Problem.{Problem}
 use Rattle.hyd_spec_certificates.specs.declared.Problem.TheVariants.{Main, Pinned}
@@ -213,7 +213,7 @@ two_are n us long box =
 behind_box : (n : ℕ) (us : List ℤ) → All IsInBox us → All IsInBox (behind_two n us)
 behind_box n us box = All-drop IsInBox n (drop n us) (All-drop IsInBox n us box)
 
-problems_length : (n more : ℕ) (us : List ℤ) → length (problems_in n more us) ≡ more
+pub problems_length : (n more : ℕ) (us : List ℤ) → length (problems_in n more us) ≡ more
 problems_length n zero us = refl
 problems_length n (suc more) us = let k = problems_length n more (behind_two n us) in omega (arith, k)
 

@@ -24,7 +24,7 @@ pub enum CertFault {
 
 /// What an END line says.
 #[derive(Clone, Copy, Debug, PartialEq, Eq)]
-pub struct End {
+pub struct EndLine {
     /// The number of records.
     pub periods: u32,
     /// Whether the run reached its end.
@@ -53,7 +53,7 @@ pub enum Stand {
     /// Before a PERIOD line or an END line.
     Between,
     /// Behind the END line, which ends the text.
-    Over(End),
+    Over(EndLine),
     /// It answered this fault.
     Stuck(CertFault),
 }

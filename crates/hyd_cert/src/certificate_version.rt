@@ -5,7 +5,7 @@ ghost use Rattle.hyd_spec_reports.specs.CertificateText.{version_of};
 
 use hyd_net::{Project, Tank};
 
-/// The version of the project's certificates: 2 where a tank has a volume curve or overflows, else 1.
+/// The version of the network's certificates: 2 where a tank has a volume curve or overflows, else 1.
 pub fn version_of(project: &Project) -> u32
     ensures { result ≡ version_of project.now }
 {

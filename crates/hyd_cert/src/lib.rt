@@ -1,4 +1,5 @@
-//! The text of a certificate: its records, what puts them out, and what reads them.
+//! The text of a certificate: its records, what puts them out, and what reads them, with the line and the cause of a
+//! fault; and the version of a network's certificates.
 #![tactic(auto)]
 
 mod answers;
@@ -9,9 +10,9 @@ mod reader;
 mod record;
 mod theorems;
 mod words;
-mod writing;
+mod writer;
 
-pub use answers::{CertFault, CertNext, End, Stand};
+pub use answers::{CertFault, CertNext, EndLine, Stand};
 pub use certificate_version::version_of;
 pub use reader::CertReader;
 pub use record::{Record, has_small_numbers};
@@ -19,7 +20,7 @@ pub use theorems::{
     certificates_by_lines, fault_behind_records, fault_is_first, first_fault_is_one,
     reading_is_whole, record_has_a_header, refused_is_no_certificate,
 };
-pub use writing::{put_end, put_head, put_record};
+pub use writer::{put_end, put_head, put_record};
 
 /// The error of a call that found no memory.
 pub use std::alloc::AllocError as OutOfMemory;

@@ -5,7 +5,7 @@ ghost use Rattle.std.specs.Prelude.{slice_index, false, IsTrue, Some, IfSome, If
 ghost use Rattle.hyd_io.specs.Buffers.{buffer_bytes};
 ghost use Rattle.hyd_io.specs.DeskBytes.{where_told, prepend_known};
 ghost use Rattle.hyd_io.specs.FailureCounts.{with_read_fault};
-ghost use Rattle.hyd_io.specs.Keeping.{KeepsOutput};
+ghost use Rattle.hyd_io.specs.LeftAsItWas.{KeepsOutput};
 ghost use Rattle.hyd_cert.specs.TextsWithoutLine.{HasNo, HasNoLine};
 
 use hyd_io::{BUFFER_BYTES, Desk, Failed};

@@ -7,7 +7,7 @@ ghost use Rattle.hyd_spec_certificates.specs.Certificate.{IsInBox};
 ghost use Rattle.hyd_cert.specs.NextLine.{next_text, NextFits, IsPeriodOrEnd};
 ghost use Rattle.hyd_cert.specs.Lines.{Header, IsHeadLine, IsPeriodLine, IsEndLine, IsHeaderLine, end_word};
 
-use crate::answers::End;
+use crate::answers::EndLine;
 use crate::words::{after, head, is_number, small_number, split_word};
 
 /// What a PERIOD line says.
@@ -25,7 +25,7 @@ pub(crate) struct Period {
 #[derive(Clone, Copy, Drop)]
 pub(crate) enum Next {
     Period(Period),
-    End(End),
+    End(EndLine),
 }
 
 /// What the line says, if it is a PERIOD line or an END line.
@@ -99,7 +99,7 @@ pub(crate) fn period_line(line: &[u8]) -> Option<Period>
 }
 
 /// What the END line says, if the line is one.
-pub(crate) fn end_line(line: &[u8]) -> Option<End>
+pub(crate) fn end_line(line: &[u8]) -> Option<EndLine>
     ensures some { IfSome result (λ e. line.now
         ≡ codes "END" ++ (32 ∷ (decimal e.periods ++ (32 ∷ end_word e.finished)))) }
     ensures fits { IfSome result (λ e. e.periods < 2 ^ 32) }
@@ -117,7 +117,7 @@ pub(crate) fn end_line(line: &[u8]) -> Option<End>
     let Some(finished) = says_finished(word) else {
         return None;
     };
-    Some(End { periods, finished })
+    Some(EndLine { periods, finished })
 }
 
 /// Whether the last word of an END line says that the run reached its end.

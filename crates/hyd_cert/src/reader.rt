@@ -5,7 +5,7 @@ ghost use Rattle.std.specs.Prelude.{slice_set, Some, All, IfOk, IfErr, OnOk};
 ghost use Rattle.std.specs.Fmt.{signed_decimal};
 ghost use Rattle.hyd_io.specs.DeskBytes.{where_told, prepend_known};
 ghost use Rattle.hyd_io.specs.FailureCounts.{with_read_fault};
-ghost use Rattle.hyd_io.specs.Keeping.{KeepsOutput};
+ghost use Rattle.hyd_io.specs.LeftAsItWas.{KeepsOutput};
 ghost use Rattle.hyd_spec_certificates.specs.Certificate.{IsInBox};
 ghost use Rattle.hyd_spec_reports.specs.CertificateText.{IsRow, record_text, end_line};
 ghost use Rattle.hyd_cert.specs.TextsWithoutLine.{HasNo};
@@ -19,11 +19,11 @@ ghost use Rattle.hyd_cert.specs.ReaderView.{stand_of, OnRecord, OnEnd};
 ghost use Rattle.hyd_cert.specs.RecordView.{header_of, row_of};
 ghost use Rattle.hyd_cert.specs.declared.answers.Stand.TheVariants as stand;
 
-use crate::answers::{CertFault, CertNext, End, Stand};
+use crate::answers::{CertFault, CertNext, EndLine, Stand};
 use crate::line_reader::Source;
 use crate::lines::{Next, head_line, is_header_line, period_or_end};
 use crate::record::{Record, has_small_counts};
-use crate::writing::{front_of, is_header_of};
+use crate::writer::{front_of, is_header_of};
 use hyd_io::Desk;
 use std::marker::Model;
 
@@ -294,7 +294,7 @@ fn stand_after(read: &Result<CertNext, CertFault>) -> Stand
 {
     match *read {
         Ok(CertNext::Record) => Stand::Between,
-        Ok(CertNext::End { periods, finished }) => Stand::Over(End { periods, finished }),
+        Ok(CertNext::End { periods, finished }) => Stand::Over(EndLine { periods, finished }),
         Err(fault) => Stand::Stuck(fault),
     }
 }

@@ -3,7 +3,7 @@ use Rattle.std.proofs.Common.{◌≡◌, ℕ, ◌+◌, ◌*◌, Bool, List, [], 
 use Rattle.std.proofs.Common.{ap, subst, ◌∙◌, arith, append_assoc}
 use Rattle.std.proofs.lemmas.List.{append_cancel_left}
 use Rattle.std.proofs.lemmas.List.Elements.{All-push}
-use Rattle.hyd_net.specs.Sound.{Sound}
+use Rattle.hyd_net.specs.Sound.{IsSound}
 use Rattle.hyd_spec.specs.ProgramTypes.{Project}
 use Rattle.hyd_spec.specs.Lists.{joined}
 use Rattle.hyd_spec.specs.NodeNumbers.{junction_count, tank_count}
@@ -15,21 +15,21 @@ use Rattle.hyd_spec_reports.specs.declared.CertRefused.{CertRefused}
 use Rattle.hyd_spec_reports.specs.PromisesOfRunsAndChecks.{Found, rows_of, lines_of, accepted_line, CheckAccepts}
 use Rattle.hyd_spec_reports.specs.PromisesOfRunsAndChecks.{CheckRefuses, CheckRefusesEnd}
 use Rattle.hyd_lemmas.proofs.ListsOptionsAndResults.{join-more}
-use Rattle.hyd_theorems_on_histories.proofs.Running.{every_history}
+use Rattle.hyd_theorems_on_histories.proofs.HistoriesAlongRuns.{every_history}
 use Rattle.hyd_cert.specs.Lines.{Header, header_text, header_words}
 use Rattle.hyd_cert.specs.PlacesOfLines.{First, IsFault, heads_in}
 use Rattle.hyd_cert.specs.Faults.{lines_on, HasOtherHeader, LacksRecord}
 use Rattle.hyd_cert.specs.FaultyLine.{lines_of as record_lines}
 use Rattle.hyd_cert.specs.ReaderView.{place_of}
 use Rattle.hyd_cert.specs.declared.answers.Stand.{Stand}
-use Rattle.hyd_cert.proofs.GoesLemmas.{has_rest}
-use Rattle.hyd_cert.proofs.ReadingLemmas.{whole_reading, fault_behind}
-use Rattle.hyd_cert.proofs.SentenceLemmas.{first_fault}
+use Rattle.hyd_cert.proofs.TextsAtFault.{has_rest}
+use Rattle.hyd_cert.proofs.CertificatesLineByLine.{whole_reading, fault_behind}
+use Rattle.hyd_cert.proofs.WholeTextLemmas.{first_fault}
 use Rattle.hyd_sim.specs.View.{header_for}
 use Rattle.hyd_cert_check.specs.Checks.{refused_grammar_line, refused_counts_line, printed_number, HasNoMoreRecords}
 use Rattle.hyd_cert_check.specs.Checks.{CheckRefusesGrammar, CheckRefusesCounts, grammar, counts, record_refused}
 use Rattle.hyd_cert_check.specs.Checks.{other_end, CheckEnds, CheckFinds}
-use Rattle.hyd_cert_check.specs.ReaderAndPen.{Moment}
+use Rattle.hyd_cert_check.specs.ReaderAndPen.{CheckMoment}
 use Rattle.hyd_cert_check.specs.RecordByRecord.{coming, IsReadTo, nothing, records, IsSoFar, IsSo, IsEnd, IsOtherEnd}
 use Rattle.hyd_cert_check.specs.RecordByRecord.{IsRefusedNext, IsGrammarFault, IsCountsFault, end_number}
 use Rattle.hyd_cert_check.specs.RecordByRecord.{conclusion_line}
@@ -38,7 +38,7 @@ use Rattle.hyd_cert_check.specs.declared.outcome.Conclusion.{Conclusion}
 use Rattle.hyd_cert_check.specs.declared.outcome.Conclusion.TheVariants.{Accepted, Refused, OtherEnd, Grammar, Counts}
 use Rattle.hyd_cert_check.proofs.TextLemmas.{own-header, no-rows}
 use Rattle.std.proofs.lemmas.List.{length-map}
-use Rattle.hyd_cert_check.proofs.FeedLemmas.{end-number-is}
+use Rattle.hyd_cert_check.proofs.LineCountLemmas.{end-number-is}
 use Rattle.hyd_cert_check.proofs.ReadLemmas.{read-more, last-text, begins-so}
 
 -- ---- numbers of lines
@@ -69,7 +69,7 @@ one-more front rows row unread =
     ∙ (ap (λ (t : List ℕ). front ++ t) (append_assoc (joined (map record_text rows)) (record_text row) unread)
     ∙ sym (append_assoc front (joined (map record_text rows)) (record_text row ++ unread)))
 
-module _ (project : Project) (sound : Sound project) (left : Standing) (start at : Moment)
+module _ (project : Project) (sound : IsSound project) (left : Standing) (start at : CheckMoment)
     (so_far : IsSoFar project left start at) (text : List ℕ) (told : coming start ≡ Some text) where
   abbrev own : Header
   own = header_for project
@@ -132,7 +132,7 @@ module _ (project : Project) (sound : Sound project) (left : Standing) (start at
 
   -- ---- records
 
-  refused-by : (cause : CertRefused) (now : Moment) (next : IsRefusedNext project left cause at now)
+  refused-by : (cause : CertRefused) (now : CheckMoment) (next : IsRefusedNext project left cause at now)
       (rows : List Record) → rows ≡ rows_of so_far.founds ++ (next.row ∷ []) → IsReadTo project start now rows
       → CheckRefuses project text (report-of (refused_line project cause)) cause
   refused-by cause now next _ e (nothing stands same zero_lines) = absurd (no-end (rows_of so_far.founds) next.row e)
@@ -153,7 +153,7 @@ module _ (project : Project) (sound : Sound project) (left : Standing) (start at
         every_history = every_history project sound so_far.founds left so_far.is_run;
       }
 
-  refused-record : (cause : CertRefused) (now : Moment) → IsRefusedNext project left cause at now
+  refused-record : (cause : CertRefused) (now : CheckMoment) → IsRefusedNext project left cause at now
       → CheckRefuses project text (report-of (refused_line project cause)) cause
   refused-record cause now next =
       refused-by cause now next (rows_of so_far.founds ++ (next.row ∷ [])) refl
@@ -229,7 +229,7 @@ module _ (project : Project) (sound : Sound project) (left : Standing) (start at
 
   -- ---- all of them
 
-  pub holds-whole : (conclusion : Conclusion) (now : Moment) → IsSo conclusion project left at now
+  pub holds-whole : (conclusion : Conclusion) (now : CheckMoment) → IsSo conclusion project left at now
       → CheckEnds project text (report-of (conclusion_line project left.number conclusion)) (end_of conclusion)
   holds-whole (Accepted finished) now so = accepted finished so.0 so.1
   holds-whole (Refused cause) now so = record_refused cause (refused-record cause now so)

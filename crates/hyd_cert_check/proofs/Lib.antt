@@ -1,8 +1,8 @@
 pub mod PenLemmas
 pub mod TextLemmas
-pub mod FeedLemmas
+pub mod LineCountLemmas
 pub mod ReadLemmas
 pub mod ConclusionLemmas
-pub mod EndLemmas
+pub mod WholeCheckLemmas
 pub mod RecordLemmas
-pub mod TurnLemmas
+pub mod RecordByRecordLemmas

@@ -8,11 +8,11 @@ use Rattle.hyd_io.specs.declared.output.Channel.{Channel}
 use Rattle.hyd_io.specs.declared.output.Channel.TheVariants.{Report}
 use Rattle.hyd_io.specs.DeskBytes.{Files, Moves, PutOut}
 use Rattle.hyd_io.specs.Output.{OnCert, HasOutCause, PenState}
-use Rattle.hyd_io.proofs.ToldLemmas.{moves_then, put_out_then, put_out_nothing, moves_nothing}
+use Rattle.hyd_io.proofs.MovedBytesLemmas.{moves_then, put_out_then, put_out_nothing, moves_nothing}
 use Rattle.hyd_cert.specs.ReaderView.{ReaderView}
-use Rattle.hyd_io.specs.Putting.{Puts}
+use Rattle.hyd_io.specs.TextPutIn.{Puts}
 use Rattle.hyd_run.specs.Pens.{Told, told}
-use Rattle.hyd_cert_check.specs.ReaderAndPen.{Moment, moment, new_pen, IsOpen, LeavesFiles, PutIn, IsCutOff, Rose}
+use Rattle.hyd_cert_check.specs.ReaderAndPen.{CheckMoment, moment, new_pen, IsOpen, LeavesFiles, PutIn, IsCutOff, Rose}
 use Rattle.hyd_cert_check.specs.declared.outcome.CheckFault.{CheckFault}
 use Rattle.hyd_cert_check.specs.declared.outcome.CheckFault.TheVariants.{Output}
 use Rattle.hyd_run.proofs.PenLemmas.{on-report, second-out, second-moves}
@@ -71,7 +71,7 @@ leaves-then a b d first second = record {
   openings_stay = second.openings_stay ∙ first.openings_stay;
 }
 
-pub put-then : (a b : List ℕ) (m n o : Moment) → PutIn a m n → PutIn b n o → PutIn (a ++ b) m o
+pub put-then : (a b : List ℕ) (m n o : CheckMoment) → PutIn a m n → PutIn b n o → PutIn (a ++ b) m o
 put-then a b m n o first second = record {
   printed = subst (λ (all : List ℕ). Moves m.told.printed o.told.printed all o.pen.held)
       (append_assoc m.pen.held a b)
@@ -83,7 +83,7 @@ put-then a b m n o first second = record {
 }
 
 -- the second text was cut off
-pub cut-off-then : (why : CheckFault) (a b : List ℕ) (m n o : Moment) → PutIn a m n → IsCutOff why b n o
+pub cut-off-then : (why : CheckFault) (a b : List ℕ) (m n o : CheckMoment) → PutIn a m n → IsCutOff why b n o
     → IsCutOff why (a ++ b) m o
 cut-off-then why a b m n o first second = record {
   printed = subst (PutOut m.told.printed o.told.printed) (append_assoc m.pen.held a b)
@@ -93,16 +93,16 @@ cut-off-then why a b m n o first second = record {
   leaves = leaves-then m.told n.told o.told first.leaves second.leaves;
 }
 
-pub put-as : (a b : List ℕ) (m n : Moment) → a ≡ b → PutIn a m n → PutIn b m n
+pub put-as : (a b : List ℕ) (m n : CheckMoment) → a ≡ b → PutIn a m n → PutIn b m n
 put-as a b m n e put = subst (λ (x : List ℕ). PutIn x m n) e put
 
-pub cut-off-as : (why : CheckFault) (a b : List ℕ) (m n : Moment) → a ≡ b → IsCutOff why a m n → IsCutOff why b m n
+pub cut-off-as : (why : CheckFault) (a b : List ℕ) (m n : CheckMoment) → a ≡ b → IsCutOff why a m n → IsCutOff why b m n
 cut-off-as why a b m n e cut_off = subst (λ (x : List ℕ). IsCutOff why x m n) e cut_off
 
 -- ---- nothing is put in
 
 -- what is read leaves the pen as it was
-pub read-puts : (m n : Moment) → IsOpen m.pen → n.pen ≡ m.pen → n.told.printed ≡ m.told.printed
+pub read-puts : (m n : CheckMoment) → IsOpen m.pen → n.pen ≡ m.pen → n.told.printed ≡ m.told.printed
     → n.told.counts ≡ m.told.counts → LeavesFiles m.told n.told → PutIn [] m n
 read-puts m n is pen printed steady leaves = record {
   printed = subst (λ (all : List ℕ). Moves m.told.printed n.told.printed all n.pen.held) (sym (append-nil m.pen.held))
@@ -116,7 +116,7 @@ read-puts m n is pen printed steady leaves = record {
 }
 
 -- a read that fails too
-pub read-cut-off : (why : CheckFault) (m n : Moment) → n.told.printed ≡ m.told.printed
+pub read-cut-off : (why : CheckFault) (m n : CheckMoment) → n.told.printed ≡ m.told.printed
     → Rose why m.told.counts n.told.counts → LeavesFiles m.told n.told → IsCutOff why [] m n
 read-cut-off why m n printed rose leaves = record {
   printed = subst (λ (o : Option (List ℕ)). PutOut m.told.printed o (m.pen.held ++ [])) (sym printed)

@@ -2,7 +2,7 @@
 use Rattle.std.proofs.Common.{◌≡◌, ℕ, suc, ◌+◌, ◌*◌, List, [], ◌∷◌, ◌++◌, length, length-append, map, Option, Some, sym}
 use Rattle.std.proofs.Common.{ap, ◌∙◌, arith, append-nil, append_assoc, inl, inr}
 use Rattle.hyd_io.specs.DeskBytes.{where_told, prepend_known}
-use Rattle.hyd_io.proofs.ToldLemmas.{prepend_known-prepend_known}
+use Rattle.hyd_io.proofs.MovedBytesLemmas.{prepend_known-prepend_known}
 use Rattle.hyd_spec.specs.ProgramTypes.{Project}
 use Rattle.hyd_spec.specs.Lists.{joined}
 use Rattle.hyd_spec_certificates.specs.RecordAndStanding.{Record}
@@ -16,10 +16,10 @@ use Rattle.hyd_cert.specs.ReaderView.{lead, lead_lines}
 use Rattle.hyd_cert.specs.declared.answers.Stand.{Stand}
 use Rattle.hyd_cert.specs.declared.answers.Stand.TheVariants as stand
 use Rattle.hyd_lemmas.proofs.ListsOptionsAndResults.{join-more}
-use Rattle.hyd_cert.proofs.GoesLemmas.{has_rest}
+use Rattle.hyd_cert.proofs.TextsAtFault.{has_rest}
 use Rattle.hyd_sim.specs.View.{header_for}
 use Rattle.hyd_cert_check.specs.Checks.{BeginsWithFound}
-use Rattle.hyd_cert_check.specs.ReaderAndPen.{Moment}
+use Rattle.hyd_cert_check.specs.ReaderAndPen.{CheckMoment}
 use Rattle.hyd_cert_check.specs.RecordByRecord.{coming, IsRead, IsReadTo, nothing, records}
 use Rattle.hyd_cert_check.proofs.TextLemmas.{no-rows, told-is}
 
@@ -45,12 +45,13 @@ lead-first s header e = ap (λ (x : Stand). lead x header) e
 lead-between : (s : Stand) (header : Header) → s ≡ stand.Between → lead s header ≡ []
 lead-between s header e = ap (λ (x : Stand). lead x header) e
 
-module _ (project : Project) (start : Moment) where
+module _ (project : Project) (start : CheckMoment) where
   abbrev own : Header
   own = header_for project
 
   -- the first record was read
-  first-read : (row : Record) (before now : Moment) → before.reader.stand ≡ stand.First → coming before ≡ coming start
+  first-read : (row : Record) (before now : CheckMoment) → before.reader.stand ≡ stand.First → coming before
+      ≡ coming start
       → before.reader.line ≡ 0 → IsRead own row before now → IsReadTo project start now (row ∷ [])
   first-read row before now stands same zero_lines read =
       let heads = heads_in own.junctions own.tanks in
@@ -65,7 +66,7 @@ module _ (project : Project) (start : Moment) where
       records read.stands text (first-lines heads now.reader.line passed)
 
   -- one more was read
-  next-read : (rows : List Record) (row : Record) (before now : Moment) → before.reader.stand ≡ stand.Between
+  next-read : (rows : List Record) (row : Record) (before now : CheckMoment) → before.reader.stand ≡ stand.Between
       → coming start ≡ prepend_known (header_text own ++ joined (map record_text rows)) (coming before)
       → before.reader.line ≡ lines_on 0 (lines_of own rows) → IsRead own row before now
       → IsReadTo project start now (rows ++ (row ∷ []))
@@ -89,7 +90,7 @@ module _ (project : Project) (start : Moment) where
       records read.stands text (more-lines heads (length rows) (length (rows ++ (row ∷ []))) before.reader.line
       now.reader.line passed count lines)
 
-  pub read-more : (rows : List Record) (row : Record) (before now : Moment) → IsReadTo project start before rows
+  pub read-more : (rows : List Record) (row : Record) (before now : CheckMoment) → IsReadTo project start before rows
       → IsRead own row before now → IsReadTo project start now (rows ++ (row ∷ []))
   read-more _ row before now (nothing stands same zero_lines) read =
       first-read row before now stands same zero_lines read
@@ -98,7 +99,7 @@ module _ (project : Project) (start : Moment) where
   -- ---- a text that is told
 
   -- the text, where this is what is left of it
-  pub last-text : (rows : List Record) (at : Moment) (rest : Option (List ℕ)) (tail text : List ℕ)
+  pub last-text : (rows : List Record) (at : CheckMoment) (rest : Option (List ℕ)) (tail text : List ℕ)
       → IsReadTo project start at rows → coming at ≡ where_told rest (lead at.reader.stand own ++ tail)
       → coming start ≡ Some text → text ≡ header_text own ++ (joined (map record_text rows) ++ tail)
   last-text _ at rest tail text (nothing stands same zero_lines) left told =
@@ -115,7 +116,7 @@ module _ (project : Project) (start : Moment) where
       ∙ append_assoc head (joined (map record_text rows)) tail)
 
   -- it begins with the records that were read
-  pub begins-so : (founds : List Found) (rows : List Record) (at : Moment) (text : List ℕ) → rows ≡ rows_of founds
+  pub begins-so : (founds : List Found) (rows : List Record) (at : CheckMoment) (text : List ℕ) → rows ≡ rows_of founds
       → IsReadTo project start at rows → coming start ≡ Some text → BeginsWithFound project founds text
   begins-so founds _ at text e (nothing stands same zero_lines) told = inl (no-rows founds (sym e))
   begins-so founds rows at text e (records stands begins passed) told =

@@ -1,7 +1,6 @@
 -- A record that was read and tried.
-use Rattle.std.proofs.Common.{◌≡◌, ℕ, suc, ◌+◌, ◌<◌, ◌^◌, [], ◌++◌, length, Bool, refl, sym, ap, subst, ◌∙◌, arith}
-use Rattle.std.proofs.lemmas.List.{length-map}
-use Rattle.hyd_net.specs.Sound.{Sound}
+use Rattle.std.proofs.Common.{◌≡◌, ℕ, suc, ◌+◌, ◌<◌, ◌^◌, [], ◌++◌, length, Bool, refl, sym, ap, subst, ◌∙◌}
+use Rattle.hyd_net.specs.Sound.{IsSound}
 use Rattle.hyd_spec.specs.ProgramTypes.{Project}
 use Rattle.hyd_spec_certificates.specs.RecordAndStanding.{Record, Standing}
 use Rattle.hyd_spec_reports.specs.PromisesOfRunsAndChecks.{Found}
@@ -20,19 +19,17 @@ use Rattle.hyd_cert.specs.declared.answers.Stand.TheVariants as stand
 use Rattle.hyd_cert.specs.declared.record.Record.{Record as Row}
 use Rattle.hyd_period_network.specs.NetAsPeriodNetwork.{grid_of, states_of}
 use Rattle.hyd_period_network.specs.NetView.{NetView}
-use Rattle.hyd_period_network.specs.Periods.{ends_of, IsNetOf}
+use Rattle.hyd_period_network.specs.NetsSetToPeriods.{IsNetOf}
 use Rattle.hyd_period_network.specs.LawsInSettings.{AreStates}
 use Rattle.hyd_period_facts.specs.declared.facts.Facts.{Facts}
 use Rattle.hyd_theorems_on_definitions.specs.TermsOfTheorems.{IsSteady}
 use Rattle.hyd_report.specs.NodeAndLinkLines.{texts}
 use Rattle.hyd_report.specs.PeriodLines.{AreBounds, AreTankFacts, lines_of}
-use Rattle.hyd_period_network.proofs.Counts.{links_count}
 use Rattle.hyd_report.proofs.ReportLemmas.{lines_are_report}
-use Rattle.hyd_run.specs.Runs.{periods_left}
-use Rattle.hyd_run.proofs.PeriodLemmas.{bounds-of, tank-facts-of, few-periods, number-next}
+use Rattle.hyd_run.proofs.PeriodLemmas.{bounds-of, tank-facts-of, number-next, each-link, fewer-left}
 use Rattle.hyd_sim.specs.View.{SimView, IsSim, standing_of, header_for}
 use Rattle.hyd_sim.specs.Acceptance.{IsAccepted}
-use Rattle.hyd_cert_check.specs.ReaderAndPen.{Moment, PutIn, IsCutOff}
+use Rattle.hyd_cert_check.specs.ReaderAndPen.{CheckMoment, PutIn, IsCutOff}
 use Rattle.hyd_cert_check.specs.RecordByRecord.{coming, IsRead, IsStep, IsOfPeriod, DidRecord, LostRecord, IsOver, IsSo}
 use Rattle.hyd_cert_check.specs.RecordByRecord.{IsEnd, IsGrammarFault, IsCountsFault}
 use Rattle.hyd_cert_check.specs.declared.outcome.CheckFault.{CheckFault}
@@ -42,7 +39,7 @@ use Rattle.hyd_cert_check.proofs.PenLemmas.{put-then, cut-off-then}
 
 -- ---- what was read
 
-pub is-read : (header : Header) (row : Row) (before now : Moment) → header_of row ≡ header
+pub is-read : (header : Header) (row : Row) (before now : CheckMoment) → header_of row ≡ header
     → coming before ≡ prepend_known (lead before.reader.stand (header_of row) ++ record_text (row_of row)) (coming now)
     → IsRow row.junctions row.tanks (row_of row)
     → now.reader.line ≡ lines_on before.reader.line (lead_lines before.reader.stand + length row.vectors.list)
@@ -56,7 +53,7 @@ is-read header row before now same text fits lines stands =
     })
 
 -- what is still to come stays
-read-there : (header : Header) (row : Record) (m n o : Moment) → IsRead header row m n → o.reader ≡ n.reader
+read-there : (header : Header) (row : Record) (m n o : CheckMoment) → IsRead header row m n → o.reader ≡ n.reader
     → o.told.rest ≡ n.told.rest → IsRead header row m o
 read-there header row m n o read same rest =
     let coming_stays : coming o ≡ coming n = ap (λ (r : ReaderView). to_come r o.told.rest) same ∙ ap (to_come n.reader)
@@ -72,7 +69,7 @@ read-there header row m n o read same rest =
 
 module _ (sim : SimView) (is : IsSim sim) (of : IsOfPeriod sim) (project : Project) (net : NetView) (row : Row)
     (facts : Facts) (p : project ≡ sim.project) (n : net ≡ sim.net) (r : row ≡ sim.row) (f : facts ≡ sim.facts) where
-  pub sound-there : Sound project
+  pub sound-there : IsSound project
   sound-there = rw p is.sound
 
   pub net-there : IsNetOf project net
@@ -103,13 +100,6 @@ module _ (before now : SimView) (is : IsSim now) (accepted : IsAccepted before n
     links = accepted.links;
   }
 
-  each-link : length (grid_of now.net).links ≡ length now.project.links.list
-  each-link =
-      let ends : length now.net.ends ≡ length now.project.links.list =
-      ap length is.net.ends ∙ length-map now.project.links.list ends_of in
-      links_count now.net.ends now.net.settings now.net.own (is.net.each_setting ∙ sym ends) (is.net.each_own ∙
-      sym ends) ∙ ends
-
   -- what was found
   abbrev found : Found
   found = record {
@@ -120,6 +110,10 @@ module _ (before now : SimView) (is : IsSim now) (accepted : IsAccepted before n
     next = standing_of now;
   }
 
+  number-is : (standing_of now).number ≡ suc (standing_of before).number
+  number-is =
+      number-next now.project (standing_of before) (grid_of now.net) (row_of now.row) (standing_of now) accepted.valid
+
   is-step : IsStep now.project (standing_of before) (standing_of now) found
   is-step = record {
     begins = refl;
@@ -127,21 +121,13 @@ module _ (before now : SimView) (is : IsSim now) (accepted : IsAccepted before n
     is_found = record {
       valid = accepted.valid;
       report = lines_are_report now.project (grid_of now.net) (states_of now.net) (standing_of before) (row_of now.row)
-          now.facts accepted.facts (tank-facts-of now.project now.facts accepted.have) accepted.links each-link;
+          now.facts accepted.facts (tank-facts-of now.project now.facts accepted.have) accepted.links
+          (each-link now is);
     };
-    number = number-next now.project (standing_of before) (grid_of now.net) (row_of now.row) (standing_of now)
-        accepted.valid;
+    number = number-is;
   }
 
-  fewer-left : periods_left now.project (standing_of now) < periods_left now.project (standing_of before)
-  fewer-left =
-      let next : (standing_of now).number ≡ suc (standing_of before).number =
-      number-next now.project (standing_of before) (grid_of now.net) (row_of now.row) (standing_of now)
-      accepted.valid in
-      let few = few-periods now is in
-      omega (arith, next, few)
-
-  module _ (project : Project) (row : Row) (m n o : Moment) (p : now.project ≡ project)
+  module _ (project : Project) (row : Row) (m n o : CheckMoment) (p : now.project ≡ project)
       (same : row_of now.row ≡ row_of row)
       (read : IsRead (header_for project) (row_of row) m n) (none : PutIn [] m n) (stays : o.reader ≡ n.reader)
       (rest : o.told.rest ≡ n.told.rest) where
@@ -156,7 +142,7 @@ module _ (before now : SimView) (is : IsSim now) (accepted : IsAccepted before n
       found = found;
       step = is-step;
       read = found-there;
-      fewer = fewer-left;
+      fewer = fewer-left before now is number-is;
       put = put-then [] (texts now.project found.lines) m n o none put;
     }
 
@@ -171,7 +157,7 @@ module _ (before now : SimView) (is : IsSim now) (accepted : IsAccepted before n
 
 -- ---- a record that is refused
 
-pub refused-there : (before now : SimView) (row : Row) (cause : CertRefused) (m n : Moment)
+pub refused-there : (before now : SimView) (row : Row) (cause : CertRefused) (m n : CheckMoment)
     → now.project ≡ before.project
     → standing_of now ≡ standing_of before → IsRefused before.project (standing_of before) (row_of row) cause
     → IsRead (header_for before.project) (row_of row) m n → PutIn [] m n → IsOver (Refused cause) before now m n
@@ -188,12 +174,12 @@ refused-there before now row cause m n p s refused read none = record {
 
 -- ---- where the records end
 
-pub over-there : (conclusion : Conclusion) (sim : SimView) (m n : Moment) → IsSo conclusion sim.project
+pub over-there : (conclusion : Conclusion) (sim : SimView) (m n : CheckMoment) → IsSo conclusion sim.project
     (standing_of sim) m n
     → PutIn [] m n → IsOver conclusion sim sim m n
 over-there conclusion sim m n so none = record { stays = refl; is_so = so; put = none }
 
-pub end-is : (project : Project) (row : Row) (periods : ℕ) (finished : Bool) (before : Moment)
+pub end-is : (project : Project) (row : Row) (periods : ℕ) (finished : Bool) (before : CheckMoment)
     → header_of row ≡ header_for project
     → coming before ≡ where_told before.told.rest
     (lead before.reader.stand (header_of row) ++ end_line periods finished)
@@ -204,7 +190,7 @@ end-is project row periods finished before same text fits = record {
   fits = fits;
 }
 
-pub grammar-is : (project : Project) (row : Row) (line : ℕ) (before : Moment) (start now : Faults)
+pub grammar-is : (project : Project) (row : Row) (line : ℕ) (before : CheckMoment) (start now : Faults)
     → header_of row ≡ header_for project
     → IsTextFault (header_of row) (place_of before.reader.stand) before.reader.line (coming before) start now
     (Grammar line)
@@ -216,7 +202,7 @@ grammar-is project row line before start now same fault lacks = record {
   no_record = subst (λ (h : Header). LacksRecord before.reader.stand h (coming before)) same lacks;
 }
 
-pub counts-is : (project : Project) (row : Row) (line : ℕ) (before : Moment) (start now : Faults)
+pub counts-is : (project : Project) (row : Row) (line : ℕ) (before : CheckMoment) (start now : Faults)
     → header_of row ≡ header_for project
     → IsTextFault (header_of row) (place_of before.reader.stand) before.reader.line (coming before) start now
     (Count line)

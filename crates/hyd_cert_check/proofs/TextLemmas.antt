@@ -2,7 +2,7 @@
 use Rattle.std.proofs.Common.{◌≡◌, ℕ, ◌<◌, ◌^◌, List, [], ◌∷◌, ◌++◌, map, Option, Some, None, refl, sym, ap, ◌∙◌, arith}
 use Rattle.std.proofs.Common.{append-nil, append_assoc}
 use Rattle.hyd_io.specs.DeskBytes.{where_told}
-use Rattle.hyd_net.specs.Sound.{Sound}
+use Rattle.hyd_net.specs.Sound.{IsSound}
 use Rattle.hyd_spec.specs.ProgramTypes.{Project}
 use Rattle.hyd_spec.specs.Lists.{joined}
 use Rattle.hyd_spec.specs.NodeNumbers.{junction_count, tank_count}
@@ -39,7 +39,7 @@ report-last project left founds last =
 -- ---- headers
 
 -- the header line of a network is one that a text can have
-pub own-header : (project : Project) → Sound project → IsHeaderLine (header_for project) (header_words (header_for
+pub own-header : (project : Project) → IsSound project → IsHeaderLine (header_for project) (header_words (header_for
     project))
 own-header project sound =
     let v = known project in

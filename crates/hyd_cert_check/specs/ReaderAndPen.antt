@@ -12,12 +12,12 @@ use Rattle.hyd_cert_check.specs.declared.outcome.CheckFault.{CheckFault}
 use Rattle.hyd_cert_check.specs.declared.outcome.CheckFault.TheVariants.{Read, Output}
 
 -- The reader of the certificate, the pen of the report, and what their desk tells.
-pub record Moment : Type 0 where
+pub record CheckMoment : Type 0 where
   pub reader : ReaderView
   pub pen : PenState
   pub told : Told
 
-abbrev pub moment : ReaderView → PenState → Told → Moment
+abbrev pub moment : ReaderView → PenState → Told → CheckMoment
 moment reader pen told = record { reader = reader; pen = pen; told = told }
 
 -- A pen on standard output that has no fault.
@@ -39,7 +39,7 @@ pub record LeavesFiles (before now : Told) : Type 0 where
 
 -- A text was put in at the pen: a front of what the pen held and of the text went out, and the pen holds the rest. No
 -- call failed, and the pen is open still.
-pub record PutIn (text : List ℕ) (before now : Moment) : Type 0 where
+pub record PutIn (text : List ℕ) (before now : CheckMoment) : Type 0 where
   pub printed : Moves before.told.printed now.told.printed (before.pen.held ++ text) now.pen.held
   pub open_still : IsOpen now.pen
   pub steady : now.told.counts ≡ before.told.counts
@@ -52,12 +52,12 @@ Rose Read before now = now ≡ with_read_fault before
 Rose (Output fault) before now = HasOutCause Report fault before now
 
 -- One call failed: of what the pen held and of a text for it a front went out.
-pub record IsCutOff (fault : CheckFault) (text : List ℕ) (before now : Moment) : Type 0 where
+pub record IsCutOff (fault : CheckFault) (text : List ℕ) (before now : CheckMoment) : Type 0 where
   pub printed : PutOut before.told.printed now.told.printed (before.pen.held ++ text)
   pub rose : Rose fault before.told.counts now.told.counts
   pub leaves : LeavesFiles before.told now.told
 
 -- What a call says that puts a text in.
-abbrev pub PutsIn : List ℕ → Result (Unit {0}) CheckFault → Moment → Moment → Type 0
+abbrev pub PutsIn : List ℕ → Result (Unit {0}) CheckFault → CheckMoment → CheckMoment → Type 0
 PutsIn text (Ok done) before now = PutIn text before now
 PutsIn text (Err fault) before now = IsCutOff fault text before now

@@ -22,29 +22,29 @@ use Rattle.hyd_cert.specs.declared.answers.Stand.TheVariants as stand
 use Rattle.hyd_cert.specs.RecordView.{row_of}
 use Rattle.hyd_period_network.specs.NetAsPeriodNetwork.{grid_of, states_of}
 use Rattle.hyd_period_network.specs.LawsInSettings.{AreStates}
-use Rattle.hyd_bounds.specs.VectorsInOrder.{TanksInOrder}
 use Rattle.hyd_watched_levels.specs.FactsBeforeEnd.{HaveTanks}
 use Rattle.hyd_report.specs.NodeAndLinkLines.{texts}
 use Rattle.hyd_sim.specs.View.{SimView, standing_of, header_for}
 use Rattle.hyd_run.specs.Runs.{periods_left}
 use Rattle.hyd_cert_check.specs.Checks.{refused_grammar_line, refused_counts_line, CheckEnds, CheckFinds}
-use Rattle.hyd_cert_check.specs.ReaderAndPen.{Moment, IsOpen, PutIn, IsCutOff}
+use Rattle.hyd_cert_check.specs.ReaderAndPen.{CheckMoment, IsOpen, PutIn, IsCutOff}
 use Rattle.hyd_cert_check.specs.declared.outcome.CheckEnd.{CheckEnd}
 use Rattle.hyd_cert_check.specs.declared.outcome.CheckEnd.TheVariants as ends
 use Rattle.hyd_cert_check.specs.declared.outcome.CheckFault.{CheckFault}
 use Rattle.hyd_cert_check.specs.declared.outcome.CheckFault.TheVariants.{Output}
 use Rattle.hyd_cert_check.specs.declared.outcome.Conclusion.{Conclusion}
 use Rattle.hyd_cert_check.specs.declared.outcome.Conclusion.TheVariants.{Accepted, Refused, OtherEnd, Grammar, Counts}
+use Rattle.hyd_theorems_on_definitions.specs.TermsOfTheorems.{TanksInOrder}
 
 -- ---- one record
 
 -- What is still to come of the text at a moment.
-abbrev pub coming : Moment → Option (List ℕ)
+abbrev pub coming : CheckMoment → Option (List ℕ)
 coming at = to_come at.reader at.told.rest
 
 -- A record was read that a certificate can hold: it stands before what is to come now, behind the header line if that
 -- was to come too, and the reader stands behind it.
-pub record IsRead (header : Header) (row : Record) (before now : Moment) : Type 0 where
+pub record IsRead (header : Header) (row : Record) (before now : CheckMoment) : Type 0 where
   pub text : coming before ≡ prepend_known (lead before.reader.stand header ++ record_text row) (coming now)
   pub fits : IsRow header.junctions header.tanks row
   pub stands : now.reader.stand ≡ stand.Between
@@ -59,12 +59,12 @@ pub record IsStep (project : Project) (left next : Standing) (found : Found) : T
   pub number : next.number ≡ suc left.number
 
 -- The reader goes on at its place, and the pen is open.
-pub record CanGoOn (at : Moment) : Type 0 where
+pub record CanGoOn (at : CheckMoment) : Type 0 where
   pub going : IsGoing at.reader.stand
   pub pen : IsOpen at.pen
 
 -- A record was read, and accepted as that of the period that was due, and its report was put in.
-pub record DidRecord (sim now : SimView) (before after : Moment) : Type 0 where
+pub record DidRecord (sim now : SimView) (before after : CheckMoment) : Type 0 where
   pub found : Found
   pub step : IsStep now.project (standing_of sim) (standing_of now) found
   pub read : IsRead (header_for now.project) found.row before after
@@ -72,14 +72,14 @@ pub record DidRecord (sim now : SimView) (before after : Moment) : Type 0 where
   pub put : PutIn (texts now.project found.lines) before after
 
 -- So it was, and a fault cut its report off.
-pub record LostRecord (fault : CheckFault) (sim now : SimView) (before after : Moment) : Type 0 where
+pub record LostRecord (fault : CheckFault) (sim now : SimView) (before after : CheckMoment) : Type 0 where
   pub found : Found
   pub step : IsStep now.project (standing_of sim) (standing_of now) found
   pub read : IsRead (header_for now.project) found.row before after
   pub cut_off : IsCutOff fault (texts now.project found.lines) before after
 
 -- A fault cut the reading or the printing off.
-pub data IsLost (fault : CheckFault) (sim now : SimView) (before after : Moment) : Type 0 where
+pub data IsLost (fault : CheckFault) (sim now : SimView) (before after : CheckMoment) : Type 0 where
   in_reading : IsCutOff fault [] before after → IsLost fault sim now before after
   in_report : LostRecord fault sim now before after → IsLost fault sim now before after
 
@@ -95,34 +95,34 @@ pub record IsOfPeriod (sim : SimView) : Type 0 where
 -- ---- where the records end
 
 -- The next record was read, and is refused at the standing.
-pub record IsRefusedNext (project : Project) (left : Standing) (cause : CertRefused) (before now : Moment) : Type 0
+pub record IsRefusedNext (project : Project) (left : Standing) (cause : CertRefused) (before now : CheckMoment) : Type 0
   where
     pub row : Record
     pub read : IsRead (header_for project) row before now
     pub refused : IsRefused project left row cause
 
 -- The END line was read, and is what is left of the text.
-pub record IsEnd (project : Project) (periods : ℕ) (finished : Bool) (before : Moment) : Type 0 where
+pub record IsEnd (project : Project) (periods : ℕ) (finished : Bool) (before : CheckMoment) : Type 0 where
   pub text : coming before ≡ where_told before.told.rest
       (lead before.reader.stand (header_for project) ++ end_line periods finished)
   pub fits : periods < 2 ^ 32
 
 -- It says something else than that so many records stand before it, and whether the run is finished.
-pub record IsOtherEnd (project : Project) (left : Standing) (before : Moment) : Type 0 where
+pub record IsOtherEnd (project : Project) (left : Standing) (before : CheckMoment) : Type 0 where
   pub periods : ℕ
   pub finished : Bool
   pub is_end : IsEnd project periods finished before
   pub other : ((periods ≡ left.number) × (finished ≡ left.finished)) → ⊥
 
 -- The line of this number is the first that can't stand where it does, and no whole record stands before it.
-pub record IsGrammarFault (project : Project) (line : ℕ) (before : Moment) : Type 0 where
+pub record IsGrammarFault (project : Project) (line : ℕ) (before : CheckMoment) : Type 0 where
   pub offset : ℕ
   pub number : line ≡ lines_on before.reader.line offset
   pub fault : IsFault (header_for project) (place_of before.reader.stand) (coming before) offset
   pub no_record : LacksRecord before.reader.stand (header_for project) (coming before)
 
 -- The text goes on with a header line of another version or of other counts.
-pub record IsCountsFault (project : Project) (line : ℕ) (before : Moment) : Type 0 where
+pub record IsCountsFault (project : Project) (line : ℕ) (before : CheckMoment) : Type 0 where
   pub first : place_of before.reader.stand ≡ First
   pub number : line ≡ lines_on before.reader.line 1
   pub other_header : HasOtherHeader (header_for project) (coming before)
@@ -132,7 +132,7 @@ abbrev pub end_number : Project → Standing → ℕ
 end_number project left = 2 + left.number * (1 + heads_in (junction_count project) (tank_count project))
 
 -- What is found at a standing where the records end.
-abbrev pub IsSo : Conclusion → Project → Standing → Moment → Moment → Type 0
+abbrev pub IsSo : Conclusion → Project → Standing → CheckMoment → CheckMoment → Type 0
 IsSo (Accepted finished) project left before now =
     IsEnd project left.number finished before × (finished ≡ left.finished)
 IsSo (Refused cause) project left before now = IsRefusedNext project left cause before now
@@ -141,19 +141,19 @@ IsSo (Grammar line) project left before now = IsGrammarFault project line before
 IsSo (Counts line) project left before now = IsCountsFault project line before
 
 -- The records end: the standing stays, and nothing was put in.
-pub record IsOver (conclusion : Conclusion) (sim now : SimView) (before after : Moment) : Type 0 where
+pub record IsOver (conclusion : Conclusion) (sim now : SimView) (before after : CheckMoment) : Type 0 where
   pub stays : standing_of now ≡ standing_of sim
   pub is_so : IsSo conclusion now.project (standing_of now) before after
   pub put : PutIn [] before after
 
 -- What one turn gives: a record was accepted, or the records end, or a fault broke it off.
-abbrev pub TurnGives : Result (Option Conclusion) CheckFault → SimView → SimView → Moment → Moment → Type 0
+abbrev pub TurnGives : Result (Option Conclusion) CheckFault → SimView → SimView → CheckMoment → CheckMoment → Type 0
 TurnGives (Ok None) sim now before after = DidRecord sim now before after
 TurnGives (Ok (Some conclusion)) sim now before after = IsOver conclusion sim now before after
 TurnGives (Err fault) sim now before after = IsLost fault sim now before after
 
 -- What a record that was read gives: it was accepted, or it is refused, or a fault cut its report off.
-abbrev pub TryGives : Result (Option CertRefused) OutFault → SimView → SimView → Moment → Moment → Type 0
+abbrev pub TryGives : Result (Option CertRefused) OutFault → SimView → SimView → CheckMoment → CheckMoment → Type 0
 TryGives (Ok None) sim now before after = DidRecord sim now before after
 TryGives (Ok (Some cause)) sim now before after = IsOver (Refused cause) sim now before after
 TryGives (Err why) sim now before after = LostRecord (Output why) sim now before after
@@ -161,7 +161,7 @@ TryGives (Err why) sim now before after = LostRecord (Output why) sim now before
 -- ---- a check as far as it has gone
 
 -- Of the text to come at first, nothing was read, or the header line and these records.
-pub data IsReadTo (project : Project) (before now : Moment) : List Record → Type 0 where
+pub data IsReadTo (project : Project) (before now : CheckMoment) : List Record → Type 0 where
   nothing : now.reader.stand ≡ stand.First → coming now ≡ coming before → now.reader.line ≡ 0
       → IsReadTo project before now []
   records : {rows : List Record} → now.reader.stand ≡ stand.Between
@@ -170,7 +170,7 @@ pub data IsReadTo (project : Project) (before now : Moment) : List Record → Ty
 
 -- What was found so far is a run that leaves a standing, with one record for each period that was done; its records
 -- were read, and its report as far as it goes was put in at the pen.
-pub record IsSoFar (project : Project) (left : Standing) (before now : Moment) : Type 0 where
+pub record IsSoFar (project : Project) (left : Standing) (before now : CheckMoment) : Type 0 where
   pub founds : List Found
   pub is_run : IsRun project founds left
   pub fit : All (IsRow (junction_count project) (tank_count project)) (rows_of founds)
@@ -195,36 +195,38 @@ end_of (Grammar line) = ends.Refused
 end_of (Counts line) = ends.Refused
 
 -- The report of the whole text was put in.
-pub record IsWhole (project : Project) (end : CheckEnd) (before now : Moment) : Type 0 where
+pub record IsWhole (project : Project) (end : CheckEnd) (before now : CheckMoment) : Type 0 where
   pub report : List ℕ
   pub holds : (text : List ℕ) → coming before ≡ Some text → CheckEnds project text report end
   pub put : PutIn report before now
 
 -- A fault cut off the report of the whole text, or that of what was found so far.
-pub record IsCutShort (project : Project) (fault : CheckFault) (before now : Moment) : Type 0 where
+pub record IsCutShort (project : Project) (fault : CheckFault) (before now : CheckMoment) : Type 0 where
   pub report : List ℕ
   pub holds : (text : List ℕ) → coming before ≡ Some text
       → ((end : CheckEnd) × CheckEnds project text report end) ⊎ CheckFinds project text report
   pub cut_off : IsCutOff fault report before now
 
 -- Where the records end: what was put in before as a check so far is one still, and this is found.
-pub record AllRead (conclusion : Conclusion) (project : Project) (left : Standing) (start now : Moment) : Type 0 where
-  pub at_last : Moment
+pub record AllRead (conclusion : Conclusion) (project : Project) (left : Standing)
+    (start now : CheckMoment) : Type 0 where
+  pub at_last : CheckMoment
   pub so_far : IsSoFar project left start at_last
   pub is_so : IsSo conclusion project left at_last now
   pub put : PutIn [] at_last now
 
 -- What the turns of a check do: whatever was put in before them as a check so far is one still where the records end,
 -- or is cut short.
-abbrev pub TurnsGive : Result Conclusion CheckFault → SimView → SimView → Moment → Moment → Type 0
+abbrev pub TurnsGive : Result Conclusion CheckFault → SimView → SimView → CheckMoment → CheckMoment → Type 0
 TurnsGive (Ok conclusion) sim now before after =
-    (start : Moment) → IsSoFar sim.project (standing_of sim) start before
+    (start : CheckMoment) → IsSoFar sim.project (standing_of sim) start before
     → AllRead conclusion sim.project (standing_of now) start after
 TurnsGive (Err fault) sim now before after =
-    (start : Moment) → IsSoFar sim.project (standing_of sim) start before → IsCutShort sim.project fault start after
+    (start : CheckMoment) → IsSoFar sim.project (standing_of sim) start before
+    → IsCutShort sim.project fault start after
 
 -- What a check does before the pen is emptied.
-abbrev pub CheckPuts : Result CheckEnd CheckFault → Project → Moment → Moment → Type 0
+abbrev pub CheckPuts : Result CheckEnd CheckFault → Project → CheckMoment → CheckMoment → Type 0
 CheckPuts (Ok end) project before after = IsWhole project end before after
 CheckPuts (Err fault) project before after = IsCutShort project fault before after
 

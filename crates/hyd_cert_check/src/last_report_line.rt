@@ -3,13 +3,13 @@
 
 ghost use Rattle.std.specs.Prelude.{IsTrue};
 ghost use Rattle.hyd_io.specs.Output.{OnCert};
-ghost use Rattle.hyd_net.specs.Sound.{Sound};
-ghost use Rattle.hyd_io.specs.Putting.{Puts};
+ghost use Rattle.hyd_net.specs.Sound.{IsSound};
+ghost use Rattle.hyd_io.specs.TextPutIn.{Puts};
 ghost use Rattle.hyd_spec_reports.specs.PromisesOfRunsAndChecks.{accepted_line};
 ghost use Rattle.hyd_cert_check.specs.RecordByRecord.{conclusion_line};
 
 use crate::outcome::Conclusion;
-use crate::refusing_report_line::{put_counts, put_grammar};
+use crate::refusals_by_a_line::{put_counts, put_grammar};
 use hyd_io::{Desk, OutFault, Pen};
 use hyd_net::Project;
 use hyd_report::{put_done, put_partial, put_refused, put_refused_end};
@@ -39,7 +39,7 @@ pub(crate) fn put_conclusion<D: Desk>(
     pen: &mut Pen,
     desk: &mut D,
 ) -> Result<(), OutFault>
-    requires sound { Sound project.now }
+    requires sound { IsSound project.now }
     requires ready { OnCert pen.old.to (IsTrue (D.ready desk.old)) }
     ensures { Puts D.files D.rest D.written D.printed D.target D.ready D.counts D.openings
         (conclusion_line project.now records conclusion.now) result pen.old pen.new desk.old desk.new }

@@ -5,7 +5,7 @@
 mod last_report_line;
 mod outcome;
 mod records;
-mod refusing_report_line;
+mod refusals_by_a_line;
 mod whole_check;
 
 pub use outcome::{CheckEnd, CheckFault};

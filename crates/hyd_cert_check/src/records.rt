@@ -8,10 +8,10 @@ ghost use Rattle.hyd_cert.specs.RecordView.{header_of, row_of};
 ghost use Rattle.hyd_period_network.specs.NetAsPeriodNetwork.{grid_of, states_of};
 ghost use Rattle.hyd_report.specs.NodeAndLinkLines.{texts};
 ghost use Rattle.hyd_report.specs.PeriodLines.{lines_of};
-ghost use Rattle.hyd_io.specs.Putting.{Puts};
+ghost use Rattle.hyd_io.specs.TextPutIn.{Puts};
 ghost use Rattle.hyd_run.specs.Pens.{told};
 ghost use Rattle.hyd_sim.specs.View.{header_for, standing_of};
-ghost use Rattle.hyd_cert_check.specs.ReaderAndPen.{Moment, moment, IsOpen, PutIn};
+ghost use Rattle.hyd_cert_check.specs.ReaderAndPen.{CheckMoment, moment, IsOpen, PutIn};
 ghost use Rattle.hyd_cert_check.specs.RecordByRecord.{CanGoOn, IsEnd, IsOfPeriod, IsRead, IsSo, TryGives, TurnGives};
 ghost use Rattle.hyd_cert_check.specs.RecordByRecord.{TurnsGive};
 ghost use Rattle.hyd_cert_check.specs.RecordByRecord.{end_number};
@@ -38,7 +38,7 @@ fn end_number(sim: &Sim, row: &Record) -> u64
 // What an END line says of the records before it.
 fn judge_end(sim: &Sim, row: &Record, periods: u32, finished: bool) -> Conclusion
     requires { header_of row.now ≡ header_for sim.now.project }
-    ensures { (before now : Moment) → IsEnd sim.now.project periods finished before
+    ensures { (before now : CheckMoment) → IsEnd sim.now.project periods finished before
         → IsSo result sim.now.project (standing_of sim.now) before now }
 {
     let other = Conclusion::OtherEnd(end_number(sim, row));
@@ -76,7 +76,7 @@ fn try_record<D: Desk>(
     requires running { sim.old.stopped ≡ None }
     requires header { header_of row.now ≡ header_for sim.old.project }
     requires unbroken { IsOpen pen.old }
-    ensures tries { (before : Moment) (reader : ReaderView)
+    ensures tries { (before : CheckMoment) (reader : ReaderView)
         → IsRead (header_for sim.old.project) (row_of row.now) before (moment reader pen.old
         (told D.files D.rest D.written D.printed D.target D.ready D.counts D.openings desk.old))
         → PutIn [] before (moment reader pen.old

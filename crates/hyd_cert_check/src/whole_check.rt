@@ -9,7 +9,7 @@ ghost use Rattle.hyd_cert.specs.RecordView.{header_of};
 ghost use Rattle.hyd_run.specs.Pens.{told};
 ghost use Rattle.hyd_sim.specs.View.{header_for, standing_of};
 ghost use Rattle.hyd_cert_check.specs.Checks.{CheckEnds, CheckBreaksOff};
-ghost use Rattle.hyd_cert_check.specs.ReaderAndPen.{Moment, moment, new_pen, IsOpen, Rose};
+ghost use Rattle.hyd_cert_check.specs.ReaderAndPen.{CheckMoment, moment, new_pen, IsOpen, Rose};
 ghost use Rattle.hyd_cert_check.specs.RecordByRecord.{AllRead, CheckPuts, IsPrinted, IsWhole, end_of};
 
 use crate::last_report_line::put_conclusion;
@@ -38,7 +38,7 @@ fn put_ending<D: Desk>(
     desk: &mut D,
 ) -> Result<CheckEnd, CheckFault>
     requires { IsOpen pen.old }
-    ensures { (start : Moment) (reader : ReaderView)
+    ensures { (start : CheckMoment) (reader : ReaderView)
         → AllRead conclusion sim.now.project (standing_of sim.now) start (moment reader pen.old
         (told D.files D.rest D.written D.printed D.target D.ready D.counts D.openings desk.old))
         → CheckPuts result sim.now.project start (moment reader pen.new
@@ -86,7 +86,7 @@ fn put_check<D: Desk>(
 // Empties the pen behind a report that was put in whole.
 fn finish<D: Desk>(end: CheckEnd, pen: &mut Pen, desk: &mut D) -> Result<CheckEnd, CheckFault>
     requires { IsOpen pen.old }
-    ensures puts { (project : Project) (start : Moment) (reader : ReaderView)
+    ensures puts { (project : Project) (start : CheckMoment) (reader : ReaderView)
         → IsWhole project end start (moment reader pen.old
         (told D.files D.rest D.written D.printed D.target D.ready D.counts D.openings desk.old))
         → CheckPuts result project start (moment reader pen.new

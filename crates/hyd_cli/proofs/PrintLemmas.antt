@@ -6,7 +6,7 @@ use Rattle.hyd_io.specs.declared.output.Channel.TheVariants.{Report}
 use Rattle.hyd_io.specs.declared.output.OutFault.{OutFault}
 use Rattle.hyd_io.specs.DeskBytes.{append_known, Moves, PutOut}
 use Rattle.hyd_io.specs.Output.{by_channel, HasOutCause}
-use Rattle.hyd_io.proofs.ToldLemmas.{moves_flush, put_out_flush}
+use Rattle.hyd_io.proofs.MovedBytesLemmas.{moves_flush, put_out_flush}
 
 pub printed_whole : (here there : Channel) (w0 p0 w1 p1 w2 p2 : Option (List ℕ)) (before bytes held : List ℕ)
     → here ≡ Report → there ≡ here → before ≡ []

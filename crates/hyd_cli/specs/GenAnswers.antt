@@ -1,6 +1,6 @@
 -- What the answers of the command `gen` mean.
 -- Source: this program's.
-use Rattle.std.specs.Prelude.{◌≡◌, ◌≢◌, ℕ, ◌^◌, Bool, false, pos, ◌⊎◌, List, ◌++◌, is_some}
+use Rattle.std.specs.Prelude.{◌≡◌, ◌≢◌, ℕ, Bool, false, ◌⊎◌, List, ◌++◌, is_some}
 use Rattle.hyd_io.specs.declared.desk.Openings.{Openings}
 use Rattle.hyd_io.specs.FailureCounts.{with_created}
 use Rattle.hyd_io.specs.DeskBytes.{where_told, append_known, file_at}
@@ -10,7 +10,7 @@ use Rattle.hyd_spec_reports.specs.PromisesOfRunsAndChecks.{Outcome, outcome_numb
 use Rattle.hyd_spec_summary.specs.Summary.{RunSums, SumsBreakOff}
 use Rattle.hyd_run.specs.Runs.{sharpness_of}
 use Rattle.hyd_sim.specs.declared.settings.Settings.{Settings}
-use Rattle.hyd_command_words.specs.CommandGrammar.{GenOrder, TwoFiles}
+use Rattle.hyd_command_words.specs.CommandGrammar.{GenOrder, TwoFiles, default_rounds, default_width}
 use Rattle.hyd_cli.specs.DeskContents.{Seen, IsUntouched, NothingPut}
 use Rattle.hyd_cli.specs.Answers.{OfNetwork}
 use Rattle.hyd_cli.specs.Statuses.{number_of}
@@ -23,9 +23,10 @@ use Rattle.hyd_cli.specs.declared.status.Status.TheVariants.{CertificateRefused,
 abbrev pub text_of : GenOrder → List ℕ
 text_of order = generated_text order.seed order.junctions
 
--- What the run of a generated network is asked for: 200 rounds at most, a width of 0.01 m, and no tight vectors.
+-- What the run of a generated network is asked for: the rounds and the width of a command that gives none, and no tight
+-- vectors.
 abbrev pub usual_settings : Settings
-usual_settings = record { rounds = 200; width = pos (10 ^ 11); tight = false }
+usual_settings = record { rounds = default_rounds; width = default_width; tight = false }
 
 -- NET holds the text, and CERT the certificate of a run of its network, which was written last, where files are told;
 -- the run's summary was printed, and every history agrees with the certificate. The status says how the run ended.

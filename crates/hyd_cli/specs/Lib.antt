@@ -3,7 +3,7 @@ pub mod Words
 pub mod DeskContents
 pub mod Answers
 pub mod RunAnswers
-pub mod Reading
+pub mod NetworkOrFault
 pub mod CheckAnswers
 pub mod GenAnswers
 pub mod TaskWithNetwork

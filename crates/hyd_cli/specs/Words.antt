@@ -1,4 +1,4 @@
--- The words that the system gives.
+-- The words that the system gives, and the usage line.
 use Rattle.std.specs.Prelude.{ℕ, List, [], ◌++◌, ◌∷◌, codes, map, drop, string_bytes, String, Result, Ok, Err}
 use Rattle.std.specs.Vec.Iter.{into_iter_items}
 use Rattle.std.specs.declared.vec.IntoIter.{IntoIter}

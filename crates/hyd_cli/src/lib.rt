@@ -1,13 +1,13 @@
 //! The command `hyd`: its statuses, and the call `tool` that the program makes.
 #![tactic(auto)]
 
-mod checking;
-mod generating;
+mod command_check;
+mod command_gen;
+mod command_run;
 mod messages;
+mod network_file;
 mod program;
-mod reading;
 mod run_settings;
-mod running;
 mod status;
 mod task_with_network;
 mod usage_and_refusal;

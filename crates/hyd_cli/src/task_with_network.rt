@@ -1,18 +1,18 @@
 //! What each command does with a network that was read. All memory that the task needs is taken first.
 
 ghost use Rattle.std.specs.Prelude.{◌≡◌, None};
-ghost use Rattle.hyd_net.specs.Sound.{Sound};
+ghost use Rattle.hyd_net.specs.Sound.{IsSound};
 ghost use Rattle.hyd_spec_certificates.specs.RecordAndStanding.{initial_standing};
 ghost use Rattle.hyd_sim.specs.View.{standing_of};
 ghost use Rattle.hyd_cli.specs.DeskContents.{seen};
 ghost use Rattle.hyd_cli.specs.Answers.{HasCause};
 ghost use Rattle.hyd_cli.specs.TaskWithNetwork.{MayDo, settings_for, DoesTask};
 
-use crate::checking::check_by_run;
-use crate::generating::write_and_run;
-use crate::running::run_by_gradient;
+use crate::command_check::check_by_run;
+use crate::command_gen::write_and_run;
+use crate::command_run::run_by_gradient;
 use crate::status::Status;
-use hyd_command_words::Files;
+use hyd_command_words::{DEFAULT_ROUNDS, DEFAULT_WIDTH, Files};
 use hyd_io::Desk;
 use hyd_net::Project;
 use hyd_sim::{Settings, Sim};
@@ -27,8 +27,8 @@ const NO_SEARCH: Settings = Settings {
 
 /// What the run of a generated network is asked for.
 const USUAL: Settings = Settings {
-    rounds: 200,
-    width: 100_000_000_000,
+    rounds: DEFAULT_ROUNDS,
+    width: DEFAULT_WIDTH,
     tight: false,
 };
 
@@ -79,7 +79,7 @@ pub(crate) fn do_with_network<D: Desk>(
     task: Task<'_>,
     desk: &mut D,
 ) -> Status
-    requires sound { Sound project }
+    requires sound { IsSound project }
     requires names { MayDo D.may_open D.may_create task }
     ensures cause { HasCause result (D.counts desk.old) (D.counts desk.new) }
     ensures does { DoesTask task.entry project result

@@ -15,9 +15,9 @@ ghost use Rattle.hyd_cli.specs.RunAnswers.{AnswersText};
 ghost use Rattle.hyd_cli.specs.Commands.{DoesRun, DoesCheck, DoesGen};
 ghost use Rattle.hyd_cli.specs.declared.status.Status.TheVariants.{Usage};
 
-use crate::checking::check_files;
-use crate::generating::generate_network;
-use crate::reading::{Unread, read_network};
+use crate::command_check::check_files;
+use crate::command_gen::generate_network;
+use crate::network_file::{Unread, read_network};
 use crate::run_settings::settings_of;
 use crate::status::{Status, fault_status};
 use crate::task_with_network::{Task, do_with_network};

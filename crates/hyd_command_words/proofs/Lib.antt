@@ -1,8 +1,8 @@
-pub mod Lexing
-pub mod ReadLaw
-pub mod RowLemmas
+pub mod SortsOfWords
+pub mod CommandOfMatches
+pub mod MatchRowLemmas
 pub mod SaidLemmas
 pub mod WalkEnds
-pub mod WalkLaw
+pub mod WalkGivesCommands
 pub mod WalkSteps
 pub mod WidthLemmas

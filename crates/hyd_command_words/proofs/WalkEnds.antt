@@ -8,7 +8,7 @@ use Rattle.clap.specs.Walk.{Held, Row, Waiting, Walk, positional, settled_rows, 
 use Rattle.hyd_command_words.specs.OptionsAndNames.{Word, Part, Said, name, wrong, said_by}
 use Rattle.hyd_command_words.specs.CommandGrammar.{Order, order_named, run_command, check_command, gen_command}
 use Rattle.hyd_command_words.proofs.SaidLemmas.{joined, joined_assoc, part_first}
-use Rattle.hyd_command_words.proofs.RowLemmas.{rules, name_used}
+use Rattle.hyd_command_words.proofs.MatchRowLemmas.{rules, name_used}
 use Rattle.hyd_command_words.proofs.WalkSteps.{shape, Pending, held, at, IsWhole, IsFault, turn, step, name_held}
 use Rattle.hyd_command_words.proofs.WalkSteps.{trailing_turn}
 use Rattle.hyd_command_words.proofs.WalkSteps.{trailing_step, first_faults}

@@ -12,9 +12,9 @@ use Rattle.clap.specs.Walk.{subcommand_or_other, settled_rows, trailing, value, 
 use Rattle.clap.specs.declared.error.kind.ErrorKind.TheVariants.{UnknownArgument}
 use Rattle.hyd_command_words.specs.OptionsAndNames.{Word}
 use Rattle.hyd_command_words.specs.ClapParser.{words_command}
-use Rattle.hyd_lemmas.proofs.Trials.{and-false}
-use Rattle.hyd_command_words.proofs.RowLemmas.{rules}
-use Rattle.hyd_command_words.proofs.Lexing.{IsPlain, IsShort, IsLong}
+use Rattle.hyd_lemmas.proofs.BooleanTests.{and-false}
+use Rattle.hyd_command_words.proofs.MatchRowLemmas.{rules}
+use Rattle.hyd_command_words.proofs.SortsOfWords.{IsPlain, IsShort, IsLong}
 
 abbrev pub shape : Shape
 shape = (built words_command).top

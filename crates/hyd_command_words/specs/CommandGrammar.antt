@@ -47,9 +47,13 @@ once default read [] = Some default
 once default read (value ∷ []) = read value
 once default read values = None
 
--- N: at most 100,000, by default 200
+-- N where a command does not give it: the greatest number of rounds of a vector
+abbrev pub default_rounds : ℕ
+default_rounds = 200
+
+-- N: at most 100,000
 abbrev pub rounds_of : List Word → Option ℕ
-rounds_of values = once 200 (number_within 6 0 100000) values
+rounds_of values = once default_rounds (number_within 6 0 100000) values
 
 -- A number of metres above 0 and at most 1,000, in head ticks; what stands behind its ninth decimal is cut off first.
 abbrev pub width_in_ticks : Word → Option ℤ
@@ -57,9 +61,13 @@ width_in_ticks word =
     if is_numeral word && (int_lt (pos 0) (nano_of word) && int_le (nano_of word) (pos (10 ^ 12)))
     then Some (nano_of word *ℤ pos (10 ^ 4)) else None
 
--- W: by default 0.01 m
+-- W where a command does not give it, in head ticks of 10^-13 m: 0.01 m
+abbrev pub default_width : ℤ
+default_width = pos (10 ^ 11)
+
+-- W
 abbrev pub width_of : List Word → Option ℤ
-width_of values = once (pos (10 ^ 11)) width_in_ticks values
+width_of values = once default_width width_in_ticks values
 
 -- SEED: below 2^31
 abbrev pub seed_of : Word → Option ℕ

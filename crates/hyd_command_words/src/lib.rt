@@ -11,3 +11,4 @@ mod said_words;
 
 pub use command::{Command, Files, GenWords, RunWords};
 pub use command_of_words::read_words;
+pub use numbers::{DEFAULT_ROUNDS, DEFAULT_WIDTH};

@@ -16,10 +16,11 @@ const GREATEST_WIDTH: i128 = 1_000_000_000_000;
 // Head ticks in a billionth of a metre.
 const TICKS: i128 = HEAD_TICKS_IN_BILLIONTH_OF_METRE as i128;
 
-const DEFAULT_ROUNDS: u32 = 200;
+/// The greatest number of rounds of a vector where a command gives none.
+pub const DEFAULT_ROUNDS: u32 = 200;
 
-// 0.01 m in head ticks.
-const DEFAULT_WIDTH: i64 = 100_000_000_000;
+/// The width in head ticks of 10^-13 m where a command gives none: 0.01 m.
+pub const DEFAULT_WIDTH: i64 = 100_000_000_000;
 
 /// N, the greatest number of rounds, by the values that are given for it.
 pub(crate) fn rounds_of(values: &[&str]) -> Option<u32>

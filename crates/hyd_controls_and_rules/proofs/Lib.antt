@@ -1,9 +1,9 @@
-pub mod Acting
-pub mod Measuring
-pub mod Opening
-pub mod Positions
-pub mod Ranking
-pub mod Starting
-pub mod Unseen
+pub mod ChangesByBestOffers
+pub mod QuantitiesOfClauses
+pub mod OpenClausesOfRules
+pub mod FirstPassingPlace
+pub mod BestOffers
+pub mod FirstOpenControl
+pub mod TankHeadsUnread
 pub mod Truths
 pub mod Settled

@@ -7,7 +7,7 @@ use Rattle.hyd_spec_certificates.specs.Interval.{Interval}
 use Rattle.hyd_spec_certificates.specs.Decided.{acts_on}
 use Rattle.hyd_spec_certificates.specs.Valid.{ControlsAreDecided}
 use Rattle.hyd_theorems_on_definitions.specs.TermsOfTheorems.{LevelsLie}
-use Rattle.hyd_theorems_on_histories.proofs.Beginning.{same_links}
+use Rattle.hyd_theorems_on_histories.proofs.AgreementAtStart.{same_links}
 
 -- where all level controls are decided, they act at every level as at the intervals
 pub start_is : (project : Project) (S time : ℕ) (intervals : List Interval) (exact : List ℤ) (states : List LinkState)

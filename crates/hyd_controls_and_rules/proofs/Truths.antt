@@ -3,7 +3,7 @@ use Rattle.std.proofs.Common.{◌≡◌, ℕ, ◌<◌, Bool, length, subst, arit
 use Rattle.std.specs.Prelude.{Some, slice_get, slice_index_or}
 use Rattle.std.proofs.lemmas.Option.{get_or_from_slice_get}
 use Rattle.hyd_net.specs.ControlsAndRules.{IsRule}
-use Rattle.hyd_net.specs.Sound.{Sound}
+use Rattle.hyd_net.specs.Sound.{IsSound}
 use Rattle.hyd_spec.specs.ProgramTypes.{Project, Rule, RuleClause}
 use Rattle.hyd_spec.specs.Rules.{Readings, groups_of, clause_holds, rule_holds}
 use Rattle.hyd_spec_certificates.specs.declared.Verdict.{Verdict}
@@ -11,14 +11,14 @@ use Rattle.hyd_spec_certificates.specs.Decided.{clause_between, rule_between, Is
 use Rattle.hyd_spec_certificates.specs.declared.Truth.{Truth}
 use Rattle.hyd_spec_certificates.specs.declared.Truth.TheVariants.{True, False, Open}
 use Rattle.hyd_theorems_on_definitions.specs.TermsOfTheorems.{Tells}
-use Rattle.hyd_theorems_on_definitions.proofs.Deciding.{rule_tells}
+use Rattle.hyd_theorems_on_definitions.proofs.DecidedByEnds.{rule_tells}
 use Rattle.hyd_theorems_on_histories.specs.Agreement.{AreBetween}
 use Rattle.hyd_theorems_on_histories.proofs.Clauses.{clause_tells}
-use Rattle.hyd_theorems_on_histories.proofs.Judging.{each_of, in-groups}
-use Rattle.hyd_theorems_on_nesting.proofs.Refining.{Refines, ends-refine, groups-refine}
+use Rattle.hyd_theorems_on_histories.proofs.TruthsAndRuleValues.{each_of, in-groups}
+use Rattle.hyd_theorems_on_nesting.proofs.InnerRecordsDecide.{Refines, ends-refine, groups-refine}
 use Rattle.hyd_controls_and_rules.specs.TruthOfRule.{IsTruthOf, IsKnownAs}
 
-rule-at : (project : Project) → Sound project → (k : ℕ) (each : Rule) → k < length project.rules.list
+rule-at : (project : Project) → IsSound project → (k : ℕ) (each : Rule) → k < length project.rules.list
     → slice_get project.rules.list k ≡ Some each → IsRule project each
 rule-at project sound k each lt at = subst (IsRule project) (get_or_from_slice_get project.rules.list k each each at)
     (sound.rules k each lt)
@@ -66,7 +66,7 @@ by-known project time below above rule True known is refines = subst (λ (v : Ve
 by-known project time below above rule False known is refines = subst (λ (v : Verdict). Refines v known) is refines
 by-known project time below above rule (Open clause lo hi) known is refines = tt
 
-pub truth_holds : (project : Project) → Sound project
+pub truth_holds : (project : Project) → IsSound project
     → (k time : ℕ) (below above : Readings) (each : Rule) (truth : Truth) → k < length project.rules.list
     → slice_get project.rules.list k ≡ Some each → IsTruthBetween project time below above each truth
     → (S : ℕ) (x : Readings) → 0 < S → AreBetween project S below x above
@@ -75,7 +75,7 @@ truth_holds project sound k time below above each truth lt at is S x some betwee
     by-truth project time below above each truth _ is (tells-between project S time below x above each (rule-at project
     sound k each lt at) some between)
 
-pub truth_stays : (project : Project) → Sound project
+pub truth_stays : (project : Project) → IsSound project
     → (k time : ℕ) (below above : Readings) (each : Rule) (truth : Truth) → k < length project.rules.list
     → slice_get project.rules.list k ≡ Some each → IsTruthBetween project time below above each truth
     → (lower upper : Readings)

@@ -4,7 +4,7 @@ use Rattle.std.specs.Prelude.{◌≡◌, ⊤, ℕ, ◌^◌, ◌≤◌, ℤ, ◌-
 use Rattle.std.specs.List.{All}
 use Rattle.hyd_num.specs.declared.decimals.Span.{Span}
 use Rattle.hyd_num.specs.Rational.{whole}
-use Rattle.hyd_net.specs.Sound.{Sound}
+use Rattle.hyd_net.specs.Sound.{IsSound}
 use Rattle.hyd_spec.specs.ProgramTypes.{LinkState, Clause, What, Head, Pressure, Level, Flow, Setting, Status, Time}
 use Rattle.hyd_spec.specs.ProgramTypes.{Clock}
 use Rattle.hyd_spec.specs.NodeNumbers.{nodes_before_tanks, tank_count}
@@ -54,7 +54,7 @@ above instant =
 -- an instant of a sound network: one head for each junction and each reservoir, one flow and one state for each
 -- link, one level for each tank
 pub record IsInstant (instant : Instant) : Type 0 where
-  pub sound : Sound instant.project.now
+  pub sound : IsSound instant.project.now
   pub each_low : length instant.low.now ≡ nodes_before_tanks instant.project.now
   pub each_high : length instant.high.now ≡ nodes_before_tanks instant.project.now
   pub each_flow : length instant.flows.now ≡ length instant.project.now.links.list

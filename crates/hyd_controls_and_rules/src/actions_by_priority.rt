@@ -4,7 +4,7 @@
 ghost use Rattle.std.specs.Prelude.{◌≡◌, ◌<◌, ◌≤◌, [], ◌++◌, ℕ, List, length, if◌then◌else◌};
 ghost use Rattle.std.specs.List.{All};
 ghost use Rattle.std.specs.Option.{option_map};
-ghost use Rattle.hyd_net.specs.Sound.{Sound};
+ghost use Rattle.hyd_net.specs.Sound.{IsSound};
 ghost use Rattle.hyd_spec.specs.Rules as rules;
 ghost use Rattle.hyd_controls_and_rules.specs.ActionsByPriority.{offer_for, is_higher, AreBest};
 
@@ -83,7 +83,7 @@ fn forget(count: usize, best: &mut [Option<Offer>])
 
 /// Puts for each link the best of all offers to it.
 pub(crate) fn rank_offers(project: &Project, values: &[bool], best: &mut [Option<Offer>])
-    requires sound { Sound project.now }
+    requires sound { IsSound project.now }
     requires each_value { length values.now ≡ length project.now.rules.list }
     requires room { length project.now.links.list ≤ length best.old }
     ensures { AreBest (length project.now.links.list) (rules.offers_from 0 project.now.rules.list values.now) best.new }

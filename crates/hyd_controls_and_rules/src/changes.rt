@@ -1,6 +1,6 @@
 //! What controls and rules change.
 ghost use Rattle.std.specs.Prelude.{◌≡◌, ◌+◌, ◌<◌, [], ◌∷◌, ◌++◌, length, IfOk};
-ghost use Rattle.hyd_net.specs.Sound.{Sound};
+ghost use Rattle.hyd_net.specs.Sound.{IsSound};
 
 use crate::actions_by_priority::Offer;
 use hyd_net::{List, OutOfMemory, Project};
@@ -34,7 +34,7 @@ impl Model for Changes {
 impl Changes {
     /// No changes, with room for one row for each control and one for each link.
     pub fn open(alloc: Global, project: &Project) -> Result<Changes, OutOfMemory>
-        requires { Sound project.now }
+        requires { IsSound project.now }
         ensures empty { IfOk result (λ changes. changes.list ≡ []) }
         ensures spare { IfOk result (λ changes. changes.spare
             ≡ length project.now.controls.list + length project.now.links.list) }

@@ -2,7 +2,7 @@
 #![tactic(auto)]
 
 ghost use Rattle.std.specs.Prelude.{◌≡◌, ◌+◌, ◌≤◌, ◌++◌, length};
-ghost use Rattle.hyd_net.specs.Sound.{Sound};
+ghost use Rattle.hyd_net.specs.Sound.{IsSound};
 ghost use Rattle.hyd_spec.specs.Lists.{map_from, present};
 ghost use Rattle.std.specs.Option.{option_map, option_and_then};
 ghost use Rattle.hyd_spec.specs.Rules.{change_by, acted, rule_changes};
@@ -54,7 +54,7 @@ fn carry_out(best: &[Option<Offer>], links: &mut [LinkState], rows: &mut List<Ch
 /// and in one rule the earlier action. A row is appended for each link whose state changes, in order of the links. It
 /// takes no memory.
 pub fn act(project: &Project, values: &[bool], links: &mut [LinkState], changes: &mut Changes)
-    requires sound { Sound project.now }
+    requires sound { IsSound project.now }
     requires each_value { length values.now ≡ length project.now.rules.list }
     requires each_link { length links.old ≡ length project.now.links.list }
     requires room { length project.now.links.list ≤ changes.old.spare }

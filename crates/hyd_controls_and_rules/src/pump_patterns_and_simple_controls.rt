@@ -3,7 +3,7 @@
 
 ghost use Rattle.std.specs.Prelude.{◌≡◌, ◌+◌, ◌≤◌, ◌<◌, ℕ, ℤ, List, ◌++◌, length, map, is_some, IfSome, IfErr, OnOk};
 ghost use Rattle.std.specs.Prelude.{OnErr};
-ghost use Rattle.hyd_net.specs.Sound.{Sound};
+ghost use Rattle.hyd_net.specs.Sound.{IsSound};
 ghost use Rattle.hyd_spec.specs.NodeNumbers.{tank_count};
 ghost use Rattle.hyd_spec.specs.PumpPatternsAndSimpleControls.{speed_state, is_pattern_boundary, patterned_state};
 ghost use Rattle.hyd_spec.specs.PumpPatternsAndSimpleControls.{patterned};
@@ -23,7 +23,7 @@ use crate::changes::Changes;
 use crate::logic::{at_both_ends, is_unknown, is_yes};
 use crate::state_comparison::is_same_state;
 use crate::time_of_day::clock_at;
-use hyd_demand::multiplier_at;
+use hyd_demands_and_reservoir_heads::multiplier_at;
 use hyd_net::{Control, Link, LinkKind, LinkState, Project, When};
 use hyd_spec::{Change, Source};
 use hyd_spec_certificates::{LevelSpan, Verdict};
@@ -72,7 +72,7 @@ fn is_pattern_boundary(project: &Project, time: u32) -> bool
 }
 
 fn patterned_state(project: &Project, time: u32, link: &Link, state: LinkState) -> LinkState
-    requires sound { Sound project.now }
+    requires sound { IsSound project.now }
     requires there { HasPatternThere project.now link.now.kind }
     ensures { result ≡ patterned_state project.now time link.now state }
 {
@@ -83,7 +83,7 @@ fn patterned_state(project: &Project, time: u32, link: &Link, state: LinkState) 
 }
 
 fn set_pumps(project: &Project, time: u32, links: &mut [LinkState])
-    requires sound { Sound project.now }
+    requires sound { IsSound project.now }
     requires each_link { length links.old ≡ length project.now.links.list }
     ensures { links.new ≡ patterned project.now time links.old }
 {
@@ -128,7 +128,7 @@ fn open_level(levels: &[LevelSpan], control: &Control) -> Option<LevelSpan>
 /// Whether each level control is decided at the level intervals of tanks (head ticks above their bottoms). Fails with
 /// [`LevelOpen`], the first one that isn't, exactly where one isn't.
 pub fn find_open(project: &Project, levels: &[LevelSpan]) -> Result<(), LevelOpen>
-    requires sound { Sound project.now }
+    requires sound { IsSound project.now }
     requires each_level { length levels.now ≡ tank_count project.now }
     ensures decided { OnOk result (ControlsAreDecided project.now (map levels_of levels.now)) }
     ensures open { IfErr result (IsFirstOpen project.now levels.now) }
@@ -168,7 +168,7 @@ fn carry_out(
     links: &mut [LinkState],
     changes: &mut Changes,
 )
-    requires sound { Sound project.now }
+    requires sound { IsSound project.now }
     requires each_level { length levels.now ≡ tank_count project.now }
     requires each_link { length links.old ≡ length project.now.links.list }
     requires room { length project.now.controls.list ≤ changes.old.spare }
@@ -211,7 +211,7 @@ pub fn settle(
     links: &mut [LinkState],
     changes: &mut Changes,
 ) -> Result<(), LevelOpen>
-    requires sound { Sound project.now }
+    requires sound { IsSound project.now }
     requires each_level { length levels.now ≡ tank_count project.now }
     requires each_link { length links.old ≡ length project.now.links.list }
     requires room { length project.now.controls.list ≤ changes.old.spare }

@@ -3,7 +3,7 @@
 
 ghost use Rattle.std.specs.Prelude.{◌≡◌, ◌<◌, ℕ, List, [], ◌∷◌, length, map, position, slice_get, IsSome};
 ghost use Rattle.std.specs.List.{All};
-ghost use Rattle.hyd_net.specs.Sound.{Sound};
+ghost use Rattle.hyd_net.specs.Sound.{IsSound};
 ghost use Rattle.hyd_spec.specs.ProgramTypes as types;
 ghost use Rattle.hyd_spec.specs.NodeNumbers.{nodes_before_tanks, tank_count};
 ghost use Rattle.hyd_spec_certificates.specs.declared.Verdict as verdict;
@@ -141,7 +141,7 @@ pub fn decide(
     links: &[LinkState],
     time: u32,
 ) -> Truth
-    requires sound { Sound project.now }
+    requires sound { IsSound project.now }
     requires in_range { rule < length project.now.rules.list }
     requires each_low { length low.now ≡ nodes_before_tanks project.now }
     requires each_high { length high.now ≡ nodes_before_tanks project.now }

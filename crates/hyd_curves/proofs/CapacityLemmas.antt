@@ -21,7 +21,7 @@ use Rattle.hyd_spec_input.specs.Tables.{Point}
 use Rattle.hyd_curves.specs.CurveFaults.{pump_fault, IsRefusedPoints}
 use Rattle.hyd_curves.specs.Points.{points_in}
 use Rattle.hyd_curves.specs.declared.points.CurvePoint.{CurvePoint}
-use Rattle.hyd_lemmas.proofs.Trials.{le_z-yes, lt_z-yes}
+use Rattle.hyd_lemmas.proofs.BooleanTests.{le_z-yes, lt_z-yes}
 
 -- ---- a flow, a drop and thirds
 

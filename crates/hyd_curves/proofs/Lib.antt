@@ -1,11 +1,11 @@
 pub mod NamedLemmas
 pub mod PointLemmas
 pub mod TankRowLemmas
-pub mod BendRowLemmas
-pub mod TurnLemmas
-pub mod BendLemmas
+pub mod StraightLineCurveRowLemmas
+pub mod ItemsInTurnLemmas
+pub mod StraightLineCurveLemmas
 pub mod CapacityLemmas
-pub mod JudgedLemmas
+pub mod VerdictsOnCurvesLemmas
 pub mod LineLemmas
 pub mod PumpLemmas
-pub mod ShapeLemmas
+pub mod VolumeCurveLemmas

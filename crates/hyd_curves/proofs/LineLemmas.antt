@@ -10,7 +10,7 @@ use Rattle.hyd_num.specs.Rational.{floor, whole, is_at_most}
 use Rattle.hyd_num.proofs.Integers.{times_rises, times_plus, times_one, one_times, both_below, times_one_right}
 use Rattle.hyd_net.specs.Curves.{Knot, on_line, between}
 use Rattle.hyd_lemmas.proofs.KnotLines.{on_line_is}
-use Rattle.hyd_lemmas.proofs.Trials.{lt_z-yes}
+use Rattle.hyd_lemmas.proofs.BooleanTests.{lt_z-yes}
 
 pub width_is : (a b : Knot) (d : ℤ) → a.place <ℤ b.place → b.place -ℤ a.place ≡ pos (on_line 1 a b d).den
 width_is a b d less = omega (arith, ints)

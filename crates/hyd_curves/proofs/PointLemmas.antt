@@ -1,14 +1,14 @@
 -- The points of curves, one row further.
 use Rattle.std.proofs.Common.{◌≡◌, All, ◌+◌, ◌<◌, ◌≤◌, ◌++◌, ℕ, true, false, List, [], ◌∷◌, map, length, take, position}
 use Rattle.std.proofs.Common.{Option, Some, None, slice_get, refl, sym, ap, ◌∙◌, subst, arith, ◌==◌, true≢false, get_or}
-use Rattle.std.proofs.Common.{inl, inr, append-nil, length-append, nat_lt, ltb-true, ltb-false}
+use Rattle.std.proofs.Common.{inl, inr, append-nil, nat_lt, ltb-true, ltb-false}
 use Rattle.std.specs.Prelude.{slice_set}
 use Rattle.std.specs.Str.{bytes_eq}
 use Rattle.std.specs.Cmp.Lexicographic.{bytes_decides}
 use Rattle.std.proofs.lemmas.Bool.{cases_Bool}
 use Rattle.std.proofs.lemmas.List.{map-set, map-append, length-map, get_or-set_same, get_or-set_other, length-set}
 use Rattle.std.proofs.lemmas.List.{get_or-map}
-use Rattle.std.proofs.lemmas.List.Elements.{filter-append, All-push}
+use Rattle.std.proofs.lemmas.List.Elements.{filter-append}
 use Rattle.std.proofs.Math.ListN.{get_or-eq_default}
 use Rattle.hyd_spec_lines.specs.Lines.{Row}
 use Rattle.hyd_spec_lines.specs.declared.line.Line.{Line}
@@ -25,12 +25,12 @@ use Rattle.hyd_spec_input.specs.Tables.{row_with, has_id}
 use Rattle.hyd_spec_input.specs.Columns.{word, or_empty}
 use Rattle.hyd_network_rows.specs.Rows.{IsCurveRow}
 use Rattle.hyd_network_rows.specs.declared.demands_curves_and_statuses.CurveRow.{CurveRow}
-use Rattle.hyd_text_rows.specs.IdTables.{AreFirsts}
-use Rattle.hyd_text_rows.proofs.FoundLemmas.{filter_more, filter_same, one_name, has_more, not_named}
-use Rattle.hyd_text_rows.proofs.SectionLemmas.{all_rows}
-use Rattle.hyd_text_rows.specs.FirstWrongRow.{rows_at}
-use Rattle.hyd_text_rows.proofs.TableLemmas.{not_found, has_id-is, even}
-use Rattle.hyd_curves.specs.Points.{points_in, point_in, each, list_of, ArePoints, AreEmpty, AreGathered, HasOneMore}
+use Rattle.hyd_rows_and_tables.specs.IdTables.{AreFirsts, AreEmpty}
+use Rattle.hyd_rows_and_tables.proofs.FoundLemmas.{filter_more, filter_same, one_name, has_more, not_named}
+use Rattle.hyd_rows_and_tables.proofs.SectionLemmas.{all_rows}
+use Rattle.hyd_rows_and_tables.specs.FirstWrongRow.{rows_at}
+use Rattle.hyd_rows_and_tables.proofs.TableLemmas.{not_found, has_id-is, even}
+use Rattle.hyd_curves.specs.Points.{points_in, point_in, each, list_of, ArePoints, AreGathered, HasOneMore}
 use Rattle.hyd_curves.specs.declared.points.CurvePoint.{CurvePoint}
 use Rattle.hyd_curves.specs.declared.points.Points.{Points}
 use Rattle.hyd_theorems_on_input.proofs.Faultless.{none_from}
@@ -56,14 +56,6 @@ one_more lists number was now point l w n =
       here = rw (e, old) (get_or-set_same (each lists) number (points_of now) [] (omega (arith, m, l)) ∙ new);
       others = λ k apart. rw e (get_or-set_other (each lists) number k (points_of now) [] apart);
     }
-
--- a list without points more
-pub empty_more : (lists : List (ListView CurvePoint)) (k : ℕ) (list : ListView CurvePoint) → AreEmpty lists k
-    → list.list ≡ [] → AreEmpty (lists ++ list ∷ []) (k + 1)
-empty_more lists k list before none = record {
-  count_is = length-append lists (list ∷ []) ∙ ap (λ n. n + 1) before.count_is;
-  none = All-push (λ (list : ListView CurvePoint). list.list ≡ []) lists list before.none none;
-}
 
 no_points : (lists : List (ListView CurvePoint)) (k : ℕ) → All (λ (list : ListView CurvePoint). list.list ≡ []) lists
     → get_or (each lists) k [] ≡ []

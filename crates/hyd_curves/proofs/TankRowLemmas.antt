@@ -30,9 +30,9 @@ use Rattle.hyd_spec_input.specs.Project.{Match, shape_points}
 use Rattle.hyd_spec_input.specs.Tables.{place, is_of, rows_of, node_rows}
 use Rattle.hyd_spec_input.specs.RowsTogether as others
 use Rattle.hyd_spec_input.specs.RowsTogether.{us}
-use Rattle.hyd_text_rows.proofs.FoundLemmas.{filter_more, filter_same}
-use Rattle.hyd_text_rows.specs.FirstWrongRow.{rows_at}
-use Rattle.hyd_text_rows.proofs.SectionLemmas.{all_rows}
+use Rattle.hyd_rows_and_tables.proofs.FoundLemmas.{filter_more, filter_same}
+use Rattle.hyd_rows_and_tables.specs.FirstWrongRow.{rows_at}
+use Rattle.hyd_rows_and_tables.proofs.SectionLemmas.{all_rows}
 use Rattle.hyd_spec_lines.specs.declared.line.Line.{Line}
 use Rattle.hyd_spec_input.specs.InForce as force
 use Rattle.hyd_curves.specs.CurveFaults.{tank_curve_fault}
@@ -42,10 +42,10 @@ use Rattle.hyd_curves.specs.TankCurveTests.{IsRight, level_passes, begins_and_en
 use Rattle.hyd_curves.specs.declared.points.CurvePoint.{CurvePoint}
 use Rattle.hyd_curves.specs.declared.volume_curves.Shapes.{Shapes}
 use Rattle.hyd_curves.specs.declared.ticks.Ticks.{Ticks}
-use Rattle.hyd_theorems_on_input.proofs.Matching.{match_push}
+use Rattle.hyd_theorems_on_input.proofs.MatchedLists.{match_push}
 use Rattle.hyd_theorems_on_input.proofs.Faultless.{unless_none, none_from}
 use Rattle.hyd_curves.proofs.NamedLemmas.{one_name_more}
-use Rattle.hyd_curves.proofs.ShapeLemmas.{small, behind}
+use Rattle.hyd_curves.proofs.VolumeCurveLemmas.{small, behind}
 
 -- ---- small points
 

@@ -1,6 +1,6 @@
 pub mod Points
 pub mod CurveFaults
-pub mod Judged
+pub mod VerdictsOnCurves
 pub mod EachWithNext
 pub mod TankCurveTests
 pub mod PointsAsKnots

@@ -1,5 +1,5 @@
 -- The points of curves, by the numbers that the curves' names have in a table.
-use Rattle.std.specs.Prelude.{◌≡◌, ℕ, All, List, [], ◌∷◌, ◌++◌, map, length, take, Option, Some, None, slice_index_or}
+use Rattle.std.specs.Prelude.{◌≡◌, ℕ, List, [], ◌∷◌, ◌++◌, map, length, take, Option, Some, None, slice_index_or}
 use Rattle.hyd_spec_lines.specs.Lines.{Row}
 use Rattle.hyd_net.specs.ListView.{ListView}
 use Rattle.hyd_spec_input.specs.MeaningsAcrossRows.{number_in}
@@ -28,11 +28,6 @@ pub record ArePoints (rows : List Row) (names : List (List ℕ)) (points : Point
   pub named : (name : List ℕ) → list_of (each points.lists.items) (number_in names name) ≡ curve_named rows name
 
 -- ---- one row after another
-
--- so many lists, all without points
-pub record AreEmpty (lists : List (ListView CurvePoint)) (count : ℕ) : Type 0 where
-  pub count_is : length lists ≡ count
-  pub none : All (λ (list : ListView CurvePoint). list.list ≡ []) lists
 
 -- one list has one more point, the others are as before
 pub record HasOneMore (before after : List (List Point)) (number : ℕ) (point : Point) : Type 0 where

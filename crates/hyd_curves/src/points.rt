@@ -8,15 +8,15 @@ ghost use Rattle.hyd_spec_lines.specs.declared.section.Section.TheVariants.{Curv
 ghost use Rattle.hyd_spec_input.specs.SingleRows.{IsWrongByItself};
 ghost use Rattle.hyd_spec_input.specs.Faults.{NoneIs};
 ghost use Rattle.hyd_spec_input.specs.Tables.{rows_of, curve_named};
-ghost use Rattle.hyd_text_rows.specs.FirstWrongRow.{rows_at};
-ghost use Rattle.hyd_text_rows.specs.IdTables.{IsTable};
-ghost use Rattle.hyd_curves.specs.Points.{ArePoints, AreEmpty, AreGathered, HasOneMore, points_in, point_in, each};
+ghost use Rattle.hyd_rows_and_tables.specs.FirstWrongRow.{rows_at};
+ghost use Rattle.hyd_rows_and_tables.specs.IdTables.{IsTable, AreEmpty};
+ghost use Rattle.hyd_curves.specs.Points.{ArePoints, AreGathered, HasOneMore, points_in, point_in, each};
 
 use hyd_lex::{Line, Lines};
 use hyd_net::OutOfMemory;
 use hyd_network_rows::read_curve;
 use hyd_num::Decimal;
-use hyd_text_rows::{Table, is_curves};
+use hyd_rows_and_tables::{Table, is_curves};
 use std::alloc::Global;
 
 /// A point of a curve, as the numbers of its row.

@@ -8,6 +8,7 @@ ghost use lib.Signed.{le_z, lt_z};
 ghost use Rattle.hyd_num.specs.FileQuantity as quantity;
 ghost use Rattle.hyd_num.specs.FileQuantity.{is_us_unit};
 ghost use Rattle.hyd_num.specs.Rational.{is_at_most, whole};
+ghost use Rattle.hyd_net.specs.NumberRanges.{shutoff_head_limit};
 ghost use Rattle.hyd_net.specs.Curves as curve_form;
 ghost use Rattle.hyd_spec_input.specs.Curves as curve;
 ghost use Rattle.hyd_spec_input.specs.Curves.{square, is_flow, is_slower, has_flow, at_start, at_end};
@@ -21,12 +22,10 @@ use crate::interpolation::on_line;
 use crate::points::CurvePoint;
 use crate::ticks::{Ticks, falls, head_point, is_within};
 use hyd_net::Cause;
-use hyd_net::ranges::GREATEST_FLOW;
+use hyd_net::ranges::{GREATEST_FLOW, GREATEST_SHUTOFF_HEAD};
 use hyd_num::{FlowUnit, compare_squares};
 use hyd_units::{flow_ticks, head_ticks};
 use std::cmp::Ordering;
-
-const GREATEST_SHUTOFF: i128 = 10_000_000_000_000_000;
 
 const GREATEST_DROP: i128 = 1_000_000_000_000_000_000_000;
 
@@ -122,10 +121,10 @@ fn are_flows(points: &[CurvePoint], unit: FlowUnit) -> bool
 
 // Whether the first head of three points is in range, and its drop to the second.
 fn is_drop_in_range(a: CurvePoint, b: CurvePoint, us: bool) -> bool
-    ensures { result ≡ (curve.is_within (10 ^ 16) (quantity.head_ticks us a.y.nano)
+    ensures { result ≡ (curve.is_within shutoff_head_limit (quantity.head_ticks us a.y.nano)
         && le_z (a.y.nano -ℤ b.y.nano) (pos (10 ^ 21))) }
 {
-    if !is_within(head_ticks(a.y, us), GREATEST_SHUTOFF) {
+    if !is_within(head_ticks(a.y, us), GREATEST_SHUTOFF_HEAD) {
         return false;
     }
     a.y.nano - b.y.nano <= GREATEST_DROP
@@ -136,7 +135,7 @@ fn has_shutoff(points: &[CurvePoint], us: bool) -> bool
     ensures { result ≡ curve.has_shutoff us (points_in points.now) }
 {
     match points {
-        [a] => 4 * head_ticks(a.y, us) <= 3 * GREATEST_SHUTOFF,
+        [a] => 4 * head_ticks(a.y, us) <= 3 * GREATEST_SHUTOFF_HEAD,
         [a, b, _] => is_drop_in_range(*a, *b, us),
         _ => true,
     }
@@ -182,12 +181,12 @@ fn begins_low(first: Ticks, second: Ticks) -> bool
     requires rises { first.place <ℤ second.place }
     requires falls { second.value <ℤ first.value }
     ensures { result ≡ is_at_most (curve_form.on_line 1 (knot_of first) (knot_of second) (pos 0))
-        (whole (pos (10 ^ 16))) }
+        (whole (pos shutoff_head_limit)) }
 {
-    if first.value > GREATEST_SHUTOFF {
+    if first.value > GREATEST_SHUTOFF_HEAD {
         return false;
     }
-    on_line(first, second, 0) <= GREATEST_SHUTOFF * (second.place - first.place)
+    on_line(first, second, 0) <= GREATEST_SHUTOFF_HEAD * (second.place - first.place)
 }
 
 // Whether a first point has a flow and a last point a head of at least 0.

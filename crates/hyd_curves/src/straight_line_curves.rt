@@ -14,7 +14,7 @@ ghost use Rattle.hyd_spec_input.specs.MeaningsAcrossRows.{bend_names};
 ghost use Rattle.hyd_spec_input.specs.NetworkRows as row;
 ghost use Rattle.hyd_spec_input.specs.Project.{Match, bend_points};
 ghost use Rattle.hyd_spec_input.specs.Tables.{place as section_place};
-ghost use Rattle.hyd_text_rows.specs.FirstWrongRow.{rows_at};
+ghost use Rattle.hyd_rows_and_tables.specs.FirstWrongRow.{rows_at};
 ghost use Rattle.hyd_curves.specs.NamedVolumeCurves.{with_name};
 ghost use Rattle.hyd_curves.specs.NamedStraightLineCurves.{IsSmallHead, AreBends, AreOfPumps, AreOfValves};
 ghost use Rattle.hyd_curves.specs.Points.{ArePoints, points_in, point_in};
@@ -26,7 +26,7 @@ use hyd_net::{HeadPoint, Names, OutOfMemory};
 use hyd_network_rows::read_pump;
 use hyd_num::FlowUnit;
 use hyd_row_words::word_is;
-use hyd_text_rows::Table;
+use hyd_rows_and_tables::Table;
 use std::alloc::Global;
 
 /// The curves by straight lines that pumps name, then those that general purpose valves name, each once, in the order

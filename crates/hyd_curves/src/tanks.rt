@@ -1,12 +1,13 @@
 //! What a tank asks of its volume curve.
 #![tactic(auto)]
 
-ghost use Rattle.std.specs.Prelude.{◌≡◌, ◌^◌, true, ◌&&◌, List, pos, ◌-ℤ◌, ◌≤ℤ◌};
+ghost use Rattle.std.specs.Prelude.{◌≡◌, true, ◌&&◌, List, pos, ◌-ℤ◌, ◌≤ℤ◌};
 ghost use lib.Signed.{le_z};
 ghost use Rattle.hyd_spec_lines.specs.WordsOfLines.{text_of};
 ghost use Rattle.hyd_spec_lines.specs.Lines.{Row};
 ghost use Rattle.hyd_spec_input.specs.Curves as curve;
 ghost use Rattle.hyd_spec_input.specs.Curves.{is_fuller, covers};
+ghost use Rattle.hyd_net.specs.NumberRanges.{volume_limit, least_volume_difference};
 ghost use Rattle.hyd_net.specs.Curves.{volume_at};
 ghost use Rattle.hyd_curves.specs.CurveFaults as asked;
 ghost use Rattle.hyd_curves.specs.Points.{ArePoints, points_in, point_in};
@@ -17,14 +18,13 @@ use crate::points::{CurvePoint, Points};
 use crate::ticks::{Ticks, is_within, rises, volume_point};
 use crate::volume_at_level::volume_up_to;
 use hyd_net::Cause;
-use hyd_net::ranges::GREATEST_HEAD;
+use hyd_net::ranges::{GREATEST_HEAD, GREATEST_VOLUME};
 use hyd_num::{Decimal, FlowUnit};
-use hyd_text_rows::Table;
+use hyd_rows_and_tables::Table;
 use hyd_units::head_ticks;
 
-const GREATEST_VOLUME: i128 = 1_000_000_000_000_000_000;
-
-const LEAST_ROOM: i128 = 1_000_000;
+/// The least that a tank holds between its minimum and its maximum level, in volume ticks: a litre.
+const LEAST_VOLUME_DIFFERENCE: i128 = 1_000_000;
 
 // Whether a point's level is in range, and level and volume rise to the next point.
 fn passes(point: CurvePoint, rest: &[CurvePoint], us: bool) -> bool
@@ -57,7 +57,7 @@ fn rise_in_turn(points: &[CurvePoint], us: bool) -> bool
 
 // Whether a first and a last point have volumes from 0 to the greatest, and cover these levels.
 fn are_ends(first: Ticks, last: Ticks, minimum: i128, maximum: i128) -> bool
-    ensures { result ≡ ((le_z (pos 0) first.value && le_z last.value (pos (10 ^ 18)))
+    ensures { result ≡ ((le_z (pos 0) first.value && le_z last.value (pos volume_limit))
         && (le_z first.place minimum && le_z maximum last.place)) }
 {
     if first.value < 0 {
@@ -91,15 +91,16 @@ fn spans(points: &[CurvePoint], minimum: i128, maximum: i128, us: bool) -> bool
     )
 }
 
-// Whether a curve that is right and covers these levels has room between them: 10^6 volume ticks at least.
+// Whether a curve that is right and covers these levels has room between them.
 fn has_room(points: &[CurvePoint], minimum: i128, maximum: i128, us: bool) -> bool
     requires right { IsRight (curve.volume_points us (points_in points.now)) }
     requires covered { covers minimum maximum (curve.volume_points us (points_in points.now)) ≡ true }
     requires ordered { minimum ≤ℤ maximum }
-    ensures { result ≡ le_z (pos (10 ^ 6)) (volume_at (curve.volume_points us (points_in points.now)) maximum
+    ensures { result ≡ le_z (pos least_volume_difference)
+        (volume_at (curve.volume_points us (points_in points.now)) maximum
         -ℤ volume_at (curve.volume_points us (points_in points.now)) minimum) }
 {
-    volume_up_to(points, maximum, us) - volume_up_to(points, minimum, us) >= LEAST_ROOM
+    volume_up_to(points, maximum, us) - volume_up_to(points, minimum, us) >= LEAST_VOLUME_DIFFERENCE
 }
 
 // Whether points are a volume curve that covers these levels.

@@ -9,7 +9,7 @@ ghost use Rattle.hyd_spec_input.specs.Faults.{NoneIs, IsWrongWithOthers};
 ghost use Rattle.hyd_spec_input.specs.InForce as force;
 ghost use Rattle.hyd_spec_input.specs.MeaningsAcrossRows.{shape_names};
 ghost use Rattle.hyd_spec_input.specs.Project.{Match, shape_points};
-ghost use Rattle.hyd_text_rows.specs.FirstWrongRow.{rows_at};
+ghost use Rattle.hyd_rows_and_tables.specs.FirstWrongRow.{rows_at};
 ghost use Rattle.hyd_curves.specs.NamedVolumeCurves.{IsSmallVolume, AreShapesAt, AreShapes, with_name};
 ghost use Rattle.hyd_curves.specs.Points.{ArePoints, points_in, point_in};
 
@@ -19,7 +19,7 @@ use hyd_lex::{Line, Lines};
 use hyd_net::{Names, OutOfMemory, VolumePoint};
 use hyd_network_rows::read_tank;
 use hyd_num::FlowUnit;
-use hyd_text_rows::{Table, is_tanks};
+use hyd_rows_and_tables::{Table, is_tanks};
 use std::alloc::Global;
 
 /// The volume curves that tanks name, each once, in the order in which they are first named.

@@ -6,12 +6,12 @@ ghost use Rattle.hyd_period_network.specs.NetInvariant.{HasProblem};
 
 use crate::certificate_test::serve;
 use crate::convergence::Progress;
+use crate::descent_to_tight_vector::Descent;
 use crate::finder::Finder;
 use crate::jacobian::Tangent;
 use crate::line_search::Course;
 use crate::number_lists::{copy, fill, multiply, number_at};
 use crate::raises::NoValue;
-use crate::tightening::Descent;
 use crate::weights_of_misses::{greatest_ratio, put_weights};
 use hyd_period_network::Net;
 use hyd_spec_certificates::{Problem, Side};

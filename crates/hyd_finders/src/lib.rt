@@ -4,6 +4,7 @@
 
 mod certificate_test;
 mod convergence;
+mod descent_to_tight_vector;
 mod finder;
 mod flows;
 mod gradient;
@@ -12,7 +13,6 @@ mod line_search;
 mod number_lists;
 mod raises;
 mod slopes;
-mod tightening;
 mod tightness_test;
 mod weights_of_misses;
 

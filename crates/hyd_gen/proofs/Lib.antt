@@ -1,1 +1,1 @@
-pub mod MoreLemmas
+pub mod OneJunctionMore

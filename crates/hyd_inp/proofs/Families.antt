@@ -12,9 +12,9 @@ use Rattle.hyd_spec_input.specs.CapacitiesOutOfRange.{IsRefusedIn}
 use Rattle.hyd_spec_input.specs.Faults.{IsWrongWithOthers}
 use Rattle.hyd_spec_input.specs.RowsTogether.{section_fault, holds_action}
 use Rattle.hyd_inp.specs.SectionFamilies.{Both, is_judged, IsWrongOf}
-use Rattle.hyd_text_rows.specs.declared.first_wrong.Found.{Found}
-use Rattle.hyd_text_rows.specs.FirstWrongRow.{HasFound, IsWrongAmong, Either, least, rows_at}
-use Rattle.hyd_text_rows.proofs.LeastLemmas.{found_least}
+use Rattle.hyd_rows_and_tables.specs.declared.first_wrong.Found.{Found}
+use Rattle.hyd_rows_and_tables.specs.FirstWrongRow.{HasFound, IsWrongAmong, Either, least, rows_at}
+use Rattle.hyd_rows_and_tables.proofs.LeastLemmas.{found_least}
 
 -- where two notions of a wrong row are one
 pub found_as : (rows : List Row) (One Other : ℕ → Cause → Type 0) (n : ℕ) (found : Option Found)

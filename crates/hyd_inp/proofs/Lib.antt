@@ -1,3 +1,3 @@
 pub mod Families
-pub mod Whole
+pub mod FaultFromFindings
 pub mod TableRows

@@ -8,8 +8,8 @@ use Rattle.hyd_spec_input.specs.SingleRows.{IsWrongByItself}
 use Rattle.hyd_spec_input.specs.Faults.{NoneIs, IsWrongWithOthers}
 use Rattle.hyd_spec_input.specs.InForce as force
 use Rattle.hyd_spec_input.specs.Tables.{node_rows, link_rows, rows_of}
-use Rattle.hyd_text_rows.specs.FirstWrongRow.{rows_at}
-use Rattle.hyd_text_rows.specs.IdTables.{IsTable}
+use Rattle.hyd_rows_and_tables.specs.FirstWrongRow.{rows_at}
+use Rattle.hyd_rows_and_tables.specs.IdTables.{IsTable}
 use Rattle.hyd_inp.specs.Parts.{AreNumbers}
 use Rattle.hyd_inp.specs.declared.rows_to_build_from.Source.{Source}
 

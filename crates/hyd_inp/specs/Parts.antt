@@ -10,10 +10,10 @@ use Rattle.hyd_spec_input.specs.MeaningsAcrossRows.{rule_groups}
 use Rattle.hyd_spec_input.specs.Project.{Match, IsJunction, IsReservoir, IsTank, IsLink, IsPattern, IsControl, IsRule}
 use Rattle.hyd_spec_input.specs.Project.{IsOptions, IsTimes, IsProject, numbered_links, shape_points, bend_points}
 use Rattle.hyd_spec_input.specs.Tables.{rows_of, words_of}
-use Rattle.hyd_inp.specs.declared.numbering.Numbers.{Numbers}
+use Rattle.hyd_inp.specs.declared.numbered_names.Numbers.{Numbers}
 use Rattle.hyd_inp.specs.declared.network_parts.Nodes.{Nodes}
 use Rattle.hyd_inp.specs.declared.network_parts.Links.{Links}
-use Rattle.hyd_inp.specs.declared.network_parts.Changes.{Changes}
+use Rattle.hyd_inp.specs.declared.network_parts.PatternsControlsAndRules.{PatternsControlsAndRules}
 use Rattle.hyd_inp.specs.declared.network_parts.Parts.{Parts}
 
 -- IDs in the order of their numbers
@@ -33,15 +33,15 @@ pub record AreLinks (rows : List Row) (links : Links) : Type 0 where
   pub links_are : Match (IsLink rows) (numbered_links rows) links.links.list
   pub bends : Match (λ name list. list.list ≡ bend_points rows name) (bend_names rows) links.bends.list
 
-pub record AreChanges (rows : List Row) (changes : Changes) : Type 0 where
-  pub patterns : Match (IsPattern rows) (pattern_ids rows) changes.patterns.list
-  pub controls : Match (IsControl rows) (words_of Controls rows) changes.controls.list
-  pub rules : Match (IsRule rows) (rule_groups (words_of Rules rows)) changes.rules.list
+pub record ArePatternsControlsAndRules (rows : List Row) (parts : PatternsControlsAndRules) : Type 0 where
+  pub patterns : Match (IsPattern rows) (pattern_ids rows) parts.patterns.list
+  pub controls : Match (IsControl rows) (words_of Controls rows) parts.controls.list
+  pub rules : Match (IsRule rows) (rule_groups (words_of Rules rows)) parts.rules.list
 
 pub record AreParts (rows : List Row) (parts : Parts) : Type 0 where
   pub nodes : AreNodes rows parts.nodes
   pub links : AreLinks rows parts.links
-  pub changes : AreChanges rows parts.changes
+  pub patterns_controls_and_rules : ArePatternsControlsAndRules rows parts.patterns_controls_and_rules
 
 -- what has all parts of a file's network is its network
 abbrev pub AreAll : Numbers → Parts → Options → Times → Project → Type 0

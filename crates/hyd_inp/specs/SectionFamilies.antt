@@ -6,7 +6,7 @@ use Rattle.hyd_spec_lines.specs.declared.section.Section.TheVariants.{Controls, 
 use Rattle.hyd_net.specs.declared.refusal_cause.Cause.{Cause}
 use Rattle.hyd_spec_input.specs.Faults.{IsWrongWithOthers}
 use Rattle.hyd_spec_input.specs.Tables.{is_of, is_node, is_link}
-use Rattle.hyd_text_rows.specs.FirstWrongRow.{IsWrongAmong}
+use Rattle.hyd_rows_and_tables.specs.FirstWrongRow.{IsWrongAmong}
 
 -- rows of one family or another
 abbrev pub Both : (Row → Bool) → (Row → Bool) → Row → Bool

@@ -8,12 +8,12 @@ ghost use Rattle.hyd_spec_input.specs.SingleRows.{IsWrongByItself};
 ghost use Rattle.hyd_spec_input.specs.Faults.{NoneIs, IsWrongWithOthers};
 ghost use Rattle.hyd_spec_input.specs.InForce as force;
 ghost use Rattle.hyd_spec_input.specs.Project.{IsProject};
-ghost use Rattle.hyd_text_rows.specs.FirstWrongRow.{rows_at};
-ghost use Rattle.hyd_inp.specs.Parts.{AreNumbers, AreNodes, AreLinks, AreChanges, AreParts};
+ghost use Rattle.hyd_rows_and_tables.specs.FirstWrongRow.{rows_at};
+ghost use Rattle.hyd_inp.specs.Parts.{AreNumbers, AreNodes, AreLinks, ArePatternsControlsAndRules, AreParts};
 ghost use Rattle.hyd_inp.specs.CheckedRows.{IsSource, rows_from};
 
-use crate::network_parts::{Changes, Links, Nodes, Parts, assemble};
-use crate::numbering::{Numbers, number};
+use crate::network_parts::{Links, Nodes, Parts, PatternsControlsAndRules, assemble};
+use crate::numbered_names::{Numbers, number};
 use crate::rows_to_build_from::Source;
 use crate::tables::gather_tables;
 use hyd_build_controls::{build_controls, build_rules};
@@ -84,13 +84,13 @@ fn build_links(alloc: Global, text: &Lines<'_>, source: &Source<'_>) -> Result<L
 }
 
 // Patterns, controls and rules.
-fn build_changes(
+fn build_patterns_controls_and_rules(
     alloc: Global,
     text: &Lines<'_>,
     source: &Source<'_>,
-) -> Result<Changes, OutOfMemory>
+) -> Result<PatternsControlsAndRules, OutOfMemory>
     requires { IsSource text.now.text source.now }
-    ensures { IfOk result (AreChanges (rows_from text.now.text source.now)) }
+    ensures { IfOk result (ArePatternsControlsAndRules (rows_from text.now.text source.now)) }
 {
     let Source {
         lines,
@@ -119,7 +119,7 @@ fn build_changes(
         links,
         unit,
     )?;
-    Ok(Changes {
+    Ok(PatternsControlsAndRules {
         patterns,
         controls,
         rules,
@@ -155,11 +155,11 @@ fn build_parts(
     };
     let nodes = build_nodes(alloc, text, &source)?;
     let links = build_links(alloc, text, &source)?;
-    let changes = build_changes(alloc, text, &source)?;
+    let patterns_controls_and_rules = build_patterns_controls_and_rules(alloc, text, &source)?;
     Ok(Parts {
         nodes,
         links,
-        changes,
+        patterns_controls_and_rules,
     })
 }
 

@@ -18,6 +18,12 @@ pub struct InpFault {
     pub cause: Cause,
 }
 
+/// The fault of a text of more than 64 MiB.
+pub const TEXT_TOO_LONG: InpFault = InpFault {
+    line: 0,
+    cause: Cause::Limit(1),
+};
+
 /// Why a text gave no network.
 #[derive(Debug, Clone, Copy, PartialEq, Eq, Drop, Error)]
 pub enum InpRefused {

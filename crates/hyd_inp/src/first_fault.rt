@@ -5,15 +5,15 @@ ghost use Rattle.std.specs.Prelude.{◌≡◌, ◌≤◌, ◌^◌, length, IfOk,
 ghost use Rattle.std.specs.List.{All};
 ghost use Rattle.hyd_spec_lines.specs.Lines.{LiesIn, items_of, rows_in, fault_in};
 ghost use Rattle.hyd_spec_input.specs.Faults.{IsFault, IsFaultOf, HasNoFault};
-ghost use Rattle.hyd_text_rows.specs.FirstWrongRow.{rows_at};
+ghost use Rattle.hyd_rows_and_tables.specs.FirstWrongRow.{rows_at};
 
-use crate::fault::{InpFault, line_cause};
+use crate::fault::{InpFault, TEXT_TOO_LONG, line_cause};
 use crate::first_wrong_with_others::first_with_others;
 use crate::missing_from_file::lack;
 use hyd_judge_single_rows::first_by_itself;
 use hyd_lex::{LexFault, Line, Lines};
-use hyd_net::{Cause, OutOfMemory};
-use hyd_text_rows::gather;
+use hyd_net::OutOfMemory;
+use hyd_rows_and_tables::gather;
 use std::alloc::Global;
 
 /// The most bytes of a text: 64 MiB.
@@ -67,10 +67,7 @@ pub fn find_fault(alloc: Global, text: &[u8]) -> Result<Option<InpFault>, OutOfM
     ensures none { IfOk result (λ fault. IfNone fault (HasNoFault text.now)) }
 {
     if text.len() > LONGEST_TEXT {
-        return Ok(Some(InpFault {
-            line: 0,
-            cause: Cause::Limit(1),
-        }));
+        return Ok(Some(TEXT_TOO_LONG));
     }
     let gathered = gather(alloc, text)?;
     let reader = Lines::new(text);

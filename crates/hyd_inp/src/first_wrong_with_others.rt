@@ -10,8 +10,8 @@ ghost use Rattle.hyd_spec_input.specs.SingleRows.{IsWrongByItself};
 ghost use Rattle.hyd_spec_input.specs.Faults.{NoneIs, IsWrongWithOthers};
 ghost use Rattle.hyd_spec_input.specs.InForce as force;
 ghost use Rattle.hyd_spec_input.specs.Tables.{node_rows, link_rows, rows_of};
-ghost use Rattle.hyd_text_rows.specs.FirstWrongRow.{HasFound, rows_at};
-ghost use Rattle.hyd_text_rows.specs.IdTables.{IsTable};
+ghost use Rattle.hyd_rows_and_tables.specs.FirstWrongRow.{HasFound, rows_at};
+ghost use Rattle.hyd_rows_and_tables.specs.IdTables.{IsTable};
 ghost use Rattle.hyd_judge_nodes_curves_and_options.specs.JudgedNodes as nodes_form;
 ghost use Rattle.hyd_judge_nodes_curves_and_options.specs.Patterns.{ArePatterns};
 ghost use Rattle.hyd_judge_links.specs.LinkFaults as links_form;
@@ -28,7 +28,7 @@ use hyd_judge_nodes_curves_and_options::{
 use hyd_lex::{Line, Lines};
 use hyd_net::OutOfMemory;
 use hyd_num::FlowUnit;
-use hyd_text_rows::{Found, Table, least};
+use hyd_rows_and_tables::{Found, Table, least};
 use std::alloc::Global;
 
 // The first wrong row of states, controls and rules.

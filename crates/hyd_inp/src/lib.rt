@@ -7,11 +7,11 @@ mod first_fault;
 mod first_wrong_with_others;
 mod missing_from_file;
 mod network_parts;
-mod numbering;
+mod numbered_names;
 mod project;
 mod rows_to_build_from;
 mod tables;
 
-pub use fault::{InpFault, InpRefused};
+pub use fault::{InpFault, InpRefused, TEXT_TOO_LONG};
 pub use first_fault::{LONGEST_TEXT, find_fault};
 pub use project::read_project;

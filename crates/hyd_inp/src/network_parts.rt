@@ -3,7 +3,7 @@
 
 ghost use Rattle.hyd_inp.specs.Parts.{AreAll};
 
-use crate::numbering::Numbers;
+use crate::numbered_names::Numbers;
 use hyd_net::{
     Control, HeadPoint, Junction, Link, List, Options, Pattern, Project, Reservoir, Rule, Tank,
     Times, VolumePoint,
@@ -27,7 +27,7 @@ pub(crate) struct Links {
 
 /// Patterns, controls and rules.
 #[derive(Drop)]
-pub(crate) struct Changes {
+pub(crate) struct PatternsControlsAndRules {
     pub(crate) patterns: List<Pattern>,
     pub(crate) controls: List<Control>,
     pub(crate) rules: List<Rule>,
@@ -38,7 +38,7 @@ pub(crate) struct Changes {
 pub(crate) struct Parts {
     pub(crate) nodes: Nodes,
     pub(crate) links: Links,
-    pub(crate) changes: Changes,
+    pub(crate) patterns_controls_and_rules: PatternsControlsAndRules,
 }
 
 /// The network of its parts.
@@ -53,7 +53,7 @@ pub(crate) fn assemble(numbers: Numbers, parts: Parts, options: Options, times: 
     let Parts {
         nodes,
         links,
-        changes,
+        patterns_controls_and_rules,
     } = parts;
     Project {
         options,
@@ -64,10 +64,10 @@ pub(crate) fn assemble(numbers: Numbers, parts: Parts, options: Options, times: 
         reservoirs: nodes.reservoirs,
         tanks: nodes.tanks,
         links: links.links,
-        patterns: changes.patterns,
+        patterns: patterns_controls_and_rules.patterns,
         shapes: nodes.shapes,
         bends: links.bends,
-        controls: changes.controls,
-        rules: changes.rules,
+        controls: patterns_controls_and_rules.controls,
+        rules: patterns_controls_and_rules.rules,
     }
 }

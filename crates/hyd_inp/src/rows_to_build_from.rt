@@ -1,11 +1,11 @@
 //! What the parts of a network are built from.
 #![tactic(auto)]
 
-use crate::numbering::Numbers;
+use crate::numbered_names::Numbers;
 use hyd_curves::Points;
 use hyd_lex::Line;
 use hyd_num::FlowUnit;
-use hyd_text_rows::Table;
+use hyd_rows_and_tables::Table;
 
 /// The rows of a file, the numbers of its names, and what its rows name.
 #[derive(Clone, Copy, Drop)]

@@ -1,4 +1,4 @@
 pub mod MemoryLemmas
-pub mod ToldLemmas
-pub mod KeepingLemmas
+pub mod MovedBytesLemmas
+pub mod LeftAsItWasLemmas
 pub mod PutLemmas

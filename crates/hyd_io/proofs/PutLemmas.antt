@@ -9,9 +9,10 @@ use Rattle.hyd_io.specs.declared.output.Channel.{Channel}
 use Rattle.hyd_io.specs.DeskBytes.{Files, Moves, PutOut}
 use Rattle.hyd_io.specs.FailureCounts.{NeverFall}
 use Rattle.hyd_io.specs.Output.{by_channel, OnCert, HasOutCause, PenState}
-use Rattle.hyd_io.proofs.ToldLemmas.{moves_then, put_out_then, put_out_more, moves_nothing}
-use Rattle.hyd_io.proofs.KeepingLemmas.{on_report_then, on_cert_then, never_fall_stays, on_report_stays, on_cert_stays}
-use Rattle.hyd_io.specs.Putting.{Puts}
+use Rattle.hyd_io.proofs.MovedBytesLemmas.{moves_then, put_out_then, put_out_more, moves_nothing}
+use Rattle.hyd_io.proofs.LeftAsItWasLemmas.{on_report_then, on_cert_then, never_fall_stays, on_report_stays}
+use Rattle.hyd_io.proofs.LeftAsItWasLemmas.{on_cert_stays}
+use Rattle.hyd_io.specs.TextPutIn.{Puts}
 
 no_such : (o : Option OutFault) → IfSome o (λ fault. Ok (tt {0}) ≡ Err fault) → o ≡ None
 no_such None again = refl

@@ -5,6 +5,6 @@ pub mod Output
 pub mod Memory
 pub mod MemoryView
 pub mod RealFiles
-pub mod Replacing
-pub mod Keeping
-pub mod Putting
+pub mod FilesEmptied
+pub mod LeftAsItWas
+pub mod TextPutIn

@@ -2,9 +2,9 @@
 
 ghost use Rattle.std.specs.Prelude.{◌≡◌, true, None, refl};
 
-use crate::creating::{Content, create_file};
 use crate::desk::{Desk, Failed, Faults, Openings, stalls_after};
 use crate::failure::{Call, Failure};
+use crate::files_to_write::{Content, create_file};
 use arrayvec::ArrayString;
 use std::fs;
 use std::io::{self, ErrorKind, Read, Write};

@@ -3,7 +3,8 @@
 ghost use Rattle.std.specs.Prelude.{◌≡◌, ℕ, ◌+◌, ◌<◌, ◌≤◌, List, [], length, take, min, Some, IfOk, IfErr, OnOk, OnErr};
 ghost use Rattle.std.specs.Prelude.{IsErrOf};
 ghost use Rattle.hyd_io.specs.DeskBytes.{where_told, prepend_known, Took};
-ghost use Rattle.hyd_io.specs.FailureCounts.{NeverFall, HasInCause};
+ghost use Rattle.hyd_io.specs.FailureCounts.{HasInCause};
+ghost use Rattle.hyd_io.specs.LeftAsItWas.{KeepsOutput};
 ghost use Rattle.hyd_io.specs.declared.input.InFault.TheVariants.{OutOfMemory};
 
 use crate::desk::Desk;
@@ -52,13 +53,8 @@ pub fn read_all<D: Desk>(alloc: Global, desk: &mut D, limit: usize) -> Result<Ve
     ensures cause { IfErr result (λ fault.
         HasInCause fault (D.counts desk.old) (D.counts desk.new)) }
     ensures steady { OnOk result (D.counts desk.new ≡ D.counts desk.old) }
-    ensures never_fall { NeverFall (D.counts desk.old) (D.counts desk.new) }
-    ensures files_stay { D.files desk.new ≡ D.files desk.old }
-    ensures written_stays { D.written desk.new ≡ D.written desk.old }
-    ensures printed_stays { D.printed desk.new ≡ D.printed desk.old }
-    ensures target_stays { D.target desk.new ≡ D.target desk.old }
-    ensures ready_stays { D.ready desk.new ≡ D.ready desk.old }
-    ensures openings_stay { D.openings desk.new ≡ D.openings desk.old }
+    ensures stays { KeepsOutput D.files D.written D.printed D.target D.ready D.counts D.openings
+        desk.old desk.new }
 {
     let mut bytes = Vec::new(alloc);
     let mut block = [0u8; BLOCK];
@@ -84,13 +80,8 @@ fn read_block<D: Desk>(desk: &mut D, block: &mut [u8; BLOCK], room: usize) -> Re
     ensures cause { IfErr result (λ fault.
         HasInCause fault (D.counts desk.old) (D.counts desk.new)) }
     ensures steady { OnOk result (D.counts desk.new ≡ D.counts desk.old) }
-    ensures never_fall { NeverFall (D.counts desk.old) (D.counts desk.new) }
-    ensures files_stay { D.files desk.new ≡ D.files desk.old }
-    ensures written_stays { D.written desk.new ≡ D.written desk.old }
-    ensures printed_stays { D.printed desk.new ≡ D.printed desk.old }
-    ensures target_stays { D.target desk.new ≡ D.target desk.old }
-    ensures ready_stays { D.ready desk.new ≡ D.ready desk.old }
-    ensures openings_stay { D.openings desk.new ≡ D.openings desk.old }
+    ensures stays { KeepsOutput D.files D.written D.printed D.target D.ready D.counts D.openings
+        desk.old desk.new }
 {
     let ask = room.min(BLOCK - 1) + 1;
     match desk.read(&mut block[..ask]) {

@@ -2,10 +2,10 @@
 //! files, and buffered reading and writing over any of them.
 #![tactic(auto)]
 
-mod creating;
 pub mod desk;
 pub mod failure;
 pub mod files;
+mod files_to_write;
 pub mod input;
 pub mod memory;
 pub mod output;
@@ -15,4 +15,4 @@ pub use failure::{Call, Failure};
 pub use files::FileDesk;
 pub use input::{InFault, read_all};
 pub use memory::MemDesk;
-pub use output::{BUFFER_BYTES, Channel, OutFault, Pen};
+pub use output::{BUFFER_BYTES, Channel, OutFault, Pen, put_number};

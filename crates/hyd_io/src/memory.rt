@@ -1,4 +1,5 @@
-//! A desk in memory, for tests: it tells all, and its calls can be made to fail or to take nothing.
+//! A desk in memory, for programs that keep their files there and for tests: it tells all, and its calls can be made to
+//! fail or to take nothing.
 
 ghost use Rattle.std.specs.Prelude.{◌≡◌, ◌≢◌, ℕ, ◌<◌, ◌≤◌, List, [], ◌∷◌, ◌++◌, length, true, bytes_eq, if◌then◌else◌};
 ghost use Rattle.std.specs.Prelude.{Some, None, option_map, option_and_then, IsErr, IfOk, OnOk, OnErr, string_bytes};

@@ -1,14 +1,15 @@
 //! Buffered writing to the file created last or to standard output.
 
 ghost use Rattle.std.specs.Prelude.{◌≡◌, ℕ, ◌+◌, ◌-◌, ◌<◌, ◌≤◌, List, [], ◌++◌, length, take, drop, min, Option};
-ghost use Rattle.std.specs.Prelude.{Some, None, Err, IsTrue, IfOk, IfErr, OnOk, OnErr};
+ghost use Rattle.std.specs.Prelude.{Some, None, Err, IsTrue, IfOk, IfErr, OnOk, OnErr, decimal};
 ghost use Rattle.hyd_io.specs.Buffers.{buffer_bytes};
 ghost use Rattle.hyd_io.specs.DeskBytes.{append_known, Moves, PutOut};
 ghost use Rattle.hyd_io.specs.Output.{by_channel, OnCert, HasOutCause, PenState};
-ghost use Rattle.hyd_io.specs.Keeping.{KeepsOthers};
-ghost use Rattle.hyd_io.specs.Putting.{Puts, Empties};
+ghost use Rattle.hyd_io.specs.LeftAsItWas.{KeepsOthers};
+ghost use Rattle.hyd_io.specs.TextPutIn.{Puts, PenEmptied};
 
 use crate::desk::Desk;
+use itoa::Buffer;
 use std::marker::Model;
 use thiserror::Error;
 
@@ -100,7 +101,7 @@ impl Pen {
     /// Puts out all that the pen holds. Its faults and its needs are those of `put`.
     pub fn flush<D: Desk>(&mut self, desk: &mut D) -> Result<(), OutFault>
         requires { OnCert self.old.to (IsTrue (D.ready desk.old)) }
-        ensures { Empties D.files D.rest D.written D.printed D.target D.ready D.counts D.openings
+        ensures { PenEmptied D.files D.rest D.written D.printed D.target D.ready D.counts D.openings
             result self.old self.new desk.old desk.new }
     {
         if let Some(fault) = self.fault {
@@ -234,4 +235,14 @@ fn put_front<D: Desk>(to: Channel, desk: &mut D, piece: &[u8]) -> Result<usize, 
         Ok(0) => Err(OutFault::Stalled),
         Ok(n) => Ok(n),
     }
+}
+
+/// Puts a number in at a pen, in decimal digits. Its faults and its needs are those of `Pen::put`.
+pub fn put_number<D: Desk>(number: u128, pen: &mut Pen, desk: &mut D) -> Result<(), OutFault>
+    requires { OnCert pen.old.to (IsTrue (D.ready desk.old)) }
+    ensures { Puts D.files D.rest D.written D.printed D.target D.ready D.counts D.openings
+        (decimal number) result pen.old pen.new desk.old desk.new }
+{
+    let mut digits = Buffer::new();
+    pen.put(desk, digits.format(number).as_bytes())
 }

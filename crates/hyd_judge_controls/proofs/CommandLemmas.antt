@@ -10,9 +10,9 @@ use Rattle.hyd_spec_input.specs.Columns.{or_else}
 use Rattle.hyd_spec_input.specs.Tables.{is_of, link_named}
 use Rattle.hyd_spec_input.specs.RowsTogether as others
 use Rattle.hyd_spec_input.specs.declared.LinkWord.{LinkWord}
-use Rattle.hyd_text_rows.specs.FirstWrongRow.{IsVerdict}
-use Rattle.hyd_text_rows.specs.WrongInSection.{IsWrongIn, IsCapacityFault, IsFaultThen}
-use Rattle.hyd_text_rows.proofs.SectionLemmas.{other_section}
+use Rattle.hyd_rows_and_tables.specs.FirstWrongRow.{IsVerdict}
+use Rattle.hyd_rows_and_tables.specs.WrongInSection.{IsWrongIn, IsCapacityFault, IsFaultThen}
+use Rattle.hyd_rows_and_tables.proofs.SectionLemmas.{other_section}
 
 -- ---- faults in turn
 

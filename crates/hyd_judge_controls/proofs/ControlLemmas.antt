@@ -16,10 +16,10 @@ use Rattle.hyd_spec_input.specs.Tables.{is_of, rows_of, words_of, link_named}
 use Rattle.hyd_spec_input.specs.RowsTogether as others
 use Rattle.hyd_spec_input.specs.declared.LinkWord.{LinkWord}
 use Rattle.hyd_theorems_on_input.proofs.Faultless.{section_is, none_from}
-use Rattle.hyd_text_rows.specs.FirstWrongRow.{IsVerdict, kept}
-use Rattle.hyd_text_rows.specs.WrongInSection.{IsWrongIn, IsFaultThen}
-use Rattle.hyd_text_rows.proofs.FoundLemmas.{filter_more, filter_same, found_skip, found_kept}
-use Rattle.hyd_text_rows.proofs.SectionLemmas.{verdict_with_capacity, other_section}
+use Rattle.hyd_rows_and_tables.specs.FirstWrongRow.{IsVerdict, kept}
+use Rattle.hyd_rows_and_tables.specs.WrongInSection.{IsWrongIn, IsFaultThen}
+use Rattle.hyd_rows_and_tables.proofs.FoundLemmas.{filter_more, filter_same, found_skip, found_kept}
+use Rattle.hyd_rows_and_tables.proofs.SectionLemmas.{verdict_with_capacity, other_section}
 use Rattle.hyd_judge_controls.specs.Controls.{AreControls, IsControlFault, commanded_fault}
 use Rattle.hyd_judge_controls.specs.declared.controls.Controls.{Controls}
 

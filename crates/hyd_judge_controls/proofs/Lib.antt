@@ -2,5 +2,5 @@ pub mod CommandLemmas
 pub mod ControlLemmas
 pub mod PartLemmas
 pub mod RuleLemmas
-pub mod RuleCounting
+pub mod CountedRulesAndParts
 pub mod StatusLemmas

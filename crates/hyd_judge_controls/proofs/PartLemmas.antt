@@ -17,7 +17,7 @@ use Rattle.hyd_spec_input.specs.declared.Attribute.TheVariants.{Head, Pressure, 
 use Rattle.hyd_spec_input.specs.declared.Attribute.TheVariants.{Clock}
 use Rattle.hyd_spec_input.specs.declared.LinkWord.{LinkWord}
 use Rattle.hyd_theorems_on_input.proofs.Faultless.{all_none, needed_none, unless_none}
-use Rattle.hyd_text_rows.specs.WrongInSection.{IsFaultThen}
+use Rattle.hyd_rows_and_tables.specs.WrongInSection.{IsFaultThen}
 use Rattle.hyd_judge_controls.proofs.CommandLemmas.{command_unknown, command_known}
 
 -- ---- the state of an action

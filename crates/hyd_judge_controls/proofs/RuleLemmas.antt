@@ -20,13 +20,13 @@ use Rattle.hyd_spec_input.specs.RowsTogether.{is_part_word, is_action_word, hold
 use Rattle.hyd_spec_input.specs.declared.RuleWord.{RuleWord}
 use Rattle.hyd_spec_input.specs.declared.RuleWord.TheVariants.{Rule, If, And, Or, Then, Else, Priority}
 use Rattle.hyd_theorems_on_input.proofs.Faultless.{or_none, section_is, none_from, or_last}
-use Rattle.hyd_text_rows.specs.FirstWrongRow.{IsVerdict, kept}
-use Rattle.hyd_text_rows.specs.WrongInSection.{IsWrongIn, IsFaultThen}
-use Rattle.hyd_text_rows.proofs.SectionLemmas.{verdict_with_capacity, other_section}
-use Rattle.hyd_text_rows.proofs.FoundLemmas.{filter_same, found_skip, found_kept}
+use Rattle.hyd_rows_and_tables.specs.FirstWrongRow.{IsVerdict, kept}
+use Rattle.hyd_rows_and_tables.specs.WrongInSection.{IsWrongIn, IsFaultThen}
+use Rattle.hyd_rows_and_tables.proofs.SectionLemmas.{verdict_with_capacity, other_section}
+use Rattle.hyd_rows_and_tables.proofs.FoundLemmas.{filter_same, found_skip, found_kept}
 use Rattle.hyd_judge_single_rows.specs.RuleLineStages.{stage_with}
 use Rattle.hyd_judge_single_rows.proofs.StageLemmas.{next_stage}
-use Rattle.hyd_judge_controls.proofs.RuleCounting.{counted_elsewhere}
+use Rattle.hyd_judge_controls.proofs.CountedRulesAndParts.{counted_elsewhere}
 use Rattle.hyd_judge_controls.specs.Rules.{AreCounted, AreRules, IsRuleFault, acting_at}
 use Rattle.hyd_judge_controls.specs.declared.rules.Rules.{Rules}
 

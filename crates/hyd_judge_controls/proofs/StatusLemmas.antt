@@ -14,9 +14,9 @@ use Rattle.hyd_spec_input.specs.Tables.{is_of, link_named, words_of}
 use Rattle.hyd_spec_input.specs.RowsTogether as others
 use Rattle.hyd_spec_input.specs.declared.LinkWord.TheVariants.{Link}
 use Rattle.hyd_theorems_on_input.proofs.Faultless.{section_is, none_from, or_last}
-use Rattle.hyd_text_rows.specs.FirstWrongRow.{IsVerdict}
-use Rattle.hyd_text_rows.specs.WrongInSection.{IsWrongIn, IsFaultThen}
-use Rattle.hyd_text_rows.proofs.SectionLemmas.{verdict_with_capacity}
+use Rattle.hyd_rows_and_tables.specs.FirstWrongRow.{IsVerdict}
+use Rattle.hyd_rows_and_tables.specs.WrongInSection.{IsWrongIn, IsFaultThen}
+use Rattle.hyd_rows_and_tables.proofs.SectionLemmas.{verdict_with_capacity}
 
 pub status_is_right : (rows : List Row) (k : ℕ) (row : Row) → NoneIs (IsWrongByItself rows)
     → slice_get rows k ≡ Some row → is_of Status row ≡ true → row_form.status row.words ≡ None

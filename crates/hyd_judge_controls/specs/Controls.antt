@@ -3,6 +3,7 @@ use Rattle.std.specs.Prelude.{◌≡◌, ℕ, ◌≤◌, true, false, List, [], 
 use Rattle.hyd_spec_lines.specs.Lines.{Row, row_of}
 use Rattle.hyd_spec_lines.specs.declared.line.Line.{Line}
 use Rattle.hyd_spec_lines.specs.declared.section.Section.TheVariants.{Controls as InControls}
+use Rattle.hyd_net.specs.CountLimits.{most_controls}
 use Rattle.hyd_net.specs.declared.refusal_cause.Cause.{Cause}
 use Rattle.hyd_spec_input.specs.CapacitiesOutOfRange.{IsRefusedSetting}
 use Rattle.hyd_spec_input.specs.Columns.{word, first}
@@ -10,8 +11,8 @@ use Rattle.hyd_spec_input.specs.Keywords.{link_word}
 use Rattle.hyd_spec_input.specs.Tables.{rows_of, link_named, node_named}
 use Rattle.hyd_spec_input.specs.RowsTogether.{passes, link_by_word, is_at_level, control_node, control_tank}
 use Rattle.hyd_spec_input.specs.RowsTogether.{control_level, set_link}
-use Rattle.hyd_text_rows.specs.FirstWrongRow.{HasFound}
-use Rattle.hyd_text_rows.specs.WrongInSection.{IsWrongIn, IsFaultThen}
+use Rattle.hyd_rows_and_tables.specs.FirstWrongRow.{HasFound}
+use Rattle.hyd_rows_and_tables.specs.WrongInSection.{IsWrongIn, IsFaultThen}
 use Rattle.hyd_judge_controls.specs.declared.controls.Controls.{Controls}
 
 -- the node at whose level a control acts, where it acts at one
@@ -28,7 +29,7 @@ commanded_fault rows link row =
 -- what a control is asked, by its count
 abbrev pub control_fault : List Row → ℕ → Row → Option Cause
 control_fault rows count row =
-    first (passes 10000 11 count ∷ link_by_word rows (link_word (word 0 row.words)) (word 1 row.words)
+    first (passes most_controls 11 count ∷ link_by_word rows (link_word (word 0 row.words)) (word 1 row.words)
     ∷ control_node rows row
     ∷ set_link rows (link_named rows (word 1 row.words)) (word 2 row.words) (control_tank rows row)
     ∷ control_level rows row ∷ [])

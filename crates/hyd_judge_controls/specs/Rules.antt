@@ -12,8 +12,8 @@ use Rattle.hyd_spec_input.specs.RuleRows.{begins_with, is_rule, is_acting, stage
 use Rattle.hyd_spec_input.specs.Tables.{is_of, words_of, link_named}
 use Rattle.hyd_spec_input.specs.RowsTogether.{is_part_word, is_action_word, holds_action, has_rule, rules_in, parts_in}
 use Rattle.hyd_spec_input.specs.RowsTogether.{rule_line}
-use Rattle.hyd_text_rows.specs.FirstWrongRow.{HasFound}
-use Rattle.hyd_text_rows.specs.WrongInSection.{IsWrongIn, IsFaultThen}
+use Rattle.hyd_rows_and_tables.specs.FirstWrongRow.{HasFound}
+use Rattle.hyd_rows_and_tables.specs.WrongInSection.{IsWrongIn, IsFaultThen}
 use Rattle.hyd_judge_controls.specs.declared.rule_parts.Part.{Part}
 use Rattle.hyd_judge_controls.specs.declared.rule_parts.Part.TheVariants.{Name, Clause, Action, Priority}
 use Rattle.hyd_judge_controls.specs.declared.rules.RuleCounts.{RuleCounts}

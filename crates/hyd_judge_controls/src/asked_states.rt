@@ -8,7 +8,7 @@ ghost use Rattle.hyd_spec_input.specs.CapacitiesOutOfRange.{IsRefusedSetting};
 ghost use Rattle.hyd_spec_input.specs.InForce as force;
 ghost use Rattle.hyd_spec_input.specs.RowsTogether as others;
 ghost use Rattle.hyd_asked_link_states.specs.AskedLinks.{IsRightLink, IsAllowed};
-ghost use Rattle.hyd_text_rows.specs.WrongInSection.{IsCapacityFault, IsFaultThen};
+ghost use Rattle.hyd_rows_and_tables.specs.WrongInSection.{IsCapacityFault, IsFaultThen};
 
 use hyd_asked_link_states::{is_refused, state_fault};
 use hyd_lex::{Line, Lines};

@@ -15,9 +15,9 @@ ghost use Rattle.hyd_spec_input.specs.InForce as force;
 ghost use Rattle.hyd_spec_input.specs.Tables.{is_of, link_rows, node_rows};
 ghost use Rattle.hyd_spec_input.specs.RowsTogether as others;
 ghost use Rattle.hyd_asked_link_states.specs.AskedLinks.{IsRightLink};
-ghost use Rattle.hyd_text_rows.specs.FirstWrongRow.{HasFound, rows_at};
-ghost use Rattle.hyd_text_rows.specs.WrongInSection.{IsWrongIn, IsFaultThen};
-ghost use Rattle.hyd_text_rows.specs.IdTables.{IsTable, IsEven};
+ghost use Rattle.hyd_rows_and_tables.specs.FirstWrongRow.{HasFound, rows_at};
+ghost use Rattle.hyd_rows_and_tables.specs.WrongInSection.{IsWrongIn, IsFaultThen};
+ghost use Rattle.hyd_rows_and_tables.specs.IdTables.{IsTable, IsEven};
 ghost use Rattle.hyd_judge_controls.specs.Controls.{AreControls, IsControlNode, IsControlFault};
 ghost use Rattle.hyd_judge_controls.specs.Controls.{commanded_fault as fault_of_commanded};
 
@@ -29,7 +29,7 @@ use hyd_net::Cause;
 use hyd_num::FlowUnit;
 use hyd_option_and_rule_lines::{ControlLine, WhenLine, read_control};
 use hyd_row_words::or_empty;
-use hyd_text_rows::{Found, Table, head_fault, is_controls, kept, limit};
+use hyd_rows_and_tables::{Found, Table, head_fault, is_controls, kept, limit};
 
 const MOST_CONTROLS: usize = 10_000;
 

@@ -9,13 +9,13 @@ ghost use Rattle.hyd_spec_input.specs.Faults.{NoneIs};
 ghost use Rattle.hyd_spec_input.specs.Tables as table;
 ghost use Rattle.hyd_spec_input.specs.Tables.{place as section_place, link_rows, node_rows};
 ghost use Rattle.hyd_spec_input.specs.RowsTogether as others;
-ghost use Rattle.hyd_text_rows.specs.IdTables.{IsTable, IsEven};
+ghost use Rattle.hyd_rows_and_tables.specs.IdTables.{IsTable, IsEven};
 ghost use Rattle.hyd_judge_controls.specs.Names.{IsNamedLink, IsNamedNode};
 
 use hyd_lex::{Line, Lines, Section};
 use hyd_net::Cause;
+use hyd_rows_and_tables::Table;
 use hyd_spec_input::{LinkWord, NodeWord};
-use hyd_text_rows::Table;
 
 // Whether the word before a link's ID allows a row of a section.
 fn allows_link(kind: LinkWord, section: Section) -> bool

@@ -16,9 +16,9 @@ ghost use Rattle.hyd_spec_input.specs.declared.ObjectWord.TheVariants as object;
 ghost use Rattle.hyd_spec_input.specs.RuleRows as form;
 ghost use Rattle.hyd_spec_input.specs.Tables.{link_rows, node_rows, link_named};
 ghost use Rattle.hyd_spec_input.specs.RowsTogether as others;
-ghost use Rattle.hyd_text_rows.specs.FirstWrongRow.{rows_at};
-ghost use Rattle.hyd_text_rows.specs.WrongInSection.{IsFaultThen};
-ghost use Rattle.hyd_text_rows.specs.IdTables.{IsTable, IsEven};
+ghost use Rattle.hyd_rows_and_tables.specs.FirstWrongRow.{rows_at};
+ghost use Rattle.hyd_rows_and_tables.specs.WrongInSection.{IsFaultThen};
+ghost use Rattle.hyd_rows_and_tables.specs.IdTables.{IsTable, IsEven};
 ghost use Rattle.hyd_judge_controls.specs.Rules.{IsPart};
 
 use crate::asked_states::asked_fault;
@@ -31,7 +31,7 @@ use hyd_option_and_rule_lines::{
     read_rule_line,
 };
 use hyd_row_words::or_empty;
-use hyd_text_rows::Table;
+use hyd_rows_and_tables::Table;
 
 /// What a line of a rule is.
 #[derive(Debug, Clone, Copy, PartialEq, Eq, Drop)]

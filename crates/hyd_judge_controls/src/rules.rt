@@ -5,6 +5,7 @@ ghost use Rattle.std.specs.Prelude.{◌≡◌, ◌<◌, ◌+◌, ◌^◌, ◌∷
 ghost use Rattle.std.specs.List.{All};
 ghost use Rattle.hyd_spec_lines.specs.Lines.{LiesIn, Row};
 ghost use Rattle.hyd_spec_lines.specs.declared.section.Section.TheVariants.{Rules as InRules};
+ghost use Rattle.hyd_net.specs.CountLimits.{most_rules};
 ghost use Rattle.hyd_net.specs.declared.refusal_cause.Cause.TheVariants as cause;
 ghost use Rattle.hyd_spec_input.specs.SingleRows.{IsWrongByItself};
 ghost use Rattle.hyd_spec_input.specs.Columns.{or_else, unless, word};
@@ -12,9 +13,9 @@ ghost use Rattle.hyd_spec_input.specs.Faults.{NoneIs};
 ghost use Rattle.hyd_spec_input.specs.InForce as force;
 ghost use Rattle.hyd_spec_input.specs.Tables.{link_rows, node_rows};
 ghost use Rattle.hyd_spec_input.specs.RowsTogether as others;
-ghost use Rattle.hyd_text_rows.specs.FirstWrongRow.{HasFound, rows_at};
-ghost use Rattle.hyd_text_rows.specs.WrongInSection.{IsWrongIn};
-ghost use Rattle.hyd_text_rows.specs.IdTables.{IsTable};
+ghost use Rattle.hyd_rows_and_tables.specs.FirstWrongRow.{HasFound, rows_at};
+ghost use Rattle.hyd_rows_and_tables.specs.WrongInSection.{IsWrongIn};
+ghost use Rattle.hyd_rows_and_tables.specs.IdTables.{IsTable};
 ghost use Rattle.hyd_judge_controls.specs.declared.rule_parts.Part.TheVariants as part_form;
 ghost use Rattle.hyd_judge_controls.specs.Rules.{AreCounted, AreRules, IsPartAt, IsRuleFault};
 
@@ -24,8 +25,8 @@ use hyd_lex::{Line, Lines};
 use hyd_net::{Cause, Names, OutOfMemory};
 use hyd_num::FlowUnit;
 use hyd_row_words::or_empty;
+use hyd_rows_and_tables::{Found, Table, kept, limit};
 use hyd_spec_input::Stage;
-use hyd_text_rows::{Found, Table, kept, limit};
 use std::alloc::Global;
 
 const MOST_RULES: usize = 10_000;
@@ -100,7 +101,7 @@ fn first_of(fault: Option<Cause>, next: Option<Cause>) -> Option<Cause>
 
 // Limit 12 where there are too many rules, DuplicateId where an earlier rule has the ID.
 fn rule_fault(count: usize, new: bool) -> Option<Cause>
-    ensures { result ≡ or_else (others.passes 10000 12 count) (unless new cause.DuplicateId) }
+    ensures { result ≡ or_else (others.passes most_rules 12 count) (unless new cause.DuplicateId) }
 {
     if let Some(cause) = limit(MOST_RULES, 12, count) {
         return Some(cause);

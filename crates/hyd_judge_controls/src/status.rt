@@ -9,9 +9,9 @@ ghost use Rattle.hyd_spec_input.specs.SingleRows.{IsWrongByItself};
 ghost use Rattle.hyd_spec_input.specs.Faults.{NoneIs};
 ghost use Rattle.hyd_spec_input.specs.InForce as force;
 ghost use Rattle.hyd_spec_input.specs.Tables.{link_rows};
-ghost use Rattle.hyd_text_rows.specs.FirstWrongRow.{HasFound, IsVerdict, rows_at};
-ghost use Rattle.hyd_text_rows.specs.WrongInSection.{IsWrongIn};
-ghost use Rattle.hyd_text_rows.specs.IdTables.{IsTable};
+ghost use Rattle.hyd_rows_and_tables.specs.FirstWrongRow.{HasFound, IsVerdict, rows_at};
+ghost use Rattle.hyd_rows_and_tables.specs.WrongInSection.{IsWrongIn};
+ghost use Rattle.hyd_rows_and_tables.specs.IdTables.{IsTable};
 
 use crate::asked_states::asked_fault;
 use crate::names::named_link;
@@ -19,8 +19,8 @@ use hyd_lex::{Line, Lines};
 use hyd_net::Cause;
 use hyd_network_rows::read_status;
 use hyd_num::FlowUnit;
+use hyd_rows_and_tables::{Found, Table, is_status, kept};
 use hyd_spec_input::LinkWord;
-use hyd_text_rows::{Found, Table, is_status, kept};
 
 // What is wrong with the row of a place, where it is one of [STATUS].
 fn status_fault(

@@ -1,4 +1,4 @@
--- CurveVerdicts on valves with a capacity.
+-- Verdicts on valves with a capacity.
 use Rattle.std.proofs.Common.{◌≡◌, ℕ, Bool, true, false, List, Option, None, refl, sym, inl, inr, ◌⊎◌, true≢false}
 use Rattle.hyd_num.specs.declared.flow_units.FlowUnit.{FlowUnit}
 use Rattle.hyd_spec_lines.specs.Lines.{Row}
@@ -6,9 +6,9 @@ use Rattle.hyd_net.specs.declared.refusal_cause.Cause.{Cause}
 use Rattle.hyd_spec_input.specs.CapacitiesOutOfRange.{IsRefusedValve}
 use Rattle.hyd_spec_input.specs.Columns.{amount}
 use Rattle.hyd_spec_input.specs.NetworkRows.{is_throttle, is_general, valve_minor}
-use Rattle.hyd_text_rows.proofs.SectionLemmas.{fault_then_alike}
-use Rattle.hyd_text_rows.specs.QuantityRanges.{flow_fault}
-use Rattle.hyd_text_rows.specs.WrongInSection.{IsCapacityFault, IsFaultThen}
+use Rattle.hyd_rows_and_tables.proofs.SectionLemmas.{fault_then_alike}
+use Rattle.hyd_rows_and_tables.specs.QuantityRanges.{flow_fault}
+use Rattle.hyd_rows_and_tables.specs.WrongInSection.{IsCapacityFault, IsFaultThen}
 use Rattle.hyd_judge_links.specs.LinkFaults.{setting_fault, IsRefusedValveOf}
 use Rattle.hyd_theorems_on_input.proofs.Faultless.{or_last}
 

@@ -4,12 +4,13 @@ use Rattle.hyd_spec_lines.specs.Lines.{Row}
 use Rattle.hyd_spec_lines.specs.declared.section.Section.{Section}
 use Rattle.hyd_spec_lines.specs.declared.section.Section.TheVariants.{Pipes, Pumps, Valves, Curves}
 use Rattle.hyd_num.specs.FileQuantity.{is_us_unit}
+use Rattle.hyd_net.specs.CountLimits.{most_links}
 use Rattle.hyd_net.specs.declared.refusal_cause.Cause.{Cause}
 use Rattle.hyd_net.specs.declared.refusal_cause.Cause.TheVariants.{DuplicateId}
 use Rattle.hyd_num.specs.declared.flow_units.FlowUnit.{FlowUnit}
-use Rattle.hyd_text_rows.specs.QuantityRanges.{flow_fault}
-use Rattle.hyd_text_rows.specs.IdTables.{IsEven, IsTable}
-use Rattle.hyd_curves.specs.Judged.{AreVerdicts}
+use Rattle.hyd_rows_and_tables.specs.QuantityRanges.{flow_fault}
+use Rattle.hyd_rows_and_tables.specs.IdTables.{IsEven, IsTable}
+use Rattle.hyd_curves.specs.VerdictsOnCurves.{AreVerdicts}
 use Rattle.hyd_judge_nodes_curves_and_options.specs.Patterns.{ArePatterns}
 use Rattle.hyd_judge_links.specs.declared.judged_against.LinkTables.{LinkTables}
 use Rattle.hyd_spec_input.specs.CapacitiesOutOfRange.{IsRefusedPipe, IsRefusedValve, IsRefusedCurve}
@@ -27,7 +28,7 @@ use Rattle.hyd_spec_input.specs.RowsTogether.{each_multiplier, is_speed, curve_o
 -- what a link is asked, by its count, whether its ID is new, and its nodes
 abbrev pub ends_fault : List Row → ℕ → Bool → List ℕ → List ℕ → Option Cause
 ends_fault rows count new from to =
-    first (passes 20000 7 count ∷ unless new DuplicateId ∷ known_node rows from ∷ known_node rows to ∷ [])
+    first (passes most_links 7 count ∷ unless new DuplicateId ∷ known_node rows from ∷ known_node rows to ∷ [])
 
 abbrev pub link_fault : List Row → ℕ → Bool → List (List ℕ) → Option Cause
 link_fault rows count new words = ends_fault rows count new (word 1 words) (word 2 words)

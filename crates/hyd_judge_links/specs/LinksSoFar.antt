@@ -4,8 +4,8 @@ use Rattle.hyd_spec_lines.specs.Lines.{Row}
 use Rattle.hyd_spec_input.specs.Faults.{IsWrongWithOthers}
 use Rattle.hyd_spec_input.specs.Tables.{is_link, link_rows}
 use Rattle.hyd_net.specs.declared.refusal_cause.Cause.{Cause}
-use Rattle.hyd_text_rows.specs.FirstWrongRow.{HasFound, IsWrongAmong}
-use Rattle.hyd_text_rows.specs.IdTables.{IsTable}
+use Rattle.hyd_rows_and_tables.specs.FirstWrongRow.{HasFound, IsWrongAmong}
+use Rattle.hyd_rows_and_tables.specs.IdTables.{IsTable}
 use Rattle.hyd_judge_links.specs.declared.links.Links.{Links}
 
 -- a row of links is wrong with the others

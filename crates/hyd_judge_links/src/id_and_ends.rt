@@ -4,13 +4,13 @@
 ghost use Rattle.std.specs.Prelude.{◌≡◌, List};
 ghost use Rattle.hyd_spec_lines.specs.Lines.{Row};
 ghost use Rattle.hyd_spec_input.specs.Tables.{node_rows};
-ghost use Rattle.hyd_text_rows.specs.IdTables.{IsTable, IsEven};
+ghost use Rattle.hyd_rows_and_tables.specs.IdTables.{IsTable, IsEven};
 ghost use Rattle.hyd_judge_links.specs.LinkFaults as links;
 
 use hyd_lex::Lines;
 use hyd_net::Cause;
 use hyd_network_rows::LinkEnds;
-use hyd_text_rows::{Table, limit, unknown_node};
+use hyd_rows_and_tables::{Table, limit, unknown_node};
 
 const MOST_LINKS: usize = 20_000;
 

@@ -4,7 +4,7 @@
 use hyd_curves::CurveVerdicts;
 use hyd_judge_nodes_curves_and_options::Patterns;
 use hyd_num::FlowUnit;
-use hyd_text_rows::Table;
+use hyd_rows_and_tables::Table;
 
 /// What rows of links name, and the unit of flows in force.
 #[derive(Clone, Copy, Drop)]

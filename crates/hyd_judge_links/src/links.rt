@@ -8,9 +8,9 @@ ghost use Rattle.hyd_row_words.specs.FaultOrValue.{words_at};
 ghost use Rattle.hyd_spec_input.specs.SingleRows.{IsWrongByItself};
 ghost use Rattle.hyd_spec_input.specs.Faults.{NoneIs};
 ghost use Rattle.hyd_spec_input.specs.Tables.{place as section_place, link_rows};
-ghost use Rattle.hyd_text_rows.specs.FirstWrongRow.{HasFound, rows_at};
-ghost use Rattle.hyd_text_rows.specs.WrongInSection.{IsFaultThen};
-ghost use Rattle.hyd_text_rows.specs.IdTables.{IsTable};
+ghost use Rattle.hyd_rows_and_tables.specs.FirstWrongRow.{HasFound, rows_at};
+ghost use Rattle.hyd_rows_and_tables.specs.WrongInSection.{IsFaultThen};
+ghost use Rattle.hyd_rows_and_tables.specs.IdTables.{IsTable};
 ghost use Rattle.hyd_judge_links.specs.LinksSoFar.{AreLinks, IsWrongLink};
 ghost use Rattle.hyd_judge_links.specs.LinkFaults as among;
 ghost use Rattle.hyd_judge_links.specs.LinkFaults.{AreEven, AreTables, IsRefusedLink};
@@ -21,7 +21,7 @@ use crate::pumps::pump_fault;
 use crate::valves::valve_fault;
 use hyd_lex::{Line, Lines, Section};
 use hyd_net::{Cause, OutOfMemory};
-use hyd_text_rows::{Found, Table, kept};
+use hyd_rows_and_tables::{Found, Table, kept};
 use std::alloc::Global;
 
 /// The links of a file, and the first of their rows that is wrong with the others.

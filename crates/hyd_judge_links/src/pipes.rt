@@ -9,8 +9,8 @@ ghost use Rattle.hyd_capacities.specs.Ranges.{IsLength, IsDiameter, IsRoughness,
 ghost use Rattle.hyd_spec_input.specs.CapacitiesOutOfRange.{IsRefusedPipe};
 ghost use Rattle.hyd_spec_input.specs.NetworkRows as row;
 ghost use Rattle.hyd_spec_input.specs.Tables.{node_rows};
-ghost use Rattle.hyd_text_rows.specs.WrongInSection.{IsCapacityFault, IsFaultThen};
-ghost use Rattle.hyd_text_rows.specs.IdTables.{IsTable, IsEven};
+ghost use Rattle.hyd_rows_and_tables.specs.WrongInSection.{IsCapacityFault, IsFaultThen};
+ghost use Rattle.hyd_rows_and_tables.specs.IdTables.{IsTable, IsEven};
 ghost use Rattle.hyd_judge_links.specs.LinkFaults as links;
 ghost use Rattle.hyd_judge_links.specs.LinkFaults.{IsRefusedPipeOf};
 
@@ -20,7 +20,7 @@ use hyd_lex::{Line, Lines};
 use hyd_net::Cause;
 use hyd_network_rows::{PipeRow, read_pipe};
 use hyd_num::FlowUnit;
-use hyd_text_rows::Table;
+use hyd_rows_and_tables::Table;
 
 // Limit 13 where the capacity of a pipe is out of range.
 fn capacity_fault(pipe: &PipeRow<'_>, us: bool) -> Option<Cause>

@@ -11,9 +11,9 @@ ghost use Rattle.hyd_spec_input.specs.Columns.{first};
 ghost use Rattle.hyd_spec_input.specs.NetworkRows as row;
 ghost use Rattle.hyd_spec_input.specs.Tables.{node_rows, rows_of};
 ghost use Rattle.hyd_spec_input.specs.RowsTogether as others;
-ghost use Rattle.hyd_text_rows.specs.WrongInSection.{IsFaultThen};
-ghost use Rattle.hyd_text_rows.specs.IdTables.{IsTable};
-ghost use Rattle.hyd_curves.specs.Judged.{AreVerdicts};
+ghost use Rattle.hyd_rows_and_tables.specs.WrongInSection.{IsFaultThen};
+ghost use Rattle.hyd_rows_and_tables.specs.IdTables.{IsTable};
+ghost use Rattle.hyd_curves.specs.VerdictsOnCurves.{AreVerdicts};
 ghost use Rattle.hyd_judge_nodes_curves_and_options.specs.Patterns.{ArePatterns};
 ghost use Rattle.hyd_judge_links.specs.LinkFaults as links;
 ghost use Rattle.hyd_judge_links.specs.LinkFaults.{AreEven};
@@ -26,7 +26,7 @@ use hyd_net::Cause;
 use hyd_net::ranges::GREATEST_SPEED;
 use hyd_network_rows::{PumpRow, read_pump};
 use hyd_num::Decimal;
-use hyd_text_rows::{unknown_curve, unknown_pattern};
+use hyd_rows_and_tables::{unknown_curve, unknown_pattern};
 
 // A speed from 0 to 10.
 fn is_speed(number: Decimal) -> bool

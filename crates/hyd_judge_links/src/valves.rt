@@ -14,10 +14,10 @@ ghost use Rattle.hyd_spec_input.specs.NetworkRows as row;
 ghost use Rattle.hyd_spec_input.specs.Tables.{node_rows, rows_of};
 ghost use Rattle.hyd_spec_input.specs.RowsTogether as others;
 ghost use Rattle.hyd_asked_link_states.specs.AskedLinks.{IsThrottleCoefficient};
-ghost use Rattle.hyd_text_rows.specs.QuantityRanges as range;
-ghost use Rattle.hyd_text_rows.specs.WrongInSection.{IsCapacityFault, IsFaultThen};
-ghost use Rattle.hyd_text_rows.specs.IdTables.{IsTable, IsEven};
-ghost use Rattle.hyd_curves.specs.Judged.{AreVerdicts};
+ghost use Rattle.hyd_rows_and_tables.specs.QuantityRanges as range;
+ghost use Rattle.hyd_rows_and_tables.specs.WrongInSection.{IsCapacityFault, IsFaultThen};
+ghost use Rattle.hyd_rows_and_tables.specs.IdTables.{IsTable, IsEven};
+ghost use Rattle.hyd_curves.specs.VerdictsOnCurves.{AreVerdicts};
 ghost use Rattle.hyd_judge_links.specs.LinkFaults as links;
 ghost use Rattle.hyd_judge_links.specs.LinkFaults.{AreEven, IsRefusedValveOf};
 
@@ -29,7 +29,7 @@ use hyd_lex::{Line, Lines};
 use hyd_net::Cause;
 use hyd_network_rows::{ValveRow, ValveSetting, read_valve};
 use hyd_num::{Decimal, FlowUnit};
-use hyd_text_rows::{Table, flow_fault, unknown_curve};
+use hyd_rows_and_tables::{Table, flow_fault, unknown_curve};
 
 // What is wrong with a throttle control valve: Limit 13 where its capacity, fully open or at its setting, is out of
 // range.

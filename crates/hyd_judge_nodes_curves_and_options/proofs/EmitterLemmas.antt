@@ -16,11 +16,11 @@ use Rattle.hyd_spec_input.specs.Tables.{place, is_of}
 use Rattle.hyd_spec_input.specs.RowsTogether as others
 use Rattle.hyd_spec_input.specs.RowsTogether.{known_junction}
 use Rattle.hyd_net.specs.declared.refusal_cause.Cause.{Cause}
-use Rattle.hyd_text_rows.specs.FirstWrongRow.{HasFound, IsVerdict, kept}
-use Rattle.hyd_text_rows.specs.WrongInSection.{IsWrongIn, IsFaultThen}
-use Rattle.hyd_text_rows.specs.declared.first_wrong.Found.{Found}
-use Rattle.hyd_text_rows.proofs.FoundLemmas.{found_skip, found_kept}
-use Rattle.hyd_text_rows.proofs.SectionLemmas.{verdict_with_capacity, fault_then_alike, other_section}
+use Rattle.hyd_rows_and_tables.specs.FirstWrongRow.{HasFound, IsVerdict, kept}
+use Rattle.hyd_rows_and_tables.specs.WrongInSection.{IsWrongIn, IsFaultThen}
+use Rattle.hyd_rows_and_tables.specs.declared.first_wrong.Found.{Found}
+use Rattle.hyd_rows_and_tables.proofs.FoundLemmas.{found_skip, found_kept}
+use Rattle.hyd_rows_and_tables.proofs.SectionLemmas.{verdict_with_capacity, fault_then_alike, other_section}
 use Rattle.hyd_theorems_on_input.proofs.Faultless.{none_from}
 
 by_itself : (section : Section) (earlier : List (List (List ℕ))) (words : List (List ℕ)) (later : List (List (List ℕ)))

@@ -1,8 +1,8 @@
 -- The extremes of multipliers, one row further.
 use Rattle.std.proofs.Common.{◌≡◌, ◌+◌, ◌*◌, ◌^◌, ◌<◌, ◌≤◌, ◌++◌, ◌⊎◌, ℕ, Bool, true, false, ◌&&◌, List, [], ◌∷◌}
 use Rattle.std.proofs.Common.{length, take, drop, position, Option, Some, None, slice_get, refl, sym, ap, ◌∙◌, subst}
-use Rattle.std.proofs.Common.{arith, ◌==◌, true≢false, get_or, inl, inr, append-nil, append_assoc, length-append}
-use Rattle.std.proofs.Common.{nat_lt, ltb-true, ltb-false}
+use Rattle.std.proofs.Common.{arith, ◌==◌, true≢false, get_or, inl, inr, append-nil, append_assoc, nat_lt, ltb-true}
+use Rattle.std.proofs.Common.{ltb-false}
 use Rattle.std.specs.Prelude.{slice_set, ℤ, pos, neg_ℤ, ◌≤ℤ◌, ◌*ℤ◌, unsigned_abs, flat_map}
 use Rattle.std.specs.List.{All, list_all}
 use Rattle.std.specs.Str.{bytes_eq}
@@ -33,15 +33,15 @@ use Rattle.hyd_spec_input.specs.MeaningsAcrossRows.{number_in}
 use Rattle.hyd_spec_input.specs.Tables.{place, is_of, rows_of, rows_with, own_id, pattern_named, row_multipliers}
 use Rattle.hyd_spec_input.specs.Tables.{row_with, has_id}
 use Rattle.hyd_spec_input.specs.RowsTogether.{multipliers_of}
-use Rattle.hyd_lemmas.proofs.Trials.{and-true, lt_z-no}
+use Rattle.hyd_lemmas.proofs.BooleanTests.{and-true, lt_z-no}
 use Rattle.hyd_theorems_on_input.proofs.Faultless.{all_none, none_from}
-use Rattle.hyd_text_rows.specs.IdTables.{AreFirsts}
-use Rattle.hyd_text_rows.proofs.FoundLemmas.{filter_more, filter_same, one_name, has_more, not_named}
-use Rattle.hyd_text_rows.proofs.SectionLemmas.{all_rows}
-use Rattle.hyd_text_rows.specs.FirstWrongRow.{rows_at}
-use Rattle.hyd_text_rows.proofs.TableLemmas.{not_found, has_id-is, even}
+use Rattle.hyd_rows_and_tables.specs.IdTables.{AreFirsts, AreNone}
+use Rattle.hyd_rows_and_tables.proofs.FoundLemmas.{filter_more, filter_same, one_name, has_more, not_named}
+use Rattle.hyd_rows_and_tables.proofs.SectionLemmas.{all_rows}
+use Rattle.hyd_rows_and_tables.specs.FirstWrongRow.{rows_at}
+use Rattle.hyd_rows_and_tables.proofs.TableLemmas.{not_found, has_id-is, even}
 use Rattle.hyd_judge_nodes_curves_and_options.specs.Extremes.{Bounds, bounds, Enclose, AreExtremes, pass, is_between}
-use Rattle.hyd_judge_nodes_curves_and_options.specs.Extremes.{widened, all_widened, bounds_of, AreNone, AreWidened}
+use Rattle.hyd_judge_nodes_curves_and_options.specs.Extremes.{widened, all_widened, bounds_of, AreWidened}
 use Rattle.hyd_judge_nodes_curves_and_options.specs.Patterns.{ArePatterns}
 use Rattle.hyd_judge_nodes_curves_and_options.specs.declared.pattern_extremes.Extremes.{Extremes}
 use Rattle.hyd_judge_nodes_curves_and_options.specs.declared.patterns.Patterns.{Patterns}
@@ -272,12 +272,6 @@ skip_row rows k row names each before is other =
     }
 
 -- before the first row
-pub none_more : (each : List (Option Extremes)) (k : ℕ) → AreNone each k → AreNone (each ++ None ∷ []) (k + 1)
-none_more each k before = record {
-  count_is = length-append each (None ∷ []) ∙ ap (λ n. n + 1) before.count_is;
-  none = All-push (λ (e : Option Extremes). e ≡ None) each None before.none refl;
-}
-
 none_at : (each : List (Option Extremes)) (k : ℕ) → All (λ (e : Option Extremes). e ≡ None) each
     → bounds (get_or each k None) ≡ None
 none_at each k none = elim (cases_Bool (nat_lt k (length each))) [

@@ -1,9 +1,8 @@
-pub mod BoundLemmas
+pub mod PressureRowLemmas
 pub mod DemandLemmas
 pub mod EmitterLemmas
 pub mod ExtremeLemmas
 pub mod DistinctLemmas
 pub mod CurveLemmas
 pub mod NodeLemmas
-pub mod OptionLemmas
 pub mod PatternLemmas

@@ -20,12 +20,12 @@ use Rattle.hyd_spec_input.specs.NetworkRows.{tank_curve}
 use Rattle.hyd_spec_input.specs.Tables.{place, is_of, is_node, rows_of, node_rows, own_id, has_id}
 use Rattle.hyd_spec_input.specs.RowsTogether as others
 use Rattle.hyd_spec_input.specs.RowsTogether.{multipliers_of}
-use Rattle.hyd_text_rows.specs.FirstWrongRow.{IsVerdict, kept}
-use Rattle.hyd_text_rows.specs.QuantityRanges.{head_fault, flow_fault}
-use Rattle.hyd_text_rows.specs.WrongInSection.{IsWrongIn}
-use Rattle.hyd_text_rows.specs.IdTables.{AreFirsts}
-use Rattle.hyd_text_rows.proofs.FoundLemmas.{filter_more, filter_same, found_skip, found_kept}
-use Rattle.hyd_text_rows.proofs.SectionLemmas.{verdict_without_capacity}
+use Rattle.hyd_rows_and_tables.specs.FirstWrongRow.{IsVerdict, kept}
+use Rattle.hyd_rows_and_tables.specs.QuantityRanges.{head_fault, flow_fault}
+use Rattle.hyd_rows_and_tables.specs.WrongInSection.{IsWrongIn}
+use Rattle.hyd_rows_and_tables.specs.IdTables.{AreFirsts}
+use Rattle.hyd_rows_and_tables.proofs.FoundLemmas.{filter_more, filter_same, found_skip, found_kept}
+use Rattle.hyd_rows_and_tables.proofs.SectionLemmas.{verdict_without_capacity}
 use Rattle.hyd_judge_nodes_curves_and_options.specs.Extremes.{Bounds, AreExtremes}
 use Rattle.hyd_judge_nodes_curves_and_options.specs.NodeFaults.{junction_fault, is_head_times, times_fault, heads_fault}
 use Rattle.hyd_judge_nodes_curves_and_options.specs.NodeFaults.{reservoir_fault, tank_fault}
@@ -35,7 +35,7 @@ use Rattle.hyd_judge_nodes_curves_and_options.specs.JudgedNodes.{AreCounts, AreN
 use Rattle.hyd_judge_nodes_curves_and_options.specs.declared.nodes.Counts.{Counts}
 use Rattle.hyd_judge_nodes_curves_and_options.specs.declared.nodes.Nodes.{Nodes}
 use Rattle.hyd_theorems_on_input.proofs.Faultless.{none_from}
-use Rattle.hyd_theorems_on_input.proofs.Places.{own_section}
+use Rattle.hyd_theorems_on_input.proofs.ListsByPlace.{own_section}
 use Rattle.hyd_judge_nodes_curves_and_options.proofs.ExtremeLemmas.{test_of_all, times_is_convex}
 
 -- ---- heads times multipliers

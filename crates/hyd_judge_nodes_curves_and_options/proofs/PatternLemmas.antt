@@ -17,15 +17,15 @@ use Rattle.hyd_spec_input.specs.Tables.{place, is_of, rows_of, own_id, has_id, d
 use Rattle.hyd_spec_input.specs.RowsTogether as others
 use Rattle.hyd_spec_input.specs.RowsTogether.{passes, multiplier_count}
 use Rattle.hyd_net.specs.declared.refusal_cause.Cause.{Cause}
-use Rattle.hyd_text_rows.specs.FirstWrongRow.{kept}
-use Rattle.hyd_text_rows.specs.IdTables.{AreFirsts}
-use Rattle.hyd_text_rows.proofs.FoundLemmas.{filter_more, filter_same, found_skip, found_kept}
-use Rattle.hyd_text_rows.proofs.TableLemmas.{even}
+use Rattle.hyd_rows_and_tables.specs.FirstWrongRow.{kept}
+use Rattle.hyd_rows_and_tables.specs.IdTables.{AreFirsts}
+use Rattle.hyd_rows_and_tables.proofs.FoundLemmas.{filter_more, filter_same, found_skip, found_kept}
+use Rattle.hyd_rows_and_tables.proofs.TableLemmas.{even}
 use Rattle.hyd_judge_nodes_curves_and_options.specs.Patterns.{AreCounted, most_counted}
-use Rattle.hyd_text_rows.specs.WrongInSection.{IsWrongIn}
+use Rattle.hyd_rows_and_tables.specs.WrongInSection.{IsWrongIn}
 use Rattle.hyd_judge_nodes_curves_and_options.specs.declared.patterns.Counted.{Counted}
 use Rattle.hyd_judge_nodes_curves_and_options.proofs.DistinctLemmas.{distinct_more}
-use Rattle.hyd_text_rows.proofs.SectionLemmas.{verdict_without_capacity, other_section}
+use Rattle.hyd_rows_and_tables.proofs.SectionLemmas.{verdict_without_capacity, other_section}
 
 -- ---- counts up to one above the most that are allowed
 

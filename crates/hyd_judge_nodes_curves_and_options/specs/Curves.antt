@@ -3,9 +3,9 @@ use Rattle.std.specs.Prelude.{◌≡◌, ℕ, ◌≤◌, List, length, take}
 use Rattle.hyd_spec_lines.specs.Lines.{Row}
 use Rattle.hyd_spec_lines.specs.declared.section.Section.TheVariants.{Curves as InCurves}
 use Rattle.hyd_spec_input.specs.Tables.{rows_of, distinct}
-use Rattle.hyd_text_rows.specs.FirstWrongRow.{HasFound}
-use Rattle.hyd_text_rows.specs.IdTables.{IsTable}
-use Rattle.hyd_text_rows.specs.WrongInSection.{IsWrongIn}
+use Rattle.hyd_rows_and_tables.specs.FirstWrongRow.{HasFound}
+use Rattle.hyd_rows_and_tables.specs.IdTables.{IsTable}
+use Rattle.hyd_rows_and_tables.specs.WrongInSection.{IsWrongIn}
 use Rattle.hyd_judge_nodes_curves_and_options.specs.declared.curves.Curves.{Curves}
 
 pub record AreCurves (text : List ℕ) (rows : List Row) (k : ℕ) (curves : Curves) : Type 0 where

@@ -55,11 +55,6 @@ abbrev pub bounds_of : List (Option Extremes) → Option ℕ → Option Bounds
 bounds_of each None = None
 bounds_of each (Some number) = bounds (slice_index_or each number None)
 
--- so many, all without numbers
-pub record AreNone (each : List (Option Extremes)) (count : ℕ) : Type 0 where
-  pub count_is : length each ≡ count
-  pub none : All (λ (e : Option Extremes). e ≡ None) each
-
 -- for each name, the bounds of its number are made of the pattern's multipliers in the first rows
 pub record AreWidened (rows : List Row) (k : ℕ) (names : List (List ℕ)) (each : List (Option Extremes)) : Type 0 where
   pub even : length each ≡ length names

@@ -9,8 +9,8 @@ use Rattle.hyd_spec_input.specs.InForce as force
 use Rattle.hyd_spec_input.specs.NetworkRows as alone
 use Rattle.hyd_spec_input.specs.Tables.{is_node, rows_of, node_rows}
 use Rattle.hyd_net.specs.declared.refusal_cause.Cause.{Cause}
-use Rattle.hyd_text_rows.specs.FirstWrongRow.{HasFound, IsWrongAmong}
-use Rattle.hyd_text_rows.specs.IdTables.{IsTable, IsEven}
+use Rattle.hyd_rows_and_tables.specs.FirstWrongRow.{HasFound, IsWrongAmong}
+use Rattle.hyd_rows_and_tables.specs.IdTables.{IsTable, IsEven}
 use Rattle.hyd_judge_nodes_curves_and_options.specs.NodeFaults.{junction_fault, reservoir_fault, tank_fault}
 use Rattle.hyd_judge_nodes_curves_and_options.specs.Patterns.{ArePatterns}
 use Rattle.hyd_curves.specs.Points.{ArePoints}

@@ -9,16 +9,18 @@ use Rattle.hyd_spec_input.specs.Columns.{or_else, first, unless, amount, amount_
 use Rattle.hyd_spec_input.specs.Curves.{is_within, is_head}
 use Rattle.hyd_spec_input.specs.NetworkRows.{tank_curve}
 use Rattle.hyd_spec_input.specs.RowsTogether.{passes, known_pattern, known_curve, multipliers_of}
+use Rattle.hyd_net.specs.NumberRanges.{least_level_difference}
+use Rattle.hyd_net.specs.CountLimits.{most_junctions, most_reservoirs, most_tanks}
 use Rattle.hyd_net.specs.declared.refusal_cause.Cause.{Cause}
 use Rattle.hyd_net.specs.declared.refusal_cause.Cause.TheVariants.{DuplicateId, Range}
-use Rattle.hyd_text_rows.specs.QuantityRanges.{head_fault, junction_ranges}
+use Rattle.hyd_rows_and_tables.specs.QuantityRanges.{head_fault, junction_ranges}
 use Rattle.hyd_judge_nodes_curves_and_options.specs.Extremes.{Bounds, pass}
 use Rattle.hyd_curves.specs.CurveFaults.{tank_curve_fault}
 
 -- what a junction is asked, by the unit, its count and whether its ID is new
 abbrev pub junction_fault : List Row → FlowUnit → ℕ → Bool → List (List ℕ) → Option Cause
 junction_fault rows unit count new words =
-    first (passes 10000 4 count ∷ unless new DuplicateId ∷ known_pattern rows (slice_get words 3)
+    first (passes most_junctions 4 count ∷ unless new DuplicateId ∷ known_pattern rows (slice_get words 3)
     ∷ junction_ranges unit (amount 1 words) (amount_or (pos 0) 2 words) ∷ [])
 
 -- ---- reservoirs
@@ -44,14 +46,14 @@ heads_fault rows unit nano pattern =
 
 abbrev pub reservoir_fault : List Row → FlowUnit → ℕ → Bool → List (List ℕ) → Option Cause
 reservoir_fault rows unit count new words =
-    first (passes 1000 5 count ∷ unless new DuplicateId ∷ known_pattern rows (slice_get words 2)
+    first (passes most_reservoirs 5 count ∷ unless new DuplicateId ∷ known_pattern rows (slice_get words 2)
     ∷ heads_fault rows unit (amount 1 words) (slice_get words 2) ∷ [])
 
 -- ---- tanks
 
--- levels that are so much apart
+-- levels that are apart by the least level difference or more
 abbrev pub apart_fault : FlowUnit → ℤ → Option Cause
-apart_fault unit nano = unless (le_z (pos 30480000000) (head_ticks (is_us_unit unit) nano)) Range
+apart_fault unit nano = unless (le_z (pos least_level_difference) (head_ticks (is_us_unit unit) nano)) Range
 
 -- the bottom, the minimum and maximum level and the volume curve
 abbrev pub levels_fault : List Row → FlowUnit → ℤ → ℤ → ℤ → Option (List ℕ) → Option Cause
@@ -62,5 +64,5 @@ levels_fault rows unit bottom minimum maximum curve =
 
 abbrev pub tank_fault : List Row → FlowUnit → ℕ → Bool → List (List ℕ) → Option Cause
 tank_fault rows unit count new words =
-    first (passes 32 6 count ∷ unless new DuplicateId ∷ known_curve rows (tank_curve words)
+    first (passes most_tanks 6 count ∷ unless new DuplicateId ∷ known_curve rows (tank_curve words)
     ∷ levels_fault rows unit (amount 1 words) (amount 3 words) (amount 4 words) (tank_curve words) ∷ [])

@@ -5,9 +5,9 @@ use Rattle.hyd_spec_lines.specs.declared.section.Section.TheVariants.{Patterns a
 use Rattle.hyd_spec_input.specs.Tables.{rows_of, distinct, pattern_named}
 use Rattle.hyd_spec_input.specs.MeaningsAcrossRows.{number_in}
 use Rattle.hyd_spec_input.specs.RowsTogether.{multiplier_count}
-use Rattle.hyd_text_rows.specs.FirstWrongRow.{HasFound}
-use Rattle.hyd_text_rows.specs.IdTables.{IsTable}
-use Rattle.hyd_text_rows.specs.WrongInSection.{IsWrongIn}
+use Rattle.hyd_rows_and_tables.specs.FirstWrongRow.{HasFound}
+use Rattle.hyd_rows_and_tables.specs.IdTables.{IsTable}
+use Rattle.hyd_rows_and_tables.specs.WrongInSection.{IsWrongIn}
 use Rattle.hyd_judge_nodes_curves_and_options.specs.Extremes.{AreExtremes, bounds_of}
 use Rattle.hyd_judge_nodes_curves_and_options.specs.declared.patterns.Counted.{Counted}
 use Rattle.hyd_judge_nodes_curves_and_options.specs.declared.patterns.Patterns.{Patterns}

@@ -5,17 +5,18 @@ ghost use Rattle.std.specs.Prelude.{◌≡◌, ◌<◌, ◌+◌, ◌^◌, [], �
 ghost use Rattle.std.specs.List.{All};
 ghost use Rattle.hyd_spec_lines.specs.Lines.{LiesIn};
 ghost use Rattle.hyd_spec_lines.specs.declared.section.Section.TheVariants.{Curves as InCurves};
+ghost use Rattle.hyd_net.specs.CountLimits.{most_curves, most_points};
 ghost use Rattle.hyd_spec_input.specs.Columns.{first};
 ghost use Rattle.hyd_spec_input.specs.Tables.{rows_of};
 ghost use Rattle.hyd_spec_input.specs.RowsTogether as others;
-ghost use Rattle.hyd_text_rows.specs.FirstWrongRow.{HasFound, rows_at};
-ghost use Rattle.hyd_text_rows.specs.IdTables.{IsTable};
+ghost use Rattle.hyd_rows_and_tables.specs.FirstWrongRow.{HasFound, rows_at};
+ghost use Rattle.hyd_rows_and_tables.specs.IdTables.{IsTable};
 ghost use Rattle.hyd_judge_nodes_curves_and_options.specs.Curves.{AreCurves};
-ghost use Rattle.hyd_text_rows.specs.WrongInSection.{IsWrongIn};
+ghost use Rattle.hyd_rows_and_tables.specs.WrongInSection.{IsWrongIn};
 
 use hyd_lex::{Line, Lines};
 use hyd_net::{Cause, OutOfMemory};
-use hyd_text_rows::{Found, Table, is_curves, kept, limit};
+use hyd_rows_and_tables::{Found, Table, is_curves, kept, limit};
 use std::alloc::Global;
 
 const MOST_CURVES: usize = 1_000;
@@ -33,7 +34,7 @@ pub struct Curves {
 
 // What is wrong with a row, by the curves and points up to it.
 fn fault(curves: usize, points: usize) -> Option<Cause>
-    ensures { result ≡ first (others.passes 1000 9 curves ∷ others.passes 100000 9 points ∷ []) }
+    ensures { result ≡ first (others.passes most_curves 9 curves ∷ others.passes most_points 9 points ∷ []) }
 {
     match limit(MOST_CURVES, 9, curves) {
         Some(cause) => Some(cause),

@@ -11,16 +11,16 @@ ghost use Rattle.hyd_spec_input.specs.DemandCurveAndStatusRows as row;
 ghost use Rattle.hyd_spec_input.specs.Faults.{NoneIs};
 ghost use Rattle.hyd_spec_input.specs.InForce as force;
 ghost use Rattle.hyd_spec_input.specs.Tables.{rows_of, node_rows};
-ghost use Rattle.hyd_text_rows.specs.FirstWrongRow.{HasFound, rows_at};
-ghost use Rattle.hyd_text_rows.specs.IdTables.{IsTable, IsEven};
+ghost use Rattle.hyd_rows_and_tables.specs.FirstWrongRow.{HasFound, rows_at};
+ghost use Rattle.hyd_rows_and_tables.specs.IdTables.{IsTable, IsEven};
 ghost use Rattle.hyd_judge_nodes_curves_and_options.specs.Demands.{AreDemands, demand_fault as fault_of_demand};
-ghost use Rattle.hyd_text_rows.specs.WrongInSection.{IsWrongIn};
+ghost use Rattle.hyd_rows_and_tables.specs.WrongInSection.{IsWrongIn};
 
 use hyd_lex::{Line, Lines};
 use hyd_net::Cause;
 use hyd_network_rows::read_demand;
 use hyd_num::FlowUnit;
-use hyd_text_rows::{
+use hyd_rows_and_tables::{
     Found, Table, flow_fault, is_demands, kept, limit, unknown_junction, unknown_pattern,
 };
 

@@ -14,16 +14,16 @@ ghost use Rattle.hyd_spec_input.specs.Faults.{NoneIs};
 ghost use Rattle.hyd_spec_input.specs.InForce as force;
 ghost use Rattle.hyd_spec_input.specs.Tables.{node_rows};
 ghost use Rattle.hyd_spec_input.specs.RowsTogether.{known_junction};
-ghost use Rattle.hyd_text_rows.specs.FirstWrongRow.{HasFound, rows_at};
-ghost use Rattle.hyd_text_rows.specs.WrongInSection.{IsWrongIn, IsCapacityFault, IsFaultThen};
-ghost use Rattle.hyd_text_rows.specs.IdTables.{IsTable, IsEven};
+ghost use Rattle.hyd_rows_and_tables.specs.FirstWrongRow.{HasFound, rows_at};
+ghost use Rattle.hyd_rows_and_tables.specs.WrongInSection.{IsWrongIn, IsCapacityFault, IsFaultThen};
+ghost use Rattle.hyd_rows_and_tables.specs.IdTables.{IsTable, IsEven};
 
 use hyd_capacities::emitter_capacity;
 use hyd_lex::{Line, Lines};
 use hyd_net::Cause;
 use hyd_network_rows::read_emitter;
 use hyd_num::{Decimal, FlowUnit};
-use hyd_text_rows::{Found, Table, is_emitters, kept, unknown_junction};
+use hyd_rows_and_tables::{Found, Table, is_emitters, kept, unknown_junction};
 
 // Limit 13 where a coefficient above 0 makes a capacity out of range.
 fn capacity_fault(coefficient: Decimal, unit: FlowUnit) -> Option<Cause>

@@ -4,7 +4,7 @@
 use crate::patterns::Patterns;
 use hyd_curves::Points;
 use hyd_num::FlowUnit;
-use hyd_text_rows::Table;
+use hyd_rows_and_tables::Table;
 
 /// What rows of nodes name, and the unit of flows in force.
 #[derive(Clone, Copy, Drop)]

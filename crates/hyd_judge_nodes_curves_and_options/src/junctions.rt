@@ -7,15 +7,15 @@ ghost use Rattle.hyd_spec_lines.specs.declared.section.Section.TheVariants.{Patt
 ghost use Rattle.hyd_row_words.specs.FaultOrValue.{words_at};
 ghost use Rattle.hyd_spec_input.specs.NetworkRows as row;
 ghost use Rattle.hyd_spec_input.specs.Tables.{rows_of};
-ghost use Rattle.hyd_text_rows.specs.IdTables.{IsTable, IsEven};
-ghost use Rattle.hyd_text_rows.specs.QuantityRanges as range;
+ghost use Rattle.hyd_rows_and_tables.specs.IdTables.{IsTable, IsEven};
+ghost use Rattle.hyd_rows_and_tables.specs.QuantityRanges as range;
 ghost use Rattle.hyd_judge_nodes_curves_and_options.specs.NodeFaults.{junction_fault as fault_of_junction};
 
 use hyd_lex::{Line, Lines};
 use hyd_net::Cause;
 use hyd_network_rows::{JunctionRow, read_junction};
 use hyd_num::FlowUnit;
-use hyd_text_rows::{Table, flow_fault, head_fault, limit, unknown_pattern};
+use hyd_rows_and_tables::{Table, flow_fault, head_fault, limit, unknown_pattern};
 
 const MOST_JUNCTIONS: usize = 10_000;
 

@@ -1,5 +1,6 @@
 //! The rows of nodes, demands, emitters, curves, patterns and options judged among all rows, a section at a time
-//! (EPANET 2.2 User Manual, appendix C). Each pass keeps the table of its IDs and its first wrong row.
+//! (EPANET 2.2 User Manual, appendix C), each pass with the table of its IDs and its first wrong row; and the unit of
+//! flows and the pressures that a file has in force.
 #![tactic(auto)]
 
 mod curves;
@@ -7,9 +8,9 @@ mod demands;
 mod emitters;
 mod judged_against;
 mod junctions;
+mod last_lines_and_flow_unit;
 mod nodes;
 mod options;
-mod options_in_force;
 mod pattern_extremes;
 mod patterns;
 mod reservoirs;
@@ -19,8 +20,8 @@ pub use curves::{Curves, judge_curves};
 pub use demands::{Demands, judge_demands};
 pub use emitters::judge_emitters;
 pub use judged_against::NodeTables;
+pub use last_lines_and_flow_unit::{last_option, unit_in_force};
 pub use nodes::{Nodes, judge_nodes};
 pub use options::{Pressures, judge_options, last_option_of, pressures_in_force};
-pub use options_in_force::{last_option, unit_in_force};
 pub use pattern_extremes::Extremes;
 pub use patterns::{Patterns, judge_patterns};

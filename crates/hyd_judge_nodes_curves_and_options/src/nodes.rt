@@ -8,8 +8,8 @@ ghost use Rattle.hyd_row_words.specs.FaultOrValue.{words_at};
 ghost use Rattle.hyd_spec_input.specs.SingleRows.{IsWrongByItself};
 ghost use Rattle.hyd_spec_input.specs.Faults.{NoneIs};
 ghost use Rattle.hyd_spec_input.specs.Tables.{place as section_place, node_rows};
-ghost use Rattle.hyd_text_rows.specs.FirstWrongRow.{HasFound, rows_at};
-ghost use Rattle.hyd_text_rows.specs.IdTables.{IsTable};
+ghost use Rattle.hyd_rows_and_tables.specs.FirstWrongRow.{HasFound, rows_at};
+ghost use Rattle.hyd_rows_and_tables.specs.IdTables.{IsTable};
 ghost use Rattle.hyd_judge_nodes_curves_and_options.specs.JudgedNodes as judged;
 ghost use Rattle.hyd_judge_nodes_curves_and_options.specs.JudgedNodes.{AreNodes, IsWrongNode, AreEven, AreTables};
 
@@ -19,7 +19,7 @@ use crate::reservoirs::reservoir_fault;
 use crate::tanks::tank_fault;
 use hyd_lex::{Line, Lines, Section};
 use hyd_net::{Cause, OutOfMemory};
-use hyd_text_rows::{Found, Table, kept};
+use hyd_rows_and_tables::{Found, Table, kept};
 use std::alloc::Global;
 
 // How many nodes there are of each kind.

@@ -12,12 +12,12 @@ ghost use Rattle.hyd_spec_input.specs.Faults.{NoneIs};
 ghost use Rattle.hyd_spec_input.specs.InForce as force;
 ghost use Rattle.hyd_spec_input.specs.OptionRows as row;
 ghost use Rattle.hyd_spec_input.specs.RowsTogether as others;
-ghost use Rattle.hyd_text_rows.specs.FirstWrongRow.{HasFound, rows_at, row_in};
-ghost use Rattle.hyd_text_rows.specs.WrongInSection.{IsWrongIn};
+ghost use Rattle.hyd_rows_and_tables.specs.FirstWrongRow.{HasFound, rows_at, row_in};
+ghost use Rattle.hyd_rows_and_tables.specs.WrongInSection.{IsWrongIn};
 ghost use Rattle.hyd_judge_nodes_curves_and_options.specs.Options as option;
 ghost use Rattle.hyd_judge_nodes_curves_and_options.specs.Options.{ArePressures, HasAmount, IsBound};
 
-use crate::options_in_force::{is_options, last_option};
+use crate::last_lines_and_flow_unit::{is_options, last_option};
 use hyd_lex::{Line, Lines};
 use hyd_net::Cause;
 use hyd_net::ranges::{GREATEST_HEAD, TENTH};
@@ -26,7 +26,7 @@ use hyd_num::{
     TEN_THOUSANDTHS_OF_POUND_IN_FOOT,
 };
 use hyd_row_words::{number, word_is};
-use hyd_text_rows::{Found, kept};
+use hyd_rows_and_tables::{Found, kept};
 
 /// The pressures between which demands depend on pressure, in force; and whether they do.
 #[derive(Debug, Clone, Copy, PartialEq, Eq, Drop)]

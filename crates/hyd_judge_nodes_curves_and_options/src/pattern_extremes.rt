@@ -13,17 +13,17 @@ ghost use Rattle.hyd_spec_input.specs.Columns.{within};
 ghost use Rattle.hyd_spec_input.specs.DemandCurveAndStatusRows as row;
 ghost use Rattle.hyd_spec_input.specs.Faults.{NoneIs};
 ghost use Rattle.hyd_spec_input.specs.Tables.{place as section_place, rows_of};
-ghost use Rattle.hyd_text_rows.specs.FirstWrongRow.{rows_at};
-ghost use Rattle.hyd_text_rows.specs.IdTables.{IsTable};
+ghost use Rattle.hyd_rows_and_tables.specs.FirstWrongRow.{rows_at};
+ghost use Rattle.hyd_rows_and_tables.specs.IdTables.{IsTable, AreNone};
 ghost use Rattle.hyd_judge_nodes_curves_and_options.specs.Extremes as bound;
-ghost use Rattle.hyd_judge_nodes_curves_and_options.specs.Extremes.{bounds, AreNone, AreWidened};
+ghost use Rattle.hyd_judge_nodes_curves_and_options.specs.Extremes.{bounds, AreWidened};
 
 use hyd_lex::{Line, Lines, Section, split_word};
 use hyd_net::OutOfMemory;
 use hyd_network_rows::read_pattern;
 use hyd_num::Decimal;
 use hyd_row_words::number_of;
-use hyd_text_rows::{Table, own_id};
+use hyd_rows_and_tables::{Table, own_id};
 use std::alloc::Global;
 
 /// The least and the greatest of the multipliers of a pattern.

@@ -8,22 +8,23 @@ ghost use Rattle.hyd_spec_lines.specs.Lines.{LiesIn, Row};
 ghost use Rattle.hyd_spec_lines.specs.declared.section.Section.TheVariants.{Patterns as InPatterns};
 ghost use Rattle.hyd_row_words.specs.FaultOrValue.{words_at};
 ghost use Rattle.hyd_spec_input.specs.SingleRows.{IsWrongByItself};
+ghost use Rattle.hyd_net.specs.CountLimits.{most_patterns, most_multipliers};
 ghost use Rattle.hyd_spec_input.specs.Columns.{first};
 ghost use Rattle.hyd_spec_input.specs.DemandCurveAndStatusRows as row;
 ghost use Rattle.hyd_spec_input.specs.Faults.{NoneIs};
 ghost use Rattle.hyd_spec_input.specs.Tables.{rows_of};
 ghost use Rattle.hyd_spec_input.specs.RowsTogether as others;
 ghost use Rattle.hyd_spec_input.specs.RowsTogether.{multipliers_of};
-ghost use Rattle.hyd_text_rows.specs.FirstWrongRow.{HasFound, rows_at};
-ghost use Rattle.hyd_text_rows.specs.IdTables.{IsTable};
+ghost use Rattle.hyd_rows_and_tables.specs.FirstWrongRow.{HasFound, rows_at};
+ghost use Rattle.hyd_rows_and_tables.specs.IdTables.{IsTable};
 ghost use Rattle.hyd_judge_nodes_curves_and_options.specs.Patterns.{AreCounted, ArePatterns, most_counted};
 ghost use Rattle.hyd_judge_nodes_curves_and_options.specs.Extremes.{AreExtremes, bounds, bounds_of, is_between, pass};
-ghost use Rattle.hyd_text_rows.specs.WrongInSection.{IsWrongIn};
+ghost use Rattle.hyd_rows_and_tables.specs.WrongInSection.{IsWrongIn};
 
 use crate::pattern_extremes::{Extremes, gather_extremes, is_patterns};
 use hyd_lex::{Line, Lines};
 use hyd_net::{Cause, OutOfMemory};
-use hyd_text_rows::{Found, Table, count_words, kept, limit};
+use hyd_rows_and_tables::{Found, Table, count_words, kept, limit};
 use std::alloc::Global;
 
 const MOST_PATTERNS: usize = 1_000;
@@ -69,7 +70,8 @@ fn sum_counted(count: usize, more: usize) -> usize
 
 // What is wrong with a row, by the patterns and multipliers up to it.
 fn fault(patterns: usize, multipliers: usize) -> Option<Cause>
-    ensures { result ≡ first (others.passes 1000 8 patterns ∷ others.passes 1000000 8 multipliers ∷ []) }
+    ensures { result ≡ first (others.passes most_patterns 8 patterns
+        ∷ others.passes most_multipliers 8 multipliers ∷ []) }
 {
     match limit(MOST_PATTERNS, 8, patterns) {
         Some(cause) => Some(cause),

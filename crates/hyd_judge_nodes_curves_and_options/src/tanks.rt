@@ -7,13 +7,14 @@ ghost use Rattle.hyd_spec_lines.specs.WordsOfLines.{text_of};
 ghost use Rattle.hyd_spec_lines.specs.Lines.{LiesIn, Row};
 ghost use Rattle.hyd_spec_lines.specs.declared.section.Section.TheVariants.{Curves};
 ghost use Rattle.hyd_row_words.specs.FaultOrValue.{words_at};
+ghost use Rattle.hyd_net.specs.NumberRanges.{least_level_difference};
 ghost use Rattle.hyd_net.specs.declared.refusal_cause.Cause.TheVariants.{Range};
 ghost use Rattle.hyd_spec_input.specs.Columns.{unless};
 ghost use Rattle.hyd_spec_input.specs.Curves.{is_head};
 ghost use Rattle.hyd_spec_input.specs.NetworkRows as row;
 ghost use Rattle.hyd_spec_input.specs.Tables.{rows_of};
-ghost use Rattle.hyd_text_rows.specs.QuantityRanges as range;
-ghost use Rattle.hyd_text_rows.specs.IdTables.{IsTable, IsEven};
+ghost use Rattle.hyd_rows_and_tables.specs.QuantityRanges as range;
+ghost use Rattle.hyd_rows_and_tables.specs.IdTables.{IsTable, IsEven};
 ghost use Rattle.hyd_judge_nodes_curves_and_options.specs.NodeFaults as node;
 ghost use Rattle.hyd_curves.specs.Points.{ArePoints};
 
@@ -24,18 +25,19 @@ use hyd_net::Cause;
 use hyd_net::ranges::GREATEST_HEAD;
 use hyd_network_rows::{TankRow, read_tank};
 use hyd_num::{FlowUnit, TEN_THOUSANDTHS_OF_METRE_IN_FOOT};
-use hyd_text_rows::{Table, head_fault, limit, unknown_curve};
+use hyd_rows_and_tables::{Table, head_fault, limit, unknown_curve};
 use hyd_units::head_ticks;
 
 const MOST_TANKS: usize = 32;
 
-const LEAST_APART: i128 = 10_000_000 * TEN_THOUSANDTHS_OF_METRE_IN_FOOT as i128;
+/// The least by which a maximum level exceeds a minimum level, in head ticks: 0.01 foot.
+const LEAST_LEVEL_DIFFERENCE: i128 = 10_000_000 * TEN_THOUSANDTHS_OF_METRE_IN_FOOT as i128;
 
-// Range where levels are less than a hundredth of a foot apart.
+// Range where levels are closer than the least difference.
 fn near_fault(ticks: i128) -> Option<Cause>
-    ensures { result ≡ unless (le_z (pos 30480000000) ticks) Range }
+    ensures { result ≡ unless (le_z (pos least_level_difference) ticks) Range }
 {
-    if LEAST_APART <= ticks {
+    if LEAST_LEVEL_DIFFERENCE <= ticks {
         return None;
     }
     Some(Cause::Range)

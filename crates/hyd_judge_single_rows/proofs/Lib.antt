@@ -1,2 +1,2 @@
 pub mod StageLemmas
-pub mod ThenLemmas
+pub mod RuleLinesBehindLemmas

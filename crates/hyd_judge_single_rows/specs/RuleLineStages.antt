@@ -11,7 +11,7 @@ use Rattle.hyd_spec_input.specs.Tables.{is_of, words_of}
 use Rattle.hyd_spec_input.specs.declared.Stage.{Stage}
 use Rattle.hyd_net.specs.declared.refusal_cause.Cause.{Cause}
 use Rattle.hyd_net.specs.declared.refusal_cause.Cause.TheVariants.{Syntax}
-use Rattle.hyd_text_rows.specs.FirstWrongRow.{rows_at}
+use Rattle.hyd_rows_and_tables.specs.FirstWrongRow.{rows_at}
 
 -- the stage after one row more
 abbrev pub stage_with : Stage → Row → Stage

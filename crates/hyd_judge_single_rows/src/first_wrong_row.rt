@@ -5,13 +5,13 @@ ghost use Rattle.std.specs.Prelude.{length};
 ghost use Rattle.std.specs.List.{All};
 ghost use Rattle.hyd_spec_lines.specs.Lines.{LiesIn};
 ghost use Rattle.hyd_spec_input.specs.SingleRows.{IsWrongByItself};
-ghost use Rattle.hyd_text_rows.specs.FirstWrongRow.{HasFound, rows_at};
+ghost use Rattle.hyd_rows_and_tables.specs.FirstWrongRow.{HasFound, rows_at};
 
 use crate::fault_by_section::row_fault;
 use crate::rule_line_order::next_stage;
 use hyd_lex::{Line, Lines};
+use hyd_rows_and_tables::Found;
 use hyd_spec_input::Stage;
-use hyd_text_rows::Found;
 
 /// The first row that is wrong by itself. `None` comes exactly where no row is.
 pub fn first_by_itself(text: &Lines<'_>, lines: &[Line]) -> Option<Found>

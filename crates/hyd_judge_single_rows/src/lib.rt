@@ -1,5 +1,5 @@
 //! The first row of an input file that is wrong by itself, whatever the other rows say (EPANET 2.2 User Manual,
-//! appendix C).
+//! appendix C); and the order of the lines of a rule, stage by stage.
 #![tactic(auto)]
 
 mod fault_by_section;

@@ -1,3 +1,3 @@
-pub mod Rooting
-pub mod Walking
-pub mod Stepping
+pub mod QuadraticRoots
+pub mod LineAtDifference
+pub mod BetweenPressures

@@ -9,8 +9,8 @@ use Rattle.hyd_spec.specs.Scale.{at_scale}
 use Rattle.hyd_spec.specs.Law.{Relation}
 use Rattle.hyd_spec_certificates.specs.Certificate.{box_limit}
 
--- a head difference that a law is asked for: at most 3 times the limit of the box either way, so a
--- difference of two heads of the box and a pump's lift
+-- a head difference that a law is asked for: at most 3 times the limit of the box either way, so a difference of two
+-- heads of the box and a pump's lift
 abbrev pub IsDifference : ℤ → Type 0
 IsDifference d = unsigned_abs d ≤ 3 * box_limit
 

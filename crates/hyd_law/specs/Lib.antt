@@ -1,5 +1,5 @@
 pub mod ComposedLaws
 pub mod ComposedLawsAreLaws
-pub mod Curves
+pub mod KnotsOfStraightLines
 pub mod LinkLaws
 pub mod DemandLaws

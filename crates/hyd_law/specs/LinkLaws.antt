@@ -14,7 +14,7 @@ use Rattle.hyd_law.specs.ComposedLaws.{IsDifference, IsLift, directed, directed_
 use Rattle.hyd_law.specs.ComposedLaws.{capped_at_least}
 use Rattle.hyd_law.specs.ComposedLaws.{capped_at_most, held, held_at_least, held_at_most}
 use Rattle.hyd_law.specs.ComposedLawsAreLaws.{IsLaw-directed, IsLaw-lift}
-use Rattle.hyd_law.specs.Curves.{places, IsCurve}
+use Rattle.hyd_law.specs.KnotsOfStraightLines.{places, IsCurve}
 use Rattle.hyd_law.specs.declared.link_law.LinkLaw.{LinkLaw}
 use Rattle.hyd_law.specs.declared.link_law.LinkLaw.TheVariants.{Shut, Quad, Linear, QuadOneWay, LinearOneWay, Pump}
 use Rattle.hyd_law.specs.declared.link_law.LinkLaw.TheVariants.{Limit, LinearLimit, LimitOneWay, LinearLimitOneWay}
@@ -102,7 +102,7 @@ IsSoundLink (LimitOneWay l) = IsSoundCapacity l.inner.inner.cap
 IsSoundLink (LinearLimitOneWay l) = ⊤
 IsSoundLink (Bent l) = (l.least ≤ℤ l.most) × IsCurve l.inner.knots.list
 
--- such a difference, for a pump also with its lift
+-- a head difference that the law is asked for, for a pump also with its lift
 abbrev pub LinkAccepts : LinkLaw → ℤ → Type 0
 LinkAccepts (Shut l) d = ⊤
 LinkAccepts (Quad l) d = IsDifference d

@@ -7,7 +7,7 @@ ghost use Rattle.hyd_net.specs.Curves.{value_at};
 ghost use Rattle.hyd_spec.specs.Law as exact;
 ghost use Rattle.hyd_theorems_on_definitions.proofs.EachLaw.{IsLaw-bent};
 ghost use Rattle.hyd_law.specs.ComposedLaws.{IsDifference};
-ghost use Rattle.hyd_law.specs.Curves.{places, IsCurve};
+ghost use Rattle.hyd_law.specs.KnotsOfStraightLines.{places, IsCurve};
 
 use crate::law::Law;
 use crate::law_kinds::Bent;

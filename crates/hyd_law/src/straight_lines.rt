@@ -6,7 +6,7 @@ ghost use Rattle.std.specs.List.{All};
 ghost use Rattle.std.specs.Bool.{OnTrue, OnFalse};
 ghost use Rattle.hyd_net.specs.Curves.{on_line, between, value_at};
 ghost use Rattle.hyd_law.specs.ComposedLaws.{IsDifference};
-ghost use Rattle.hyd_law.specs.Curves.{place_of, places, IsKnot, IsValue};
+ghost use Rattle.hyd_law.specs.KnotsOfStraightLines.{place_of, places, IsKnot, IsValue};
 
 use crate::law_kinds::Knot;
 use hyd_num::whole_product;

@@ -32,6 +32,11 @@ pub join-append : {X : Type 0} (xs ys : List (List X)) → joined (xs ++ ys) ≡
 join-append [] ys = refl
 join-append (x ∷ xs) ys = ap (λ rest. x ++ rest) (join-append xs ys) ∙ sym (append_assoc x (joined xs) (joined ys))
 
+-- what is joined of the pieces of two lists
+pub joined_append : {X Y : Type 0} (f : X → List Y) (xs ys : List X)
+    → joined (map f (xs ++ ys)) ≡ joined (map f xs) ++ joined (map f ys)
+joined_append f xs ys = ap joined (map-append f xs ys) ∙ join-append (map f xs) (map f ys)
+
 pub join-more : {X Y : Type 0} (f : X → List Y) (xs : List X) (x : X)
     → joined (map f (xs ++ (x ∷ []))) ≡ joined (map f xs) ++ f x
 join-more f xs x =

@@ -11,10 +11,10 @@ use Rattle.hyd_num.specs.FileQuantity.{billionths}
 use Rattle.hyd_num.specs.CapacityPairs.{StandsFor, IsMinorPair, IsFrictionPair, IsUnitOver, IsSquareOver}
 use Rattle.hyd_num.specs.CapacityPairs.{IsPipePairWith}
 use Rattle.hyd_spec.specs.ProgramTypes.{Origin, Pipe, Valve, Pump, Emitter, PressureDemand}
-use Rattle.hyd_num.proofs.Ends.{denominator_positive, numerator_positive}
+use Rattle.hyd_num.proofs.EndsInOrder.{denominator_positive, numerator_positive}
 use Rattle.hyd_lemmas.proofs.Fractions.{AtMost-itself, AtMost-along, times-rises, over-rises, plus-rises}
-use Rattle.hyd_lemmas.proofs.Enclosing.{down_below, up_above}
-use Rattle.hyd_lemmas.proofs.SquaredFlows.{ratio-above}
+use Rattle.hyd_lemmas.proofs.PairOperations.{down_below, up_above}
+use Rattle.hyd_lemmas.proofs.PumpAndOutletPairs.{ratio-above}
 use Rattle.hyd_lemmas.proofs.Sharpness.{some_factor}
 
 -- neither end of r is above that of s

@@ -15,7 +15,7 @@ use Rattle.hyd_num.specs.Pairs.{IsRatio}
 use Rattle.hyd_num.specs.CapacityPairs.{IsPairOf, IsSquareOver, IsPressurePair, IsMade}
 use Rattle.hyd_num.specs.declared.link_capacities.Capacity.{Capacity}
 use Rattle.hyd_num.specs.declared.link_capacities.Origin.TheVariants.{PressureDemand}
-use Rattle.hyd_num.proofs.Ends.{denominator_positive}
+use Rattle.hyd_num.proofs.EndsInOrder.{denominator_positive}
 use Rattle.hyd_lemmas.proofs.Products.{product_of}
 use Rattle.hyd_lemmas.proofs.Ratios.{ratio_of, quotient_of}
 

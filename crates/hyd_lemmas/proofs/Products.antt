@@ -8,11 +8,11 @@ use borrow.Author.Differences.{up, down}
 use Rattle.hyd_num.specs.declared.binary.Scaled.{Scaled}
 use Rattle.hyd_num.specs.declared.pairs.Pair.{Pair}
 use Rattle.hyd_num.specs.BinaryNumbers.{numerator, denominator, IsDown, IsUp}
-use Rattle.hyd_num.specs.Rounding.{IsCut}
+use Rattle.hyd_num.specs.CutsOfNumbers.{IsCut}
 use Rattle.hyd_num.specs.Pairs.{IsProduct, IsPower, once, even, odd, IsOwnPower}
 use Rattle.hyd_num.proofs.RoundingLemmas.{IsCut-product, IsDown-from_cut, IsUp-exact, IsUp-next}
-use Rattle.hyd_num.proofs.Ends.{products_ordered, denominator_positive}
-use Rattle.hyd_lemmas.proofs.Grains.{above_of}
+use Rattle.hyd_num.proofs.EndsInOrder.{products_ordered, denominator_positive}
+use Rattle.hyd_lemmas.proofs.RoundingErrors.{above_of}
 
 record ProductCut (a b : Scaled) : Type 0 where
   pub number : Scaled

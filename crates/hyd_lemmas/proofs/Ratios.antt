@@ -9,10 +9,10 @@ use borrow.Author.Differences.{up, down}
 use Rattle.hyd_num.specs.declared.binary.Scaled.{Scaled}
 use Rattle.hyd_num.specs.declared.pairs.Pair.{Pair}
 use Rattle.hyd_num.specs.BinaryNumbers.{numerator, denominator}
-use Rattle.hyd_num.specs.Rounding.{IsCut}
+use Rattle.hyd_num.specs.CutsOfNumbers.{IsCut}
 use Rattle.hyd_num.specs.Pairs.{IsRatio, IsQuotient}
 use Rattle.hyd_num.proofs.RoundingLemmas.{IsCut-ratio, IsDown-from_cut}
-use Rattle.hyd_num.proofs.Ends.{ordered, quotients_ordered, numerator_positive, denominator_positive}
+use Rattle.hyd_num.proofs.EndsInOrder.{ordered, quotients_ordered, numerator_positive, denominator_positive}
 use Rattle.hyd_lemmas.proofs.Products.{raised}
 
 -- ---- cuts

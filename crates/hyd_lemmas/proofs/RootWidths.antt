@@ -7,14 +7,15 @@ use Rattle.hyd_num.specs.declared.pairs.Pair.{Pair}
 use Rattle.hyd_num.specs.Fraction.{power, AtMost}
 use Rattle.hyd_num.specs.BinaryNumbers.{numerator, denominator, as_fraction}
 use Rattle.hyd_num.specs.Pairs.{IsOwnPower, IsRootDown, IsRootUp, IsRoot533}
-use Rattle.hyd_num.proofs.Ends.{denominator_positive}
+use Rattle.hyd_num.proofs.EndsInOrder.{denominator_positive}
 use Rattle.hyd_num.proofs.Powers.{pow_one}
-use Rattle.hyd_lemmas.proofs.Enclosing.{own-encloses}
+use Rattle.hyd_lemmas.proofs.PairOperations.{own-encloses}
 use Rattle.hyd_lemmas.proofs.Losses.{square_is}
-use Rattle.hyd_lemmas.proofs.Grains.{grain, above_of, below_of}
+use Rattle.hyd_lemmas.proofs.RoundingErrors.{grain, above_of, below_of}
 use Rattle.hyd_lemmas.proofs.Widths.{IsNear, above, power-near}
-use Rattle.hyd_lemmas.proofs.Factors.{IsWithin, within-none, within-along, within-power, within-root, within-wider}
-use Rattle.hyd_lemmas.proofs.Factors.{ends-within, near-within}
+use Rattle.hyd_lemmas.proofs.FractionsFactorsApart.{IsWithin, within-none, within-along, within-power, within-root}
+use Rattle.hyd_lemmas.proofs.FractionsFactorsApart.{within-wider}
+use Rattle.hyd_lemmas.proofs.FractionsFactorsApart.{ends-within, near-within}
 use Rattle.hyd_lemmas.proofs.Products.{own_power}
 
 -- one factor

@@ -10,8 +10,8 @@ use Rattle.hyd_num.specs.CapacityPairs.{StandsFor, IsMade, IsMinorPair, IsFricti
 use Rattle.hyd_num.specs.CapacityPairs.{IsSquareOver}
 use Rattle.hyd_spec.specs.ProgramTypes.{Origin, Pipe, Valve, Pump, Emitter, PressureDemand, Capacity}
 use Rattle.hyd_spec.specs.CapacityEnclosure.{IsSharp}
-use Rattle.hyd_num.proofs.Ends.{denominator_positive}
-use Rattle.hyd_lemmas.proofs.SquaredFlows.{ratio-above}
+use Rattle.hyd_num.proofs.EndsInOrder.{denominator_positive}
+use Rattle.hyd_lemmas.proofs.PumpAndOutletPairs.{ratio-above}
 use Rattle.hyd_lemmas.proofs.Widths.{IsNear, high, low, ratio-near, product-near, quotient-near, sum-near, power-near}
 use Rattle.hyd_lemmas.proofs.Widths.{wider, near-sharp}
 use Rattle.hyd_lemmas.proofs.RootWidths.{root-near}

@@ -9,10 +9,10 @@ use Rattle.std.proofs.lemmas.Nat.{mul-le, pow-add}
 use Rattle.hyd_num.specs.declared.pairs.Pair.{Pair}
 use Rattle.hyd_num.specs.BinaryNumbers.{numerator, denominator, IsDown, IsUp}
 use Rattle.hyd_num.specs.Pairs.{IsRatio, IsProduct, IsQuotient, IsSum, IsPower, once, even, odd}
-use Rattle.hyd_num.proofs.Ends.{denominator_positive, numerator_positive}
+use Rattle.hyd_num.proofs.EndsInOrder.{denominator_positive, numerator_positive}
 use Rattle.hyd_num.proofs.Powers.{pow_one}
-use Rattle.hyd_lemmas.proofs.Enclosing.{square_is as twice_power}
-use Rattle.hyd_lemmas.proofs.Grains.{grain, grain_is, grain_above, down-near, up-near}
+use Rattle.hyd_lemmas.proofs.PairOperations.{square_is as twice_power}
+use Rattle.hyd_lemmas.proofs.RoundingErrors.{grain, grain_is, grain_above, down-near, up-near}
 
 abbrev pub above : ℕ
 above = grain + 1

@@ -2,7 +2,7 @@
 -- of a text's rows says from its first line on is proved beside the code.
 use Rattle.std.specs.Prelude.{ℕ, ◌≡◌, ◌+◌, ◌<◌, List, [], ◌∷◌, ◌++◌, length, drop, Result}
 use Rattle.hyd_spec_lines.specs.WordsOfLines.{text_lines}
-use Rattle.hyd_spec_lines.specs.Lines.{Row, Begins, kind_of, given}
+use Rattle.hyd_spec_lines.specs.Lines.{Row, LineBegins, kind_of, given}
 use Rattle.hyd_spec_lines.specs.declared.section.Region.{Region}
 use Rattle.hyd_spec_lines.specs.declared.section.Region.TheVariants.{Ended}
 use Rattle.hyd_spec_lines.specs.declared.fault.LexFault.{LexFault}
@@ -25,4 +25,4 @@ items region number (line ∷ lines) =
 -- a line begins here behind so many lines, or the text is at its end
 pub record Stands (text : List ℕ) (at number : ℕ) : Type 0 where
   pub lines : text_lines (drop at text) ≡ drop number (text_lines text)
-  pub begins : at < length text → Begins text at number
+  pub begins : at < length text → LineBegins text at number

@@ -1,4 +1,5 @@
--- Values of hyd_num whose fields are equal are equal: the facts that they keep have one proof each.
+-- Values of hyd_num whose fields are equal are equal, since the facts that they keep have one proof each; and
+-- comparisons of capacities, lists and IDs decide.
 use Rattle.std.proofs.Common.{◌≡◌, ◌*◌, ◌^◌, ◌≤◌, ◌<◌, ℕ, ℤ, Bool, true, ◌&&◌, List, [], ◌∷◌, map, length, get_or, suc}
 use Rattle.std.proofs.Common.{arith, refl, sym, ap, ap₂, ◌∙◌, subst, false, true≢false}
 use Rattle.std.specs.Prelude.{unsigned_abs, ◌≤ℤ◌, ◌==◌}

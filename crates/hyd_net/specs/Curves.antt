@@ -1,10 +1,10 @@
 -- Curves by straight lines between their points, and what is asked of the points of each kind of curve.
 -- Source: EPANET 2.2 User Manual, chapter 3 (curves) and appendix C ([CURVES]); the lines before the first and after
 -- the last point, and the ranges, are this program's.
-use Rattle.std.specs.Prelude.{◌≡◌, ℕ, ◌*◌, ◌^◌, ◌≤◌, List, [], ◌∷◌, length, map, All, AllPairs, HoldsAt, IsTrue, ℤ, pos}
+use Rattle.std.specs.Prelude.{◌≡◌, ℕ, ◌*◌, ◌≤◌, List, [], ◌∷◌, length, map, All, AllPairs, HoldsAt, IsTrue, ℤ, pos}
 use Rattle.std.specs.Prelude.{◌+ℤ◌, ◌-ℤ◌, ◌*ℤ◌, ◌≤ℤ◌, ◌<ℤ◌, int_lt, unsigned_abs, if◌then◌else◌}
 use Rattle.hyd_num.specs.Rational.{Rational, whole, is_at_most, floor}
-use Rattle.hyd_net.specs.NumberRanges.{Lies, IsHead, IsFlow}
+use Rattle.hyd_net.specs.NumberRanges.{Lies, volume_limit, shutoff_head_limit, IsHead, IsFlow}
 use Rattle.hyd_net.specs.declared.curves.VolumePoint.{VolumePoint}
 use Rattle.hyd_net.specs.declared.curves.HeadPoint.{HeadPoint}
 
@@ -64,11 +64,11 @@ volume_knots shape = map (λ (p : VolumePoint). record { place = p.level; value 
 abbrev pub volume_at : List VolumePoint → ℤ → ℤ
 volume_at shape level = floor (value_at 1 (volume_knots shape) level)
 
--- at least two points; levels are heads, volumes at most 10^18 volume ticks (10^9 cubic metres), and both rise
+-- at least two points; levels are heads, volumes at most their limit, and both rise
 pub record IsVolumeCurve (shape : List VolumePoint) : Type 0 where
   pub two : 2 ≤ length shape
   pub levels : All (λ (p : VolumePoint). IsHead p.level) shape
-  pub volumes : All (λ (p : VolumePoint). Lies (pos 0) (pos (10 ^ 18)) p.volume) shape
+  pub volumes : All (λ (p : VolumePoint). Lies (pos 0) (pos volume_limit) p.volume) shape
   pub levels_rise : AreRising (map (λ (p : VolumePoint). p.level) shape)
   pub volumes_rise : AreRising (map (λ (p : VolumePoint). p.volume) shape)
 
@@ -79,7 +79,7 @@ abbrev pub head_knots : List HeadPoint → List Knot
 head_knots bend = map (λ (p : HeadPoint). record { place = p.flow; value = p.head }) bend
 
 -- a pump's curve by straight lines: at least four points; flows are at least 0 and rise, heads fall to no less than 0,
--- and at flow 0 the line of the first two points gives at most 10^16 ticks (1,000 m)
+-- and at flow 0 the line of the first two points gives at most the limit of shutoff heads
 pub record IsPumpCurve (bend : List HeadPoint) : Type 0 where
   pub four : 4 ≤ length bend
   pub flows : All (λ (p : HeadPoint). IsFlow p.flow) bend
@@ -87,7 +87,7 @@ pub record IsPumpCurve (bend : List HeadPoint) : Type 0 where
   pub flows_rise : AreRising (map (λ (p : HeadPoint). p.flow) bend)
   pub heads_fall : AreFalling (map (λ (p : HeadPoint). p.head) bend)
   pub lifts : All (λ (p : HeadPoint). pos 0 ≤ℤ p.head) bend
-  pub shutoff : IsTrue (is_at_most (value_at 1 (head_knots bend) (pos 0)) (whole (pos (10 ^ 16))))
+  pub shutoff : IsTrue (is_at_most (value_at 1 (head_knots bend) (pos 0)) (whole (pos shutoff_head_limit)))
 
 -- a general purpose valve's curve: at least two points, the first of no flow and no loss; flows and losses rise
 pub record IsLossCurve (bend : List HeadPoint) : Type 0 where

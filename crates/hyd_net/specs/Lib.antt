@@ -1,4 +1,5 @@
 pub mod ControlsAndRules
+pub mod CountLimits
 pub mod Curves
 pub mod Ids
 pub mod ListAfterBorrow

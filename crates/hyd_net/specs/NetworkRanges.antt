@@ -9,8 +9,8 @@ use Rattle.hyd_num.specs.declared.decimals.Decimal.{Decimal}
 use Rattle.hyd_num.specs.declared.link_capacities.Origin.{Origin}
 use Rattle.hyd_num.specs.declared.link_capacities.Origin.TheVariants.{Pipe as PipeOrigin, Valve as ValveOrigin}
 use Rattle.hyd_num.specs.declared.link_capacities.Origin.TheVariants.{Pump as PumpOrigin, Emitter as EmitterOrigin}
-use Rattle.hyd_net.specs.NumberRanges.{Lies, LiesWithin, head_limit, IsHead, IsFlow, IsUpTo, IsNumberUpTo}
-use Rattle.hyd_net.specs.NumberRanges.{IsPositiveUpTo, Numbers}
+use Rattle.hyd_net.specs.NumberRanges.{Lies, LiesWithin, head_limit, shutoff_head_limit, least_level_difference, IsHead}
+use Rattle.hyd_net.specs.NumberRanges.{least_volume_difference, IsFlow, IsUpTo, IsNumberUpTo, IsPositiveUpTo, Numbers}
 use Rattle.hyd_net.specs.ListView.{ListView}
 use Rattle.hyd_net.specs.Curves.{volume_at, IsVolumeCurve, IsPumpCurve, IsLossCurve}
 use Rattle.hyd_net.specs.declared.curves.VolumePoint.{VolumePoint}
@@ -57,7 +57,7 @@ pub record IsDemand (patterns : List Pattern) (demand : Demand) : Type 0 where
   pub base : IsFlow demand.base
   pub pattern : HasPattern (λ _. ⊤) patterns demand.pattern
 
--- an emitter's coefficient: above 0 and at most 10^6, in the project's unit
+-- an emitter's coefficient: above 0 and at most 10^6, in the network's unit
 pub record IsEmitterNumber (unit : FlowUnit) (coefficient : Decimal) (own : FlowUnit) : Type 0 where
   pub range : IsPositiveUpTo (10 ^ 6) coefficient
   pub same_unit : own ≡ unit
@@ -80,28 +80,28 @@ pub record IsReservoir (patterns : List Pattern) (reservoir : Reservoir) : Type 
       reservoir.pattern
 
 -- a tank's volume curve goes from its minimum or below to its maximum or above; from the minimum to the maximum it
--- holds at least 10^6 volume ticks (a litre)
+-- holds the least difference of volumes or more
 pub record IsShapeOf (tank : Tank) (shape : List VolumePoint) : Type 0 where
   pub curve : IsVolumeCurve shape
   pub from_minimum : HoldsAt (λ (p : VolumePoint). p.level ≤ℤ tank.minimum) shape 0
   pub to_maximum : HoldsAt (λ (p : VolumePoint). tank.maximum ≤ℤ p.level) shape (length shape - 1)
-  pub apart : pos (10 ^ 6) ≤ℤ (volume_at shape tank.maximum -ℤ volume_at shape tank.minimum)
+  pub apart : pos least_volume_difference ≤ℤ (volume_at shape tank.maximum -ℤ volume_at shape tank.minimum)
 
--- levels are at least 0 and in order, the least and the greatest at least 0.01 foot apart; the bottom is a head, and so
--- is the greatest level above it; the diameter is 0.1 to 1,000 feet or metres, or 0 to 1,000 where there is a volume
--- curve
+-- levels are at least 0 and in order, the least and the greatest apart by the least level difference or more; the
+-- bottom is a head, and so is the greatest level above it; the diameter is 0.1 to 1,000 feet or metres, or 0 to 1,000
+-- where there is a volume curve
 pub record IsTank (shapes : List (ListView VolumePoint)) (tank : Tank) : Type 0 where
   pub bottom : IsHead tank.bottom
   pub lowest : pos 0 ≤ℤ tank.minimum
   pub initial : Lies tank.minimum tank.maximum tank.initial
-  pub apart : pos 30480000000 ≤ℤ (tank.maximum -ℤ tank.minimum)
+  pub apart : pos least_level_difference ≤ℤ (tank.maximum -ℤ tank.minimum)
   pub top : IsHead (tank.bottom +ℤ tank.maximum)
   pub diameter : Lies (pos (if is_some tank.shape then 0 else 10 ^ 8)) (pos (1000 * 10 ^ 9)) tank.diameter.nano
   pub shape : IfSome tank.shape (Numbers (λ (shape : ListView VolumePoint). IsShapeOf tank shape.list) shapes)
 
 -- ---- links
 
--- a pipe's numbers, in feet and inches or in metres and millimetres as the project says
+-- a pipe's numbers, in feet and inches or in metres and millimetres as the network says
 pub record IsPipeNumbers (unit : FlowUnit) (length diameter roughness minor : Decimal) (us : Bool) : Type 0 where
   pub long : IsPositiveUpTo (10 ^ 6) length
   pub across : IsPositiveUpTo (10 ^ 4) diameter
@@ -137,18 +137,18 @@ pub record IsPumpNumbers (unit : FlowUnit) (flow drop : Decimal) (own : FlowUnit
   pub drops : pos 1 ≤ℤ drop.nano
   pub same_unit : own ≡ unit
 
--- a curve of one point: a third of its head, which is above 0, is lost at its flow; four thirds of it are at most 10^16
--- ticks
+-- a curve of one point: a third of its head, which is above 0, is lost at its flow; four thirds of it are at most the
+-- limit of such heads
 pub record IsOnePoint (unit : FlowUnit) (head drop : Decimal) (thirds : ℕ) : Type 0 where
   pub above : pos 1 ≤ℤ head.nano
   pub lost : drop.nano ≡ head.nano
   pub in_thirds : thirds ≡ 3
-  pub range : (pos 4 *ℤ head_ticks (is_us_unit unit) head.nano) ≤ℤ pos (3 * 10 ^ 16)
+  pub range : (pos 4 *ℤ head_ticks (is_us_unit unit) head.nano) ≤ℤ pos (3 * shutoff_head_limit)
 
--- a curve of three points: the shutoff head is at most 10^16 ticks up or down
+-- a curve of three points: the shutoff head is at most the limit of such heads up or down
 pub record IsThreePoints (unit : FlowUnit) (head : Decimal) (thirds : ℕ) : Type 0 where
   pub whole : thirds ≡ 1
-  pub range : LiesWithin (10 ^ 16) (head_ticks (is_us_unit unit) head.nano)
+  pub range : LiesWithin shutoff_head_limit (head_ticks (is_us_unit unit) head.nano)
 
 -- a pump curve of one or of three points
 abbrev pub IsCurve : FlowUnit → ShutoffHead → Decimal → ℕ → Type 0
@@ -179,7 +179,7 @@ HasSizes unit patterns bends (Gpv bend) = HasBend IsLossCurve bends bend
 
 -- ---- all of them
 
--- all quantities of a project are in range
+-- all quantities of a network are in range
 pub record HasQuantities (p : Project) : Type 0 where
   pub options : HasOptions p.options p.patterns.list
   pub junctions : All (IsJunction p.options.unit p.patterns.list) p.junctions.list

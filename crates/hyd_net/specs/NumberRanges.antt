@@ -20,6 +20,23 @@ head_limit = 10 ^ 17
 abbrev pub flow_limit : ℕ
 flow_limit = 10 ^ 15
 
+-- the greatest volume, in volume ticks of 10^-9 cubic metres: 10^9 cubic metres
+abbrev pub volume_limit : ℕ
+volume_limit = 10 ^ 18
+
+-- how far up or down the head of a pump goes at no flow, in head ticks: 1,000 metres
+abbrev pub shutoff_head_limit : ℕ
+shutoff_head_limit = 10 ^ 16
+
+-- the least by which a tank's maximum level exceeds its minimum, in head ticks: 0.01 foot
+abbrev pub least_level_difference : ℕ
+least_level_difference = 30480000000
+
+-- the least by which what a tank holds at its maximum level exceeds what it holds at its minimum, in volume ticks of
+-- 10^-9 cubic metres: a litre
+abbrev pub least_volume_difference : ℕ
+least_volume_difference = 10 ^ 6
+
 -- a head, an elevation or a level in head ticks is in range
 abbrev pub IsHead : ℤ → Type 0
 IsHead ticks = LiesWithin head_limit ticks

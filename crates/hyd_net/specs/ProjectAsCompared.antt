@@ -1,4 +1,4 @@
--- A project without what the comparison of two projects leaves aside: the numbers of the file that are kept beside a
+-- A network without what the comparison of two networks leaves aside: the numbers of the file that are kept beside a
 -- rounded form, and the spare of its lists. Each such number is put to 0 here, and each spare too.
 use Rattle.std.specs.Prelude.{map, pos}
 use Rattle.std.specs.Option.{option_map}
@@ -126,7 +126,7 @@ compared_rule r = record {
   priority = r.priority;
 }
 
--- the project with all that is left aside put to 0
+-- the network with all that is left aside put to 0
 abbrev pub compared_project : Project → Project
 compared_project p =
     record {

@@ -156,7 +156,7 @@ pub record IsRuleMade (unit : FlowUnit) (r : Rule) : Type 0 where
   pub yes : All (λ a. IsStateMade unit a.to) r.yes.list
   pub no : All (λ a. IsStateMade unit a.to) r.no.list
 
--- each rounded form of a project is made of its numbers
+-- each rounded form of a network is made of its numbers
 pub record IsAllMade (p : Project) : Type 0 where
   pub emitters : All (λ j. IfSome j.emitter IsMade) p.junctions.list
   pub areas : All (IsAreaMade p.options.unit) p.tanks.list

@@ -1,10 +1,13 @@
--- What is asked of the project of an input file: its ids, counts, numbers and quantities are in range, and each rounded
+-- What is asked of the network of an input file: its ids, counts, numbers and quantities are in range, and each rounded
 -- form is the one that the numbers beside it make. (EPANET 2.2 User Manual, Input File Format, for what the sections
 -- hold.)
 use Rattle.std.specs.Prelude.{◌≡◌, ◌≢◌, ℕ, ◌+◌, ◌*◌, ◌^◌, ◌<◌, ◌≤◌, length, sum_by, nat_lt, if◌then◌else◌}
 use Rattle.std.specs.List.{All}
 use Rattle.hyd_net.specs.Ids.{AreDistinct, IsId}
 use Rattle.hyd_net.specs.NumberRanges.{LiesWithin}
+use Rattle.hyd_net.specs.CountLimits.{most_junctions, most_reservoirs, most_tanks, most_links, most_patterns}
+use Rattle.hyd_net.specs.CountLimits.{most_multipliers, most_curves, most_points, most_demands, most_controls}
+use Rattle.hyd_net.specs.CountLimits.{most_rules, most_parts}
 use Rattle.hyd_net.specs.States.{CanHave}
 use Rattle.hyd_net.specs.NetworkRanges.{HasQuantities}
 use Rattle.hyd_net.specs.RoundedFileNumbers.{IsAllMade}
@@ -40,22 +43,22 @@ demand_rows j = if nat_lt 1 (length j.demands.list) then length j.demands.list e
 abbrev pub part_count : Rule → ℕ
 part_count r = length r.clauses.list + length r.yes.list + length r.no.list
 
--- no table is longer than the program's limit
+-- no table is longer than its limit
 pub record IsWithinLimits (p : Project) : Type 0 where
-  pub junctions : length p.junctions.list ≤ 10000
-  pub reservoirs : length p.reservoirs.list ≤ 1000
-  pub tanks : length p.tanks.list ≤ 32
-  pub links : length p.links.list ≤ 20000
-  pub patterns : length p.patterns.list ≤ 1000
-  pub multipliers : sum_by (λ (q : Pattern). length q.multipliers.list) p.patterns.list ≤ 1000000
-  pub shapes : length p.shapes.list ≤ 1000
-  pub shape_points : sum_by (λ (shape : ListView VolumePoint). length shape.list) p.shapes.list ≤ 100000
-  pub bends : length p.bends.list ≤ 1000
-  pub bend_points : sum_by (λ (bend : ListView HeadPoint). length bend.list) p.bends.list ≤ 100000
-  pub demands : sum_by demand_rows p.junctions.list ≤ 100000
-  pub controls : length p.controls.list ≤ 10000
-  pub rules : length p.rules.list ≤ 10000
-  pub parts : sum_by part_count p.rules.list ≤ 100000
+  pub junctions : length p.junctions.list ≤ most_junctions
+  pub reservoirs : length p.reservoirs.list ≤ most_reservoirs
+  pub tanks : length p.tanks.list ≤ most_tanks
+  pub links : length p.links.list ≤ most_links
+  pub patterns : length p.patterns.list ≤ most_patterns
+  pub multipliers : sum_by (λ (q : Pattern). length q.multipliers.list) p.patterns.list ≤ most_multipliers
+  pub shapes : length p.shapes.list ≤ most_curves
+  pub shape_points : sum_by (λ (shape : ListView VolumePoint). length shape.list) p.shapes.list ≤ most_points
+  pub bends : length p.bends.list ≤ most_curves
+  pub bend_points : sum_by (λ (bend : ListView HeadPoint). length bend.list) p.bends.list ≤ most_points
+  pub demands : sum_by demand_rows p.junctions.list ≤ most_demands
+  pub controls : length p.controls.list ≤ most_controls
+  pub rules : length p.rules.list ≤ most_rules
+  pub parts : sum_by part_count p.rules.list ≤ most_parts
 
 -- ---- links
 
@@ -91,8 +94,8 @@ pub record AreTimes (t : Times) : Type 0 where
 
 -- ---- all of it
 
--- a project is sound
-pub record Sound (p : Project) : Type 0 where
+-- a network is sound
+pub record IsSound (p : Project) : Type 0 where
   pub ids : HasIds p
   pub counts : IsWithinLimits p
   -- both ends of each link are nodes that differ

@@ -1,4 +1,4 @@
-//! Comparison of two projects.
+//! Comparison of two networks.
 #![tactic(auto)]
 
 ghost use Rattle.std.specs.Prelude.{◌≡◌, ◌↔◌, IsTrue, map};
@@ -385,7 +385,7 @@ fn same_curves(a: &Project, b: &Project) -> bool
     same_list(&a.shapes, &b.shapes) && same_list(&a.bends, &b.bends)
 }
 
-/// Whether all fields of two projects are equal, the numbers of the file aside from which a
+/// Whether all fields of two networks are equal, the numbers of the file aside from which a
 /// capacity, a shutoff head, a tank's area and the amount of a clause were made.
 pub fn same(a: &Project, b: &Project) -> bool
     ensures { IsTrue result ↔ (compared_project a.now ≡ compared_project b.now) }

@@ -1,5 +1,6 @@
-//! The network as an input file gives it: its nodes, links, patterns, controls and rules, with all
-//! quantities as whole numbers of ticks, and the two containers that hold them.
+//! The network as an input file gives it: its nodes, links, curves, patterns, controls and rules, with all quantities
+//! as whole numbers of ticks, and the two containers that hold them; the causes for which a text is refused; and
+//! whether two networks are the same.
 #![tactic(auto)]
 
 mod comparison;

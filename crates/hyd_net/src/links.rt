@@ -36,7 +36,7 @@ pub enum LinkKind {
     },
     /// A pump whose curve is one by straight lines.
     CurvePump {
-        /// The number of its curve among the project's bends.
+        /// The number of its curve among the network's bends.
         bend: u32,
         /// The number of the pattern of its speeds.
         pattern: Option<u32>,
@@ -51,7 +51,7 @@ pub enum LinkKind {
     },
     /// A general purpose valve, whose losses are a curve by straight lines.
     Gpv {
-        /// The number of its curve among the project's bends.
+        /// The number of its curve among the network's bends.
         bend: u32,
     },
 }

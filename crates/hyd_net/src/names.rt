@@ -1,4 +1,4 @@
-//! `Names`, the table of the IDs of nodes or of links.
+//! `Names`, a table of IDs: of nodes or of links, and where a file is read of what else it numbers by name.
 ghost use Rattle.std.specs.Prelude.{◌≡◌, ◌+◌, ◌^◌, ◌<◌, ◌↔◌, [], ◌∷◌, ◌++◌, length, position, slice_get, if◌then◌else◌};
 ghost use Rattle.std.specs.Prelude.{Contains, IsSome, IfSome, IfOk, OnErr, IsTrue, false};
 ghost use Rattle.std.specs.Str.{bytes_eq};

@@ -39,7 +39,7 @@ pub struct Tank {
     pub area: i64,
     /// The file's diameter in feet or metres, from which the area is made.
     pub diameter: Decimal,
-    /// The number of its volume curve among the project's shapes.
+    /// The number of its volume curve among the network's shapes.
     pub shape: Option<u32>,
     /// Whether it takes inflow where it is full, which is spilled.
     pub overflow: bool,

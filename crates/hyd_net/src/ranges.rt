@@ -10,6 +10,12 @@ pub const GREATEST_HEAD: i128 = 100_000_000_000_000_000;
 /// The greatest flow, either way, in flow ticks of 10^-7 cubic metres a day.
 pub const GREATEST_FLOW: i128 = 1_000_000_000_000_000;
 
+/// The greatest volume, in volume ticks of 10^-9 cubic metres.
+pub const GREATEST_VOLUME: i128 = 1_000_000_000_000_000_000;
+
+/// The greatest head of a pump at no flow, up or down, in head ticks.
+pub const GREATEST_SHUTOFF_HEAD: i128 = 10_000_000_000_000_000;
+
 /// The greatest relative speed of a pump, in billionths.
 pub const GREATEST_SPEED: i128 = 10 * BILLION;
 

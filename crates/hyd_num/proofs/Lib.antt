@@ -2,7 +2,7 @@ pub mod Integers
 pub mod Floors
 pub mod RoundingLemmas
 pub mod LongDivision
-pub mod Ends
+pub mod EndsInOrder
 pub mod CapacityRoots
 pub mod Digits
 pub mod NumeralParts

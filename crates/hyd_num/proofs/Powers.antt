@@ -10,7 +10,7 @@ use Rattle.hyd_num.specs.declared.binary.Scaled.{Scaled}
 use Rattle.hyd_num.specs.declared.pairs.Pair.{Pair}
 use Rattle.hyd_num.specs.BinaryNumbers.{numerator, denominator, IsDown, IsUp}
 use Rattle.hyd_num.specs.Pairs.{IsProduct, IsPower, once, even, odd}
-use Rattle.hyd_num.proofs.Ends.{denominator_positive}
+use Rattle.hyd_num.proofs.EndsInOrder.{denominator_positive}
 
 -- s is at most t
 pub record Below (s t : Scaled) : Type 0 where

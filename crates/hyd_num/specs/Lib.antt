@@ -4,9 +4,9 @@ pub mod Pairs
 pub mod Numeral
 pub mod FileQuantity
 pub mod CapacityPairs
-pub mod Rounding
+pub mod CutsOfNumbers
 pub mod QuotientsAndRoots
 pub mod PrintedDecimals
 pub mod Rational
 pub mod CapacityRange
-pub mod Wide
+pub mod NumbersInParts

@@ -1,4 +1,4 @@
-//! Numbers as a file gives them.
+//! Numbers as a file gives them, and spans, which enclose a number by two whole ones.
 #![tactic(auto)]
 
 ghost use Rattle.std.specs.Prelude.{◌^◌, ◌≤◌, ◌≤ℤ◌, unsigned_abs};

@@ -3,9 +3,9 @@
 
 ghost use Rattle.std.specs.Prelude.{◌≡◌, ℕ, ◌+◌, ◌*◌, ◌^◌, ◌<◌, ◌≤◌};
 ghost use Rattle.hyd_num.specs.BinaryNumbers.{reach};
-ghost use Rattle.hyd_num.specs.Rounding.{IsCut};
+ghost use Rattle.hyd_num.specs.CutsOfNumbers.{IsCut};
 
-use crate::rounding::{Cut, cut_at};
+use crate::binary_arithmetic::{Cut, cut_at};
 
 const TWO_TO_62: u128 = 0x4000_0000_0000_0000;
 

@@ -1,8 +1,10 @@
-//! Numbers of the network simulator: decimals of a file, whole-number roots and quotients, and
-//! pairs of 63-bit binary numbers that enclose a positive real number.
+//! Numbers of the network simulator: decimals of a file and the units of flows, whole-number roots and quotients,
+//! products and their comparison, pairs of 63-bit binary numbers that enclose a positive real number, and the
+//! capacities that pairs make.
 #![tactic(auto)]
 
 mod binary;
+mod binary_arithmetic;
 mod decimals;
 mod flow_units;
 mod fractions;
@@ -14,7 +16,6 @@ mod power_5_33;
 mod products;
 mod quotients;
 mod roots;
-mod rounding;
 mod scaled_roots;
 mod square_comparison;
 

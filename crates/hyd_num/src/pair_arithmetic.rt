@@ -10,9 +10,9 @@ ghost use Rattle.hyd_num.specs.BinaryNumbers.{numerator, denominator, reach, IsD
 ghost use Rattle.hyd_num.specs.Pairs.{IsRatio, IsProduct, IsQuotient, IsSum, IsPower, StaysNear, pair_reach};
 
 use crate::binary::Scaled;
+use crate::binary_arithmetic::{product, quotient, raised, sum};
 use crate::fractions::fraction;
 use crate::pairs::Pair;
-use crate::rounding::{product, quotient, raised, sum};
 
 /// The pair of two ends.
 pub fn between(lo: Scaled, hi: Scaled) -> Pair

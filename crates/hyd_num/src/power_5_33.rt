@@ -5,12 +5,12 @@ ghost use Rattle.std.specs.Prelude.{◌≡◌, ℕ, ◌+◌, ◌*◌, ◌^◌, �
 ghost use Rattle.std.specs.Prelude.{unsigned_abs};
 ghost use Rattle.hyd_num.specs.BinaryNumbers.{numerator, denominator, reach};
 ghost use Rattle.hyd_num.specs.Pairs.{IsOwnPower, RootsBelow, RootsAbove, IsRootDown, IsRootUp, IsRoot533, pair_reach};
-ghost use Rattle.hyd_num.specs.Rounding.{RootsOver, RootsUnder};
+ghost use Rattle.hyd_num.specs.CutsOfNumbers.{RootsOver, RootsUnder};
 
 use crate::binary::Scaled;
+use crate::binary_arithmetic::scaled;
 use crate::pair_arithmetic::{between, pow};
 use crate::pairs::Pair;
-use crate::rounding::scaled;
 
 /// The enclosure of `d` to the power 5.33.
 pub fn root533(d: Pair) -> Pair

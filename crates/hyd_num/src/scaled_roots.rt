@@ -6,8 +6,8 @@ ghost use Rattle.hyd_num.specs.BinaryNumbers.{numerator, denominator};
 ghost use Rattle.hyd_num.specs.QuotientsAndRoots.{IsSquareRootDown, IsSquareRootUp};
 
 use crate::binary::Scaled;
+use crate::binary_arithmetic::power_of_two;
 use crate::roots::isqrt;
-use crate::rounding::power_of_two;
 
 /// The greatest whole number whose square is at most `c * d`.
 pub fn sqrt_down(c: Scaled, d: u64) -> u64

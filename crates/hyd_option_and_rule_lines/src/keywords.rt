@@ -2,9 +2,8 @@
 #![tactic(auto)]
 
 ghost use Rattle.std.specs.Prelude.{◌≡◌, ◌≤◌, IfSome};
-ghost use Rattle.hyd_spec_lines.specs.Headings.{is_one_of};
+ghost use Rattle.hyd_spec_lines.specs.Headings.{is_one_of, first_named, either};
 ghost use Rattle.hyd_spec_input.specs.Keywords as form;
-ghost use Rattle.hyd_spec_input.specs.Keywords.{first_named};
 ghost use Rattle.hyd_spec_input.specs.Moments as moments;
 ghost use Rattle.hyd_spec_input.specs.RuleRows.{unsupported_attributes};
 
@@ -179,7 +178,7 @@ fn unused_option(word: &[u8]) -> Option<OptionWord>
 
 // The options of the second table, and those that are read over.
 fn other_option(word: &[u8]) -> Option<OptionWord>
-    ensures { result ≡ form.either (first_named form.more_option_words word.now) (form.unused_option word.now) }
+    ensures { result ≡ either (first_named form.more_option_words word.now) (form.unused_option word.now) }
 {
     match second_option(word) {
         Some(meaning) => Some(meaning),
@@ -295,7 +294,7 @@ fn link_object(word: &[u8]) -> Option<ObjectWord>
 }
 
 fn node_or_link_object(word: &[u8]) -> Option<ObjectWord>
-    ensures { result ≡ form.either (form.node_object (form.node_word word.now))
+    ensures { result ≡ either (form.node_object (form.node_word word.now))
         (form.link_object (form.link_word word.now)) }
 {
     match node_word(word) {

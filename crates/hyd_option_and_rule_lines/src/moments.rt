@@ -26,7 +26,7 @@ const DAY: i128 = 86_400 * BILLION;
 
 /// The first word of a time.
 #[derive(Debug, Clone, Copy, PartialEq, Eq, Drop)]
-pub(crate) enum Moment {
+pub(crate) enum FirstWordOfTime {
     /// Hours, minutes and maybe seconds, in seconds.
     Clock(u32),
     /// A number of units.
@@ -35,28 +35,28 @@ pub(crate) enum Moment {
 
 // The first word of a time: Syntax for a word with a colon that isn't hours, minutes and seconds, Number for another
 // word that is no number.
-fn first_word(word: &[u8]) -> Result<Moment, Cause>
+fn first_word(word: &[u8]) -> Result<FirstWordOfTime, Cause>
     ensures { Judged (form.moment_word word.now) result (IsMoment word.now) }
 {
     if !has_colon(word) {
         let number = number_of(word)?;
-        return Ok(Moment::Number(number));
+        return Ok(FirstWordOfTime::Number(number));
     }
     match clock_seconds(word) {
-        Some(seconds) => Ok(Moment::Clock(seconds)),
+        Some(seconds) => Ok(FirstWordOfTime::Clock(seconds)),
         None => Err(Cause::Syntax),
     }
 }
 
 // Billionths of a second, where one of the number is so many seconds.
-fn nano(word: &[u8], moment: Moment, per: u32) -> i128
+fn nano(word: &[u8], moment: FirstWordOfTime, per: u32) -> i128
     requires is_moment { IsMoment word.now moment }
     requires short { per ≤ 86400 }
     ensures { result ≡ form.moment_nano per word.now }
 {
     match moment {
-        Moment::Clock(seconds) => i128::from(seconds) * BILLION,
-        Moment::Number(number) => number.nano * i128::from(per),
+        FirstWordOfTime::Clock(seconds) => i128::from(seconds) * BILLION,
+        FirstWordOfTime::Number(number) => number.nano * i128::from(per),
     }
 }
 

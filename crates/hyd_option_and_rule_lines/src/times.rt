@@ -84,10 +84,7 @@ pub fn read_time_line(text: &Lines<'_>, line: &Line) -> Result<TimeSet, Cause>
         return Err(Cause::Syntax);
     };
     match time {
-        TimeWord::Duration => {
-            let seconds = read_time(text, line, 1)?;
-            Ok(TimeSet::Duration(seconds))
-        }
+        TimeWord::Duration => Ok(TimeSet::Duration(read_time(text, line, 1)?)),
         TimeWord::Hydraulic => {
             let seconds = step(text, line)?;
             Ok(TimeSet::Hydraulic(seconds))
@@ -110,10 +107,7 @@ pub fn read_time_line(text: &Lines<'_>, line: &Line) -> Result<TimeSet, Cause>
             let seconds = step(text, line)?;
             Ok(TimeSet::Rule(seconds))
         }
-        TimeWord::Start => {
-            let seconds = start(text, line)?;
-            Ok(TimeSet::StartClock(seconds))
-        }
+        TimeWord::Start => Ok(TimeSet::StartClock(start(text, line)?)),
         TimeWord::Quality => {
             keyword(text, line, 1, b"TIMESTEP")?;
             Ok(TimeSet::Unused)

@@ -1,2 +1,2 @@
-pub mod Bounding
-pub mod Finishing
+pub mod FactsByVectors
+pub mod EndedPeriods

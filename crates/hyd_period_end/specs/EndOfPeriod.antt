@@ -14,7 +14,7 @@ use Rattle.hyd_tank.specs.StockIntervals.{AreHeld, volumes_of}
 use Rattle.hyd_period_facts.specs.FactsOfPeriod.{AreFacts}
 use Rattle.hyd_period_facts.specs.ReservedMemory.{Takes}
 use Rattle.hyd_period_facts.specs.declared.facts.Facts.{Facts}
-use Rattle.hyd_rule_operands.specs.ReservedMemory.{HasRoom as HasReadingsRoom}
+use Rattle.hyd_rule_readings.specs.ReservedMemory.{HasRoom as HasReadingsRoom}
 use Rattle.hyd_period_stocks.specs.TankStart.{stocks_among}
 use Rattle.hyd_period_stocks.specs.ReservedMemory.{HasRoom as HasNextRoom}
 use Rattle.hyd_period_stocks.specs.declared.tanks_at_start.TankStart.{TankStart}

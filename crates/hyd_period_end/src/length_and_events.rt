@@ -2,7 +2,7 @@
 #![tactic(auto)]
 
 ghost use Rattle.std.specs.Prelude.{◌≡◌, ◌≤◌, ◌+◌, ◌^◌, length, map};
-ghost use Rattle.hyd_net.specs.Sound.{Sound};
+ghost use Rattle.hyd_net.specs.Sound.{IsSound};
 ghost use Rattle.hyd_spec.specs.NodeNumbers.{tank_count};
 ghost use Rattle.hyd_spec_certificates.specs.PeriodNetwork.{Grid};
 ghost use Rattle.hyd_spec_certificates.specs.RecordAndStanding.{Record, Standing};
@@ -23,7 +23,7 @@ pub(crate) fn tell_end(
     seconds: u32,
     carried: &mut List<LevelSpan>,
 )
-    requires sound { Sound project.now }
+    requires sound { IsSound project.now }
     requires tanks { HaveTanks project.now facts.old }
     requires seconds { seconds ≤ 10 ^ 8 }
     requires carried { Takes carried.old (tank_count project.now) }

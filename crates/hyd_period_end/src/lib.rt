@@ -1,8 +1,8 @@
 //! The end of a period: by its vectors, when it is over and what follows, or the first matter that they leave open.
 #![tactic(auto)]
 
-mod deciding;
-mod inflows_and_operands;
+mod end_and_what_follows;
+mod inflows_and_readings;
 mod length_and_events;
 mod period_end;
 mod undecided;

@@ -2,22 +2,22 @@
 #![tactic(auto)]
 
 ghost use Rattle.std.specs.Prelude.{◌≡◌, ◌<◌, ◌≤◌, ◌+◌, length, IfOk, IfErr, OnOk, OnErr};
-ghost use Rattle.hyd_net.specs.Sound.{Sound};
+ghost use Rattle.hyd_net.specs.Sound.{IsSound};
 ghost use Rattle.hyd_spec.specs.NodeNumbers.{tank_count};
 ghost use Rattle.hyd_spec_certificates.specs.RecordAndStanding.{Record as Row, Standing};
 ghost use Rattle.hyd_spec_certificates.specs.Valid.{AreCertificates};
 ghost use Rattle.hyd_cert.specs.RecordView.{row_of};
 ghost use Rattle.hyd_period_facts.specs.ReservedMemory.{HasRoom as HasFactsRoom};
 ghost use Rattle.hyd_period_network.specs.NetAsPeriodNetwork.{grid_of};
-ghost use Rattle.hyd_period_network.specs.Periods.{IsNetOf};
-ghost use Rattle.hyd_bounds.specs.VectorsInOrder.{TanksInOrder};
+ghost use Rattle.hyd_period_network.specs.NetsSetToPeriods.{IsNetOf};
+ghost use Rattle.hyd_theorems_on_definitions.specs.TermsOfTheorems.{TanksInOrder};
 ghost use Rattle.hyd_watched_levels.specs.FactsBeforeEnd.{HaveTanks};
 ghost use Rattle.hyd_period_end.specs.FactsBeforeVectors.{AreBegun, AreReady};
 ghost use Rattle.hyd_period_end.specs.EndOfPeriod.{HasRoom, AreKeptIn, IsClosed};
 ghost use Rattle.hyd_period_end.specs.OpenMatters.{IsOpenAt, SharesVectors};
 
-use crate::deciding::{decide_end, follow};
-use crate::inflows_and_operands::look;
+use crate::end_and_what_follows::{decide_end, follow};
+use crate::inflows_and_readings::look;
 use crate::length_and_events::tell_end;
 use crate::undecided::Open;
 use hyd_cert::Record;
@@ -25,7 +25,7 @@ use hyd_net::{LinkState, List, OutOfMemory, Project};
 use hyd_period_facts::Facts;
 use hyd_period_network::Net;
 use hyd_period_stocks::TankStart;
-use hyd_rule_operands::Readings;
+use hyd_rule_readings::Readings;
 use hyd_spec_certificates::LevelSpan;
 use std::alloc::Global;
 
@@ -68,9 +68,9 @@ fn no_levels(alloc: Global, count: usize) -> Result<List<LevelSpan>, OutOfMemory
 }
 
 impl PeriodEnd {
-    /// Room for the end of each period of a project: no end takes memory.
+    /// Room for the end of each period of a network: no end takes memory.
     pub fn open(alloc: Global, project: &Project) -> Result<PeriodEnd, OutOfMemory>
-        requires { Sound project.now }
+        requires { IsSound project.now }
         ensures room { IfOk result (HasRoom project.now) }
     {
         Ok(PeriodEnd {
@@ -97,7 +97,7 @@ impl PeriodEnd {
         row: &mut Record,
         facts: &mut Facts,
     ) -> Result<(), Open>
-        requires sound { Sound project.now }
+        requires sound { IsSound project.now }
         requires of { IsNetOf project.now net.now }
         requires order { TanksInOrder (grid_of net.now) }
         requires certificates { AreCertificates project.now (grid_of net.now) (row_of row.old) }

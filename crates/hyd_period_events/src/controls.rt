@@ -2,7 +2,7 @@
 #![tactic(auto)]
 
 ghost use Rattle.std.specs.Prelude.{◌≡◌, ◌<◌, ◌≤◌, ◌+◌, ◌++◌, Some, length, map, slice_get};
-ghost use Rattle.hyd_net.specs.Sound.{Sound};
+ghost use Rattle.hyd_net.specs.Sound.{IsSound};
 ghost use Rattle.hyd_net.specs.ControlsAndRules.{IsControl};
 ghost use Rattle.hyd_spec.specs.ProgramTypes.{Control as Each};
 ghost use Rattle.hyd_spec.specs.Lists.{map_from, present};
@@ -62,7 +62,7 @@ fn event_at(
     carried: &[LevelSpan],
     number: u32,
 ) -> Option<Event>
-    requires sound { Sound project.now }
+    requires sound { IsSound project.now }
     requires in_range { number < length project.now.controls.list }
     requires each_before { length before.now ≡ tank_count project.now }
     requires each_carried { length carried.now ≡ tank_count project.now }
@@ -80,7 +80,7 @@ pub(crate) fn add_controls(
     carried: &[LevelSpan],
     events: &mut List<Event>,
 )
-    requires sound { Sound project.now }
+    requires sound { IsSound project.now }
     requires each_before { length before.now ≡ tank_count project.now }
     requires each_carried { length carried.now ≡ tank_count project.now }
     requires fit { length project.now.controls.list ≤ events.old.spare }

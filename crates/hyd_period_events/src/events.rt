@@ -2,7 +2,7 @@
 #![tactic(auto)]
 
 ghost use Rattle.std.specs.Prelude.{◌≡◌, ◌≤◌, ◌+◌, length, map};
-ghost use Rattle.hyd_net.specs.Sound.{Sound};
+ghost use Rattle.hyd_net.specs.Sound.{IsSound};
 ghost use Rattle.hyd_spec.specs.NodeNumbers.{tank_count};
 ghost use Rattle.hyd_spec_certificates.specs.Spans.{levels_of};
 ghost use Rattle.hyd_spec_certificates.specs.PeriodNetwork.{Grid};
@@ -32,7 +32,7 @@ pub fn put_events(
     carried: &[LevelSpan],
     events: &mut List<Event>,
 )
-    requires sound { Sound project.now }
+    requires sound { IsSound project.now }
     requires each_state { length states.now ≡ tank_count project.now }
     requires each_level { length levels.now ≡ tank_count project.now }
     requires each_carried { length carried.now ≡ tank_count project.now }

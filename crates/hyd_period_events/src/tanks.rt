@@ -2,7 +2,7 @@
 #![tactic(auto)]
 
 ghost use Rattle.std.specs.Prelude.{◌≡◌, ◌<◌, ◌≤◌, ◌+◌, ◌++◌, ◌∷◌, [], Some, length, map, slice_get};
-ghost use Rattle.hyd_net.specs.Sound.{Sound};
+ghost use Rattle.hyd_net.specs.Sound.{IsSound};
 ghost use Rattle.hyd_spec.specs.ProgramTypes.{Tank as Each};
 ghost use Rattle.hyd_spec.specs.declared.TankState.{TankState as State};
 ghost use Rattle.hyd_spec.specs.Lists.{present};
@@ -65,7 +65,7 @@ pub(crate) fn add_tanks(
     carried: &[LevelSpan],
     events: &mut List<Event>,
 )
-    requires sound { Sound project.now }
+    requires sound { IsSound project.now }
     requires each_state { length states.now ≡ tank_count project.now }
     requires each_level { length carried.now ≡ tank_count project.now }
     requires fit { tank_count project.now ≤ events.old.spare }

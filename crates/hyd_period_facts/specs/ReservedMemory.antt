@@ -21,7 +21,7 @@ pub record AreNone (facts : Facts) : Type 0 where
 abbrev pub Takes : {T : Type 0} → ListView T → ℕ → Type 0
 Takes view items = items ≤ length view.list + view.spare
 
--- There is room for the facts of each period of a project: for each tank and each link, for a change by each control
+-- There is room for the facts of each period of a network: for each tank and each link, for a change by each control
 -- and to each
 -- link, and for an event of each tank and each control.
 pub record HasRoom (project : Project) (facts : Facts) : Type 0 where

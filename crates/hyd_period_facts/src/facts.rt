@@ -1,7 +1,7 @@
 //! The facts of a period.
 
 ghost use Rattle.std.specs.Prelude.{length, IfOk};
-ghost use Rattle.hyd_net.specs.Sound.{Sound};
+ghost use Rattle.hyd_net.specs.Sound.{IsSound};
 
 use hyd_controls_and_rules::Changes;
 use hyd_net::{LinkState, List, Project};
@@ -38,9 +38,9 @@ pub struct Facts {
 impl Facts {
     ghost use Rattle.hyd_period_facts.specs.ReservedMemory.{HasRoom, AreNone};
 
-    /// Facts of no period, with room for those of each period of a project: filling them takes no memory.
+    /// Facts of no period, with room for those of each period of a network: filling them takes no memory.
     pub fn open(alloc: Global, project: &Project) -> Result<Facts, OutOfMemory>
-        requires { Sound project.now }
+        requires { IsSound project.now }
         ensures none { IfOk result AreNone }
         ensures room { IfOk result (HasRoom project.now) }
     {

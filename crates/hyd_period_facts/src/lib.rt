@@ -1,4 +1,5 @@
-//! The facts of a period: what is known at its start, and what changes in it.
+//! The facts of a period: what is known at its start, how long it lasts, what changes in it and what happens at its
+//! end; and levels of tanks, one by one, with whether a level control holds on them.
 #![tactic(auto)]
 
 mod facts;

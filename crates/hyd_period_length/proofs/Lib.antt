@@ -1,4 +1,4 @@
-pub mod Acting
-pub mod Trying
-pub mod Walking
-pub mod Deciding
+pub mod AppendedChanges
+pub mod RulesAtInstant
+pub mod InstantsTriedSoFar
+pub mod EndByRulesOrWithout

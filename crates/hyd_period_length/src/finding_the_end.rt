@@ -3,7 +3,7 @@
 
 ghost use Rattle.std.specs.Prelude.{◌≡◌, ◌≢◌, ◌+◌, ◌<◌, ◌≤◌, ◌++◌, length};
 ghost use Rattle.std.specs.List.{All};
-ghost use Rattle.hyd_net.specs.Sound.{Sound};
+ghost use Rattle.hyd_net.specs.Sound.{IsSound};
 ghost use Rattle.hyd_spec.specs.NodeNumbers.{nodes_before_tanks, tank_count};
 ghost use Rattle.hyd_spec_certificates.specs.PeriodNetwork.{Grid};
 ghost use Rattle.hyd_spec_certificates.specs.RecordAndStanding.{Record, Standing};
@@ -18,13 +18,13 @@ use crate::rule_instants::end_by_rules;
 use hyd_net::{LinkState, List, Project};
 use hyd_num::Span;
 use hyd_period_facts::Facts;
+use hyd_period_length_by_clock::clock_length;
 use hyd_spec_certificates::LevelSpan;
-use hyd_step_by_clock::clock_length;
 use hyd_watched_levels::{Ends, level_ends};
 
 // The earliest and the latest end by the clock and by levels.
 fn ends_of(project: &Project, facts: &Facts) -> Ends
-    requires sound { Sound project.now }
+    requires sound { IsSound project.now }
     requires tanks { HaveTanks project.now facts.now }
     requires before_end { facts.now.time < project.now.times.duration }
     ensures earliest { (grid : Grid) (standing : Standing) (row : Record)
@@ -74,7 +74,7 @@ pub fn find_end(
     values: &mut [bool],
     links: &mut [LinkState],
 ) -> Ending
-    requires sound { Sound project.now }
+    requires sound { IsSound project.now }
     requires tanks { HaveTanks project.now facts.old }
     requires before_end { facts.old.time < project.now.times.duration }
     requires each_low { length low.now ≡ nodes_before_tanks project.now }

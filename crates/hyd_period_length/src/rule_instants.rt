@@ -3,7 +3,7 @@
 
 ghost use Rattle.std.specs.Prelude.{◌≡◌, ◌≢◌, ℕ, ◌+◌, ◌<◌, ◌≤◌, ◌^◌, ◌++◌, [], true, false, length, IfNone, IfSome};
 ghost use Rattle.std.specs.List.{All};
-ghost use Rattle.hyd_net.specs.Sound.{Sound};
+ghost use Rattle.hyd_net.specs.Sound.{IsSound};
 ghost use Rattle.hyd_spec.specs.NodeNumbers.{nodes_before_tanks, tank_count};
 ghost use Rattle.hyd_spec.specs.Rules.{acted, rule_changes};
 ghost use Rattle.hyd_spec_certificates.specs.Decided.{RulesMatter};
@@ -26,7 +26,7 @@ fn changes_any(
     links: &mut [LinkState],
     changes: &mut Changes,
 ) -> bool
-    requires sound { Sound project.now }
+    requires sound { IsSound project.now }
     requires each_value { length values.now ≡ length project.now.rules.list }
     requires each_link { length links.old ≡ length project.now.links.list }
     requires room { length project.now.links.list ≤ changes.old.spare }
@@ -56,7 +56,7 @@ fn end_at(
     values: &mut [bool],
     links: &mut [LinkState],
 ) -> Option<Ending>
-    requires sound { Sound project.now }
+    requires sound { IsSound project.now }
     requires tanks { HaveTanks project.now facts.old }
     requires time { facts.old.time + seconds ≤ 10 ^ 8 }
     requires later { 0 < seconds }
@@ -107,7 +107,7 @@ pub(crate) fn end_by_rules(
     values: &mut [bool],
     links: &mut [LinkState],
 ) -> Option<Ending>
-    requires sound { Sound project.now }
+    requires sound { IsSound project.now }
     requires tanks { HaveTanks project.now facts.old }
     requires time { facts.old.time + last ≤ 10 ^ 8 }
     requires each_low { length low.now ≡ nodes_before_tanks project.now }

@@ -11,8 +11,8 @@ use Rattle.hyd_period_network.specs.declared.net_types.Setting.{Setting}
 use Rattle.hyd_period_network.specs.LawsInSettings.{Represents, AreLawsOf, AreLaws, IsClosedLaw, AreClosed}
 use Rattle.hyd_period_network.specs.LawsInSettings.{closed_setting}
 use Rattle.hyd_lemmas.proofs.ListsOptionsAndResults.{any_default}
-use Rattle.hyd_period_network.proofs.Ranging.{closed_is}
-use Rattle.hyd_period_network.proofs.SettingOne.{same_or}
+use Rattle.hyd_period_network.proofs.RangesOfLinkNumbers.{closed_is}
+use Rattle.hyd_period_network.proofs.OneLinkSet.{same_or}
 use Rattle.std.proofs.lemmas.List.{get_or_append_left, get_or-append_right}
 
 closed_one : (us : Bool) (bends : List (ListView HeadPoint)) (kind : LinkKind) (own law : LinkLaw)

@@ -19,10 +19,10 @@ use Rattle.hyd_net.specs.declared.curves.HeadPoint.{HeadPoint}
 use Rattle.hyd_spec.specs.Scale.{cut}
 use Rattle.hyd_spec.specs.DemandsReservoirHeadsAndCurves.{pump_knots, valve_knots}
 use Rattle.hyd_theorems_on_definitions.specs.TermsOfTheorems.{AreInOrder}
-use Rattle.hyd_lemmas.proofs.Trials.{lt-from, le-yes}
+use Rattle.hyd_lemmas.proofs.BooleanTests.{lt-from, le-yes}
 use Rattle.hyd_theorems_on_definitions.proofs.CurveKnots.{pump_knots-in_order, valve_knots-in_order}
 use Rattle.hyd_law.specs.declared.law_kinds.Knot.{Knot}
-use Rattle.hyd_law.specs.Curves.{IsKnot, IsCurve, places, place_of}
+use Rattle.hyd_law.specs.KnotsOfStraightLines.{IsKnot, IsCurve, places, place_of}
 
 -- ---- the heads of a pump's points
 

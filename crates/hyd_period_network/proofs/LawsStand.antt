@@ -10,7 +10,7 @@ use Rattle.hyd_spec.specs.ProgramTypes.{Capacity, ShutoffHead}
 use Rattle.hyd_num.specs.Rational.{floor, ceiling}
 use Rattle.hyd_net.specs.Curves.{Knot as Place, value_at}
 use Rattle.hyd_spec.specs.DemandsReservoirHeadsAndCurves.{lift_of}
-use Rattle.hyd_spec.specs.LinkLaw.{greatest_flow}
+use Rattle.hyd_spec.specs.LinkLaw.{greatest_curve_flow}
 use Rattle.hyd_spec.specs.Scale.{at_scale}
 use Rattle.hyd_spec.specs.Law.{Relation, flow_at_least, flow_at_most, Law, Shut as ShutLaw, QuadraticLaw, LinearLaw}
 use Rattle.hyd_spec.specs.Law.{Lifted, ForwardOnly, ReverseOnly, Capped as CappedLaw, Bent as BentLaw, Held as HeldLaw}
@@ -20,7 +20,7 @@ use Rattle.hyd_lemmas.proofs.Integers.{max_left, max_right, max_is, min_left, mi
 use Rattle.hyd_theorems_on_definitions.proofs.EachLaw.{IsSoundCapacity-made}
 use Rattle.hyd_law.specs.ComposedLaws.{IsLift, directed, directed_at_least, directed_at_most, held, held_at_least}
 use Rattle.hyd_law.specs.ComposedLaws.{held_at_most}
-use Rattle.hyd_law.specs.Curves.{IsCurve, places}
+use Rattle.hyd_law.specs.KnotsOfStraightLines.{IsCurve, places}
 use Rattle.hyd_law.specs.LinkLaws.{link_at_least, link_at_most, link_low, link_high, IsSoundLink, LinkAccepts}
 use Rattle.hyd_law.specs.declared.law_kinds.Shut.{Shut as ShutValue}
 use Rattle.hyd_law.specs.declared.law_kinds.Linear.{Linear as LinearValue}
@@ -207,28 +207,29 @@ closed_represents b curve = record {
   is_exact = refl;
 }
 
-pub curve_represents : (least : ℤ) (b : BentValue) (knots : List Place) → least ≤ℤ greatest_flow
-    → is_nothing least greatest_flow ≡ false → IsCurve b.knots.list → places b.knots.list ≡ knots
+pub curve_represents : (least : ℤ) (b : BentValue) (knots : List Place) → least ≤ℤ greatest_curve_flow
+    → is_nothing least greatest_curve_flow ≡ false → IsCurve b.knots.list → places b.knots.list ≡ knots
     → Represents (Bent (record {
       least = least;
-      most = greatest_flow;
+      most = greatest_curve_flow;
       inner = b;
-    })) (HeldLaw least greatest_flow (BentLaw knots))
+    })) (HeldLaw least greatest_curve_flow (BentLaw knots))
 curve_represents least b knots le some curve e = record {
   stands = record {
-    at_least_is = λ S x a. subst (λ (ks : List Place). held_at_least least greatest_flow
+    at_least_is = λ S x a. subst (λ (ks : List Place). held_at_least least greatest_curve_flow
         (flow_at_least (BentLaw (places b.knots.list))) S x a ↔ flow_at_least
-        (HeldLaw least greatest_flow (BentLaw ks)) S x a) e same_truth;
-    at_most_is = λ S x a. subst (λ (ks : List Place). held_at_most least greatest_flow
-        (flow_at_most (BentLaw (places b.knots.list))) S x a ↔ flow_at_most (HeldLaw least greatest_flow (BentLaw ks))
+        (HeldLaw least greatest_curve_flow (BentLaw ks)) S x a) e same_truth;
+    at_most_is = λ S x a. subst (λ (ks : List Place). held_at_most least greatest_curve_flow
+        (flow_at_most (BentLaw (places b.knots.list))) S x a
+        ↔ flow_at_most (HeldLaw least greatest_curve_flow (BentLaw ks))
         S x a) e same_truth;
-    low_is = λ d. ap (λ (ks : List Place). held least greatest_flow (floor (value_at 1 ks d))) e;
-    high_is = λ d. ap (λ (ks : List Place). held least greatest_flow (ceiling (value_at 1 ks d))) e;
+    low_is = λ d. ap (λ (ks : List Place). held least greatest_curve_flow (floor (value_at 1 ks d))) e;
+    high_is = λ d. ap (λ (ks : List Place). held least greatest_curve_flow (ceiling (value_at 1 ks d))) e;
     sound = (le, curve);
     accepts = λ d small. omega arith;
   };
-  is_exact = ap (λ (t : Bool). if t then ShutLaw else HeldLaw least greatest_flow (BentLaw (places b.knots.list)))
-      some ∙ ap (λ (ks : List Place). HeldLaw least greatest_flow (BentLaw ks)) e;
+  is_exact = ap (λ (t : Bool). if t then ShutLaw else HeldLaw least greatest_curve_flow (BentLaw (places b.knots.list)))
+      some ∙ ap (λ (ks : List Place). HeldLaw least greatest_curve_flow (BentLaw ks)) e;
 }
 
 -- ---- one way

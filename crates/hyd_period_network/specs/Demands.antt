@@ -23,7 +23,7 @@ abbrev pub demand_held : OutLaw → ℤ
 demand_held (FixedOut l) = l.demand
 demand_held (PdaOut l) = l.demand
 
--- a law is that of a demand in a project: driven by pressure or fixed, its numbers are sound, and it accepts each
+-- a law is that of a demand in a network: driven by pressure or fixed, its numbers are sound, and it accepts each
 -- difference of two heads of the box as pressure
 pub record IsOutLawOf (project : Project) (demand : ℤ) (law : OutLaw) : Type 0 where
   pub is_law : IsDemandLaw project demand (demand_of_law law)

@@ -5,7 +5,7 @@ use Rattle.hyd_spec.specs.Scale.{is_same_number}
 use Rattle.hyd_spec.specs.DemandsReservoirHeadsAndCurves.{lift_of}
 use Rattle.hyd_spec.specs.Law.{Law, Shut as ShutLaw, QuadraticLaw, LinearLaw, Lifted, ForwardOnly, ReverseOnly, Capped}
 use Rattle.hyd_spec.specs.Law.{Bent as BentLaw, Held}
-use Rattle.hyd_law.specs.Curves.{places}
+use Rattle.hyd_law.specs.KnotsOfStraightLines.{places}
 use Rattle.hyd_law.specs.declared.link_law.LinkLaw.{LinkLaw}
 use Rattle.hyd_law.specs.declared.link_law.LinkLaw.TheVariants.{Shut, Quad, Linear, QuadOneWay, LinearOneWay, Pump}
 use Rattle.hyd_law.specs.declared.link_law.LinkLaw.TheVariants.{Limit, LinearLimit, LimitOneWay, LinearLimitOneWay}

@@ -5,6 +5,7 @@ use Rattle.std.specs.Prelude.{All, true, false}
 use Rattle.hyd_net.specs.ListView.{ListView}
 use Rattle.hyd_net.specs.RoundedFileNumbers.{IsKindMade, IsStateMade, IsValveMade}
 use Rattle.hyd_num.specs.CapacityPairs.{IsMade}
+use Rattle.hyd_net.specs.NumberRanges.{shutoff_head_limit}
 use Rattle.hyd_net.specs.NetworkRanges.{HasSizes}
 use Rattle.hyd_net.specs.States.{CanHave}
 use Rattle.hyd_net.specs.declared.curves.HeadPoint.{HeadPoint}
@@ -83,7 +84,7 @@ pub record AreLawsOf (us : Bool) (bends : List (ListView HeadPoint)) (kind : Lin
   pub own_room : HasRoomFor bends kind own
   pub law_room : HasRoomFor bends kind law
 
--- so it is for each link of a project
+-- so it is for each link of a network
 abbrev pub AreLaws : Project → List Link → List Setting → List LinkLaw → List LinkLaw → Type 0
 AreLaws project links settings own laws = (k : ℕ) (link : Link) (setting : Setting) (o l : LinkLaw) → k < length links
     → AreLawsOf (is_us project) project.bends.list (slice_index_or links k link).kind
@@ -96,7 +97,7 @@ AreSet project tanks links states settings n = (k : ℕ) (link : Link) (state : 
     → slice_index_or settings k setting ≡ setting_of project tanks (slice_index_or links k link)
     (slice_index_or states k state)
 
--- what is known of a link of a sound project in a state that it can have
+-- what is known of a link of a sound network in a state that it can have
 pub record CanStand (project : Project) (kind : LinkKind) (state : LinkState) : Type 0 where
   pub made : IsKindMade project.options.unit kind
   pub sizes : HasSizes project.options.unit project.patterns.list project.bends.list kind
@@ -119,7 +120,7 @@ pub record IsClosedLaw (bends : List (ListView HeadPoint)) (kind : LinkKind) (la
   pub represents : Represents law Shut
   pub room : HasRoomFor bends kind law
 
--- so it is for each link of a project
+-- so it is for each link of a network
 abbrev pub AreClosed : Project → List Link → List LinkLaw → Type 0
 AreClosed project links laws = (k : ℕ) (link : Link) (law : LinkLaw) → k < length links
     → IsClosedLaw project.bends.list (slice_index_or links k link).kind (slice_index_or laws k law)
@@ -134,9 +135,9 @@ HasNoCurve (Tcv valve) = ⊤
 HasNoCurve (Fcv valve) = ⊤
 HasNoCurve (Gpv bend) = ⊥
 
--- a shutoff head of at most 10^16 head ticks either way
+-- a shutoff head of at most its limit either way
 abbrev pub IsShutoff : Bool → ShutoffHead → Type 0
-IsShutoff us head = unsigned_abs (shutoff_head us head).num ≤ 10 ^ 16 * (shutoff_head us head).den
+IsShutoff us head = unsigned_abs (shutoff_head us head).num ≤ shutoff_head_limit * (shutoff_head us head).den
 
 -- the capacities of a kind are made of the file's numbers
 abbrev pub IsLawMade : LinkKind → Type 0

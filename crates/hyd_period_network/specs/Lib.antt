@@ -5,4 +5,4 @@ pub mod ExactLaw
 pub mod LawsInSettings
 pub mod NetAsPeriodNetwork
 pub mod NetInvariant
-pub mod Periods
+pub mod NetsSetToPeriods

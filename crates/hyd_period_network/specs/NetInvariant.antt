@@ -2,6 +2,7 @@
 use Rattle.std.specs.Prelude.{◌≡◌, ℕ, ◌<◌, ◌≤◌, ◌*◌, ◌^◌, ℤ, List, length, slice_index_or, unsigned_abs, All, Bool}
 use Rattle.std.specs.Prelude.{true, false, ⊤}
 use Rattle.std.specs.Option.{IfSome}
+use Rattle.hyd_net.specs.CountLimits.{most_links}
 use Rattle.hyd_net.specs.NumberRanges.{IsHead}
 use Rattle.hyd_spec_certificates.specs.Certificate.{box_limit}
 use Rattle.hyd_spec_certificates.specs.declared.Problem.{Problem}
@@ -54,7 +55,7 @@ pub record IsSoundNet (net : NetView) : Type 0 where
   pub each_own : length net.own ≡ length net.ends
   pub each_law : length net.laws ≡ length net.ends
   pub few_nodes : node_count net ≤ 2 ^ 31
-  pub few_links : length net.ends ≤ 20000
+  pub few_links : length net.ends ≤ most_links
   pub ends : All (HasEnds (node_count net)) net.ends
   pub junctions : All IsSoundJunction net.junctions
   pub demands : All IsSoundDemand net.demands

@@ -3,6 +3,7 @@
 
 ghost use Rattle.std.specs.Prelude.{◌≡◌, ◌<◌, ◌≤◌, ◌*◌, ◌^◌, ℕ, ℤ, List, length, Some, slice_get, unsigned_abs, All};
 ghost use Rattle.std.specs.Option.{option_map, option_copied, IfSome};
+ghost use Rattle.hyd_net.specs.CountLimits.{most_links};
 ghost use Rattle.hyd_net.specs.NumberRanges.{IsHead};
 ghost use Rattle.hyd_spec.specs.Assignment.{head_at};
 ghost use Rattle.hyd_spec.specs.Law.{Law};
@@ -49,7 +50,7 @@ impl Net {
     pub fn links(&self) -> u32
         ensures count { result ≡ length self.now.ends }
         ensures each { length (grid_of self.now).links ≡ length self.now.ends }
-        ensures few { length self.now.ends ≤ 20000 }
+        ensures few { length self.now.ends ≤ most_links }
     {
         self.ends.len() as u32
     }

@@ -4,7 +4,7 @@
 ghost use Rattle.std.specs.Prelude.{◌≡◌, ◌≤◌, ◌+◌, ◌*◌, ℕ, length, IfOk};
 ghost use Rattle.hyd_net.specs.Curves.{IsPumpCurve, IsLossCurve};
 ghost use Rattle.hyd_net.specs.NetworkRanges.{HasSizes};
-ghost use Rattle.hyd_net.specs.Sound.{Sound};
+ghost use Rattle.hyd_net.specs.Sound.{IsSound};
 ghost use Rattle.hyd_spec.specs.Law as exact;
 ghost use Rattle.hyd_period_network.specs.LawsInSettings.{Represents, HasRoom, IsClosedLaw, AreClosed};
 
@@ -60,9 +60,9 @@ fn closed_law(alloc: Global, project: &Project, kind: &LinkKind) -> Result<LinkL
     }
 }
 
-/// The law of each link of a project, all closed.
+/// The law of each link of a network, all closed.
 pub(crate) fn closed_laws(alloc: Global, project: &Project) -> Result<Vec<LinkLaw>, OutOfMemory>
-    requires { Sound project.now }
+    requires { IsSound project.now }
     ensures count { IfOk result (λ laws. length laws.items ≡ length project.now.links.list) }
     ensures closed { IfOk result (λ laws. AreClosed project.now project.now.links.list laws.items) }
 {

@@ -7,14 +7,14 @@ ghost use Rattle.std.specs.Prelude.{map, reverse, Option, ◌≤ℤ◌};
 ghost use Rattle.std.specs.List.{All};
 ghost use Rattle.hyd_net.specs.ListView.{ListView};
 ghost use Rattle.hyd_net.specs.Curves.{IsPumpCurve, IsLossCurve};
-ghost use Rattle.hyd_net.specs.NumberRanges.{IsHead, IsFlow, Lies};
+ghost use Rattle.hyd_net.specs.NumberRanges.{IsHead, IsFlow, Lies, shutoff_head_limit};
 ghost use Rattle.hyd_net.specs.States.{IsSpeed};
 ghost use Rattle.hyd_net.specs.declared.curves.HeadPoint.{HeadPoint};
 ghost use Rattle.hyd_spec.specs.ProgramTypes.{CurvePump, Gpv};
 ghost use Rattle.hyd_spec.specs.Law as exact;
 ghost use Rattle.hyd_spec.specs.LinkLaw as spec;
 ghost use Rattle.hyd_spec.specs.DemandsReservoirHeadsAndCurves.{points_of, pump_knots, valve_knots};
-ghost use Rattle.hyd_law.specs.Curves.{IsCurve, IsKnot, place_of, places};
+ghost use Rattle.hyd_law.specs.KnotsOfStraightLines.{IsCurve, IsKnot, place_of, places};
 ghost use Rattle.hyd_law.specs.LinkLaws.{IsSoundLink};
 ghost use Rattle.hyd_period_network.specs.LawsInSettings.{HasRoom, Represents};
 
@@ -61,7 +61,7 @@ fn add_knot(knots: &mut List<Knot>, knot: Knot)
 
 // The knot of a pump's point at a speed.
 fn pump_knot(point: HeadPoint, speed: i64) -> Knot
-    requires head { Lies (pos 0) (pos (10 ^ 16)) point.head }
+    requires head { Lies (pos 0) (pos shutoff_head_limit) point.head }
     requires flow { IsFlow point.flow }
     requires speed { IsSpeed speed }
     ensures knot { place_of result ∷ [] ≡ pump_knots (point ∷ []) speed }
@@ -175,7 +175,7 @@ fn running_curve(points: &[HeadPoint], speed: i64, room: List<Knot>) -> LinkLaw
     requires curve { IsPumpCurve points.now }
     requires speed { IsSpeed speed }
     requires room { length points.now ≤ length room.list + room.spare }
-    ensures represents { Represents result (exact.Held (pos 0) spec.greatest_flow
+    ensures represents { Represents result (exact.Held (pos 0) spec.greatest_curve_flow
         (exact.Bent (pump_knots points.now speed))) }
     ensures room { (n : ℕ) → n ≤ length room.list + room.spare → HasRoom n result }
 {
@@ -191,7 +191,7 @@ fn running_curve(points: &[HeadPoint], speed: i64, room: List<Knot>) -> LinkLaw
 fn open_curve(points: &[HeadPoint], room: List<Knot>) -> LinkLaw
     requires curve { IsLossCurve points.now }
     requires room { 2 * length points.now ≤ length room.list + room.spare }
-    ensures represents { Represents result (exact.Held (neg_ℤ spec.greatest_flow) spec.greatest_flow
+    ensures represents { Represents result (exact.Held (neg_ℤ spec.greatest_curve_flow) spec.greatest_curve_flow
         (exact.Bent (valve_knots points.now))) }
     ensures room { (n : ℕ) → n ≤ length room.list + room.spare → HasRoom n result }
 {

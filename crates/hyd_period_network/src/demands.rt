@@ -3,15 +3,16 @@
 
 ghost use Rattle.std.specs.Prelude.{◌≡◌, ◌⊎◌, ◌<◌, ◌≤◌, ◌+◌, ◌^◌, pos, ◌≤ℤ◌, length, true, IfOk, IfErr};
 ghost use Rattle.hyd_net.specs.NetworkRanges.{HasOptions};
-ghost use Rattle.hyd_net.specs.Sound.{Sound};
+ghost use Rattle.hyd_net.specs.Sound.{IsSound};
 ghost use Rattle.hyd_spec_certificates.specs.Valid.{DemandsAreInRange};
 ghost use Rattle.hyd_spec_reports.specs.Stops.{IsFirstDemand};
-ghost use Rattle.hyd_demand.specs.DemandsAndHeadsByNumber.{junction_demand, IsInRange, IsOutOfRange};
+ghost use Rattle.hyd_demands_and_reservoir_heads.specs.DemandsAndHeadsByNumber.{junction_demand, IsInRange};
+ghost use Rattle.hyd_demands_and_reservoir_heads.specs.DemandsAndHeadsByNumber.{IsOutOfRange};
 ghost use Rattle.hyd_period_network.specs.Demands.{demand_held, IsOutLawOf, IsHeld, AreHeld, AreDemandsAt};
 
 use crate::fault::PeriodDemand;
 use hyd_capacities::pda_capacity;
-use hyd_demand::demand_at;
+use hyd_demands_and_reservoir_heads::demand_at;
 use hyd_law::{Fixed, OutLaw, Pda};
 use hyd_net::Project;
 use hyd_units::pressure_ticks;
@@ -76,7 +77,7 @@ fn set_demand(project: &Project, demand: i64, law: &mut OutLaw)
 
 // The demand of a junction at a time, where it is in range.
 fn demand_in_range(project: &Project, junction: usize, time: u32) -> Result<i64, PeriodDemand>
-    requires sound { Sound project.now }
+    requires sound { IsSound project.now }
     requires junction { junction < length project.now.junctions.list }
     ensures ok { IfOk result (λ q. q ≡ junction_demand project.now time junction) }
     ensures within { IfOk result (λ q. IsInRange q) }
@@ -111,7 +112,7 @@ pub(crate) fn kept_demands(
     time: u32,
     demands: &[OutLaw],
 ) -> Result<usize, PeriodDemand>
-    requires sound { Sound project.now }
+    requires sound { IsSound project.now }
     requires each { length demands.now ≡ length project.now.junctions.list }
     requires held { AreHeld project.now demands.now }
     ensures kept { IfOk result (λ n. AreDemandsAt project.now time demands.now n) }
@@ -130,7 +131,7 @@ pub(crate) fn kept_demands(
 /// Makes the law of each junction's demand that of its demand at a time, from the first on whose demand changes. A
 /// capacity is made anew only where the demand is another.
 pub(crate) fn set_demands(project: &Project, time: u32, kept: usize, demands: &mut [OutLaw])
-    requires sound { Sound project.now }
+    requires sound { IsSound project.now }
     requires in_range { DemandsAreInRange project.now time }
     requires each { length demands.old ≡ length project.now.junctions.list }
     requires held { AreHeld project.now demands.old }

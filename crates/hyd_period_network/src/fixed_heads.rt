@@ -3,14 +3,14 @@
 
 ghost use Rattle.std.specs.Prelude.{◌≡◌, pos, ◌+ℤ◌, ◌≤ℤ◌, length, map, All};
 ghost use Rattle.hyd_net.specs.NumberRanges.{IsHead};
-ghost use Rattle.hyd_net.specs.Sound.{Sound};
+ghost use Rattle.hyd_net.specs.Sound.{IsSound};
 ghost use Rattle.hyd_spec.specs.DemandsReservoirHeadsAndCurves.{reservoir_head};
 ghost use Rattle.hyd_spec_certificates.specs.Spans.{levels_of};
 ghost use Rattle.hyd_spec_certificates.specs.PeriodNetwork.{tank_intervals};
 ghost use Rattle.hyd_period_network.specs.NetInvariant.{AreHeads};
-ghost use Rattle.hyd_period_network.specs.Periods.{AreLevels, IsSpanOf, HasHeads};
+ghost use Rattle.hyd_period_network.specs.NetsSetToPeriods.{AreLevels, IsSpanOf, HasHeads};
 
-use hyd_demand::head_at;
+use hyd_demands_and_reservoir_heads::head_at;
 use hyd_net::{Project, Tank};
 use hyd_spec_certificates::LevelSpan;
 
@@ -33,7 +33,7 @@ fn set_heads(heads: &mut LevelSpan, wanted: LevelSpan)
 
 /// Makes the head of each reservoir that at a time.
 pub(crate) fn set_reservoirs(project: &Project, time: u32, heads: &mut [i64])
-    requires sound { Sound project.now }
+    requires sound { IsSound project.now }
     requires each { length heads.old ≡ length project.now.reservoirs.list }
     ensures count { length heads.new ≡ length heads.old }
     ensures set { heads.new ≡ map (reservoir_head project.now time) project.now.reservoirs.list }
@@ -60,7 +60,7 @@ fn heads_of(tank: &Tank, levels: &LevelSpan) -> LevelSpan
 
 /// Makes the heads of each tank those at its levels.
 pub(crate) fn set_tanks(project: &Project, levels: &[LevelSpan], heads: &mut [LevelSpan])
-    requires sound { Sound project.now }
+    requires sound { IsSound project.now }
     requires levels { AreLevels project.now levels.now }
     requires each { length heads.old ≡ length project.now.tanks.list }
     ensures count { length heads.new ≡ length heads.old }

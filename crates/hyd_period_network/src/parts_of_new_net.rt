@@ -4,7 +4,7 @@
 ghost use Rattle.std.specs.Prelude.{◌≡◌, map, replicate, IfOk};
 ghost use Rattle.std.specs.List.{AllZip};
 ghost use Rattle.hyd_period_network.specs.Demands.{IsNetJunction};
-ghost use Rattle.hyd_period_network.specs.Periods.{ends_of};
+ghost use Rattle.hyd_period_network.specs.NetsSetToPeriods.{ends_of};
 
 use crate::net_types::{Ends, NetJunction};
 use hyd_law::Quad;

@@ -1,15 +1,15 @@
-//! A net of a project, and its periods.
+//! The net of a network, and its periods.
 #![tactic(auto)]
 
 ghost use Rattle.std.specs.Prelude.{◌≡◌, ◌≤◌, ◌^◌, length, map, IfOk, IfErr, OnOk, OnErr};
-ghost use Rattle.hyd_net.specs.Sound.{Sound};
+ghost use Rattle.hyd_net.specs.Sound.{IsSound};
 ghost use Rattle.hyd_spec_certificates.specs.Spans.{levels_of};
 ghost use Rattle.hyd_spec_certificates.specs.PeriodNetwork.{IsGrid};
 ghost use Rattle.hyd_spec_certificates.specs.Valid.{DemandsAreInRange};
 ghost use Rattle.hyd_spec_reports.specs.Stops.{IsFirstDemand};
 ghost use Rattle.hyd_period_network.specs.LawsInSettings.{AreStates};
 ghost use Rattle.hyd_period_network.specs.NetAsPeriodNetwork.{grid_of, states_of, own_laws};
-ghost use Rattle.hyd_period_network.specs.Periods.{IsNetOf, IsFresh, AreLevels, AreShut, own_laws_of};
+ghost use Rattle.hyd_period_network.specs.NetsSetToPeriods.{IsNetOf, IsFresh, AreLevels, AreShut, own_laws_of};
 
 use crate::closed_link_laws::closed_laws;
 use crate::demands::{kept_demands, set_demands};
@@ -27,9 +27,9 @@ use hyd_spec_certificates::LevelSpan;
 use std::alloc::{AllocError as OutOfMemory, Global};
 
 impl Net {
-    /// The net of a project, in which each link is shut and each head and each demand is 0.
+    /// The net of a network, in which each link is shut and each head and each demand is 0.
     pub fn open(alloc: Global, project: &Project) -> Result<Net, OutOfMemory>
-        requires { Sound project.now }
+        requires { IsSound project.now }
         ensures of { IfOk result (IsNetOf project.now) }
         ensures fresh { IfOk result IsFresh }
     {
@@ -76,7 +76,7 @@ impl Net {
         levels: &[LevelSpan],
         tanks: &[TankState],
     ) -> Result<(), PeriodDemand>
-        requires sound { Sound project.now }
+        requires sound { IsSound project.now }
         requires of { IsNetOf project.now self.old }
         requires states { AreStates project.now links.now }
         requires levels { AreLevels project.now levels.now }

@@ -4,11 +4,12 @@
 ghost use Rattle.std.specs.Prelude.{◌≡◌, ◌<◌, ◌≤◌, ◌*◌, ◌^◌, unsigned_abs, pos, ◌*ℤ◌, ◌<ℤ◌, Bool};
 ghost use Rattle.hyd_num.specs.Rational.{Rational};
 ghost use Rattle.hyd_num.specs.CapacityPairs.{IsMade};
+ghost use Rattle.hyd_net.specs.NumberRanges.{shutoff_head_limit};
 ghost use Rattle.hyd_net.specs.States.{IsSpeed};
 ghost use Rattle.hyd_spec.specs.Law as exact;
 ghost use Rattle.hyd_spec.specs.DemandsReservoirHeadsAndCurves.{shutoff_head, lift_of};
 ghost use Rattle.hyd_law.specs.ComposedLaws.{IsLift};
-ghost use Rattle.hyd_law.specs.Curves.{IsValue};
+ghost use Rattle.hyd_law.specs.KnotsOfStraightLines.{IsValue};
 ghost use Rattle.hyd_period_network.specs.LawsInSettings.{Represents, IsShutoff};
 
 use hyd_law::{Lifted, LinkLaw, OneWay, Quad};
@@ -24,8 +25,8 @@ fn shutoff_head(us: bool, head: &ShutoffHead) -> (i128, i128)
     requires { IsShutoff us head.now }
     ensures numerator { result.0 ≡ (shutoff_head us head.now).num }
     ensures denominator { result.1 ≡ pos (shutoff_head us head.now).den }
-    ensures small { unsigned_abs result.0 ≤ 3 * 10 ^ 16 }
-    ensures few { unsigned_abs result.0 ≤ 10 ^ 16 * unsigned_abs result.1 }
+    ensures small { unsigned_abs result.0 ≤ 3 * shutoff_head_limit }
+    ensures few { unsigned_abs result.0 ≤ shutoff_head_limit * unsigned_abs result.1 }
     ensures above { 0 < (shutoff_head us head.now).den }
     ensures thirds { unsigned_abs result.1 ≤ 3 }
 {
@@ -61,7 +62,7 @@ fn rounded(numerator: i128, denominator: i128) -> Span
 /// A squared speed times a head, both as fractions of their billionths and thirds.
 pub(crate) fn squared_times(speed: i64, head: i128) -> i128
     requires speed { IsSpeed speed }
-    requires head { unsigned_abs head ≤ 3 * 10 ^ 16 }
+    requires head { unsigned_abs head ≤ 3 * shutoff_head_limit }
     ensures value { result ≡ ((speed *ℤ speed) *ℤ head) }
     ensures small { unsigned_abs result ≤ 10 ^ 20 * unsigned_abs head }
 {

@@ -5,7 +5,7 @@ ghost use Rattle.std.specs.Prelude.{◌≡◌, ◌+◌, ◌^◌, ◌≤◌, ◌<
 ghost use Rattle.std.specs.List.{All};
 ghost use Rattle.std.specs.Option.{option_map_or};
 ghost use Rattle.hyd_spec.specs.LinkLaw.{is_full, is_empty, overflows};
-ghost use Rattle.hyd_net.specs.Sound.{Sound};
+ghost use Rattle.hyd_net.specs.Sound.{IsSound};
 ghost use Rattle.hyd_period_network.specs.LawsInSettings.{tank_state, setting_of, AreLaws, AreSet, AreStates};
 
 use crate::laws::set_link;
@@ -92,7 +92,7 @@ pub(crate) fn set_links(
     own: &mut [LinkLaw],
     laws: &mut [LinkLaw],
 )
-    requires sound { Sound project.now }
+    requires sound { IsSound project.now }
     requires states { AreStates project.now states.now }
     requires each_setting { length settings.old ≡ length project.now.links.list }
     requires each_own { length own.old ≡ length project.now.links.list }

@@ -7,7 +7,7 @@ ghost use Rattle.hyd_spec.specs.declared.TankState.{TankState};
 ghost use Rattle.hyd_spec_certificates.specs.declared.LevelSpan.{LevelSpan};
 ghost use Rattle.hyd_period_network.specs.NetView.{NetView};
 ghost use Rattle.hyd_period_network.specs.NetInvariant.{IsSoundNet};
-ghost use Rattle.hyd_period_network.specs.Periods.{IsSetTo, AnswerAlike};
+ghost use Rattle.hyd_period_network.specs.NetsSetToPeriods.{IsSetTo, AnswerAlike};
 
 /// Two nets that were set to the same period answer alike, whatever each was set to before. So one that was set to many
 /// periods answers like one that was opened afresh and set once.

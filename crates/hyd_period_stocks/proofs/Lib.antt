@@ -1,3 +1,3 @@
-pub mod Stocking
-pub mod Deciding
-pub mod Starting
+pub mod NextStocksByFacts
+pub mod DecidedTankStates
+pub mod InitialStocksAndStates

@@ -2,7 +2,7 @@
 #![tactic(auto)]
 
 ghost use Rattle.std.specs.Prelude.{◌≡◌, ◌≤◌, ◌+◌, ℕ, Some, length, map, slice_get};
-ghost use Rattle.hyd_net.specs.Sound.{Sound};
+ghost use Rattle.hyd_net.specs.Sound.{IsSound};
 ghost use Rattle.hyd_spec.specs.ProgramTypes.{Tank};
 ghost use Rattle.hyd_spec.specs.NodeNumbers.{tank_count};
 ghost use Rattle.hyd_spec.specs.Tank.{walls_of};
@@ -26,7 +26,7 @@ pub(crate) fn put_initial(
     levels: &mut List<LevelSpan>,
     volumes: &mut List<VolumeSpan>,
 )
-    requires sound { Sound project.now }
+    requires sound { IsSound project.now }
     requires levels_room { tank_count project.now ≤ length levels.old.list + levels.old.spare }
     requires volumes_room { tank_count project.now ≤ length volumes.old.list + volumes.old.spare }
     ensures levels { map levels_of levels.new.list ≡ (initial_standing project.now).levels }
@@ -54,7 +54,7 @@ pub(crate) fn put_initial_states(
     levels: &[LevelSpan],
     states: &mut List<TankState>,
 )
-    requires sound { Sound project.now }
+    requires sound { IsSound project.now }
     requires levels { map levels_of levels.now ≡ (initial_standing project.now).levels }
     requires each_level { length levels.now ≡ tank_count project.now }
     requires room { tank_count project.now ≤ length states.old.list + states.old.spare }

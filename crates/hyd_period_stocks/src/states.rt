@@ -3,7 +3,7 @@
 
 ghost use Rattle.std.specs.Prelude.{◌≡◌, ◌<◌, ◌≤◌, ◌+◌, ◌++◌, ◌∷◌, [], Some, length, map, slice_get, slice_index_or};
 ghost use Rattle.std.specs.Prelude.{IfErr, OnOk};
-ghost use Rattle.hyd_net.specs.Sound.{Sound};
+ghost use Rattle.hyd_net.specs.Sound.{IsSound};
 ghost use Rattle.hyd_spec.specs.ProgramTypes.{Tank as Each};
 ghost use Rattle.hyd_spec.specs.NodeNumbers.{tank_count};
 ghost use Rattle.hyd_spec_certificates.specs.Spans.{levels_of};
@@ -31,7 +31,7 @@ pub struct TankOpen {
 
 // The state of one tank at its levels, where it is decided.
 fn state_at(project: &Project, levels: &[LevelSpan], tank: u32) -> Option<TankState>
-    requires sound { Sound project.now }
+    requires sound { IsSound project.now }
     requires in_range { tank < length project.now.tanks.list }
     requires each_level { length levels.now ≡ tank_count project.now }
     ensures { (each : Each) → slice_get project.now.tanks.list tank ≡ Some each
@@ -73,7 +73,7 @@ pub fn put_states(
     levels: &[LevelSpan],
     states: &mut List<TankState>,
 ) -> Result<(), TankOpen>
-    requires sound { Sound project.now }
+    requires sound { IsSound project.now }
     requires each_level { length levels.now ≡ tank_count project.now }
     requires room { tank_count project.now ≤ length states.old.list + states.old.spare }
     ensures decided { OnOk result (AreStates project.now (map levels_of levels.now) states.new.list) }

@@ -2,7 +2,7 @@
 #![tactic(auto)]
 
 ghost use Rattle.std.specs.Prelude.{◌≡◌, ◌<◌, ◌≤◌, ◌+◌, ◌^◌, ◌++◌, ◌∷◌, [], ℕ, Some, length, map, slice_get};
-ghost use Rattle.hyd_net.specs.Sound.{Sound};
+ghost use Rattle.hyd_net.specs.Sound.{IsSound};
 ghost use Rattle.hyd_spec.specs.ProgramTypes.{Tank};
 ghost use Rattle.hyd_spec.specs.NodeNumbers.{tank_count};
 ghost use Rattle.hyd_spec.specs.Tank.{walls_of};
@@ -22,7 +22,7 @@ use hyd_watched_levels::{inflow_at, stock_at};
 
 // The stock of one tank.
 fn next_of(project: &Project, facts: &Facts, tank: u32, seconds: u32) -> Stock
-    requires sound { Sound project.now }
+    requires sound { IsSound project.now }
     requires tanks { HaveTanks project.now facts.now }
     requires in_range { tank < length project.now.tanks.list }
     requires seconds { seconds ≤ 10 ^ 8 }
@@ -55,7 +55,7 @@ pub fn put_stocks(
     levels: &mut List<LevelSpan>,
     volumes: &mut List<VolumeSpan>,
 )
-    requires sound { Sound project.now }
+    requires sound { IsSound project.now }
     requires tanks { HaveTanks project.now facts.now }
     requires seconds { seconds ≤ 10 ^ 8 }
     requires levels_room { tank_count project.now ≤ length levels.old.list + levels.old.spare }

@@ -2,7 +2,7 @@
 #![tactic(auto)]
 
 ghost use Rattle.std.specs.Prelude.{◌≡◌, ◌≤◌, length, IfOk};
-ghost use Rattle.hyd_net.specs.Sound.{Sound};
+ghost use Rattle.hyd_net.specs.Sound.{IsSound};
 
 use crate::initial::{put_initial, put_initial_states};
 use crate::stocks::put_stocks;
@@ -38,9 +38,9 @@ impl TankStart {
     ghost use Rattle.hyd_period_stocks.specs.TankStart.{stocks_among, IsUnsettled};
     ghost use Rattle.hyd_period_stocks.specs.ReservedMemory.{HasRoom, AreNone};
 
-    /// The beginning of no period, with room for that of each period of a project: filling it takes no memory.
+    /// The beginning of no period, with room for that of each period of a network: filling it takes no memory.
     pub fn open(alloc: Global, project: &Project) -> Result<TankStart, OutOfMemory>
-        requires { Sound project.now }
+        requires { IsSound project.now }
         ensures none { IfOk result AreNone }
         ensures room { IfOk result (HasRoom project.now) }
     {
@@ -55,7 +55,7 @@ impl TankStart {
     /// Makes it what a run begins with: each tank has exactly its initial level, exactly the volume that is kept at
     /// it and the state at it. What it was before goes; no memory is taken.
     pub fn begin(&mut self, project: &Project)
-        requires sound { Sound project.now }
+        requires sound { IsSound project.now }
         requires room { HasRoom project.now self.old }
         ensures levels { map levels_of self.new.levels.list ≡ (initial_standing project.now).levels }
         ensures volumes { map volumes_of self.new.volumes.list ≡ (initial_standing project.now).volumes }
@@ -80,7 +80,7 @@ impl TankStart {
         facts: &Facts,
         seconds: u32,
     ) -> Result<(), Unsettled>
-        requires sound { Sound project.now }
+        requires sound { IsSound project.now }
         requires tanks { HaveTanks project.now facts.now }
         requires seconds { seconds ≤ 10 ^ 8 }
         requires room { HasRoom project.now self.old }

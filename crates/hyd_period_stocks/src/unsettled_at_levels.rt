@@ -2,7 +2,7 @@
 #![tactic(auto)]
 
 ghost use Rattle.std.specs.Prelude.{◌≡◌, ◌≤◌, ◌+◌, length, map, IfErr, OnOk};
-ghost use Rattle.hyd_net.specs.Sound.{Sound};
+ghost use Rattle.hyd_net.specs.Sound.{IsSound};
 ghost use Rattle.hyd_spec.specs.NodeNumbers.{tank_count};
 ghost use Rattle.hyd_spec_certificates.specs.Spans.{levels_of};
 ghost use Rattle.hyd_spec_certificates.specs.Valid.{AreStates, ControlsAreDecided};
@@ -30,7 +30,7 @@ pub(crate) fn put_settled(
     levels: &[LevelSpan],
     states: &mut List<TankState>,
 ) -> Result<(), Unsettled>
-    requires sound { Sound project.now }
+    requires sound { IsSound project.now }
     requires each_level { length levels.now ≡ tank_count project.now }
     requires room { tank_count project.now ≤ length states.old.list + states.old.spare }
     ensures states { OnOk result (AreStates project.now (map levels_of levels.now) states.new.list) }

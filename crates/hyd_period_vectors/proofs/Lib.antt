@@ -1,6 +1,6 @@
-pub mod Turning
-pub mod Telling
-pub mod Reaching
-pub mod Spending
-pub mod Nearing
-pub mod Coming
+pub mod VectorsInTurn
+pub mod SoughtVectors
+pub mod BurningTest
+pub mod RoundsSpentAnywhere
+pub mod StartFromOtherSide
+pub mod SearchGoesOn

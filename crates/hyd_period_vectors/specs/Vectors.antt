@@ -1,11 +1,9 @@
 -- What a search for the vectors of a period finds.
 -- Source: this program's.
-use Rattle.std.specs.Prelude.{◌≡◌, ℕ, ◌<◌, ◌≤◌, ℤ, ◌≤ℤ◌, Bool, true, false, List, length, Option, Some, None, slice_get}
-use Rattle.std.specs.Prelude.{◌⊎◌}
+use Rattle.std.specs.Prelude.{◌≡◌, ℕ, ◌<◌, ◌≤◌, ℤ, Bool, true, false, List, length, Option, Some, None, ◌⊎◌}
 use Rattle.hyd_spec_certificates.specs.declared.Problem.{Problem}
 use Rattle.hyd_spec_certificates.specs.declared.Side.{Side}
 use Rattle.hyd_spec_certificates.specs.declared.Problem.TheVariants.{Main}
-use Rattle.hyd_spec_certificates.specs.Interval.{Interval}
 use Rattle.hyd_spec_certificates.specs.PeriodNetwork.{Grid, opposite}
 use Rattle.hyd_spec_certificates.specs.Certificate.{IsCertificate, AreRounds, IsTight}
 use Rattle.hyd_spec_certificates.specs.RecordAndStanding.{Record, vector_of}
@@ -48,10 +46,6 @@ IsOffered true told grid tanks problem side u = ⊥
 IsOffered false told grid tanks problem side u = IsTold told grid tanks problem side u
 
 -- ---- rounds
-
--- each tank's interval is in order
-abbrev pub InOrder : Grid → Type 0
-InOrder grid = (k : ℕ) (x : Interval) → slice_get grid.tanks k ≡ Some x → x.lo ≤ℤ x.hi
 
 -- the vector of MAIN on the other side is a certificate, where its turn comes before
 abbrev pub HasOther : Grid → Problem → Side → Record → Type 0

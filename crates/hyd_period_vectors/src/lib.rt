@@ -5,7 +5,7 @@
 mod missing_vector;
 mod one_vector;
 mod search;
-mod starting;
+mod search_start;
 
 pub use missing_vector::Lack;
 pub use search::Search;

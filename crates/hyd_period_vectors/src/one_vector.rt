@@ -8,12 +8,13 @@ ghost use Rattle.hyd_cert.specs.RecordView.{header_of, row_of};
 ghost use Rattle.hyd_period_network.specs.NetAsPeriodNetwork.{grid_of};
 ghost use Rattle.hyd_period_network.specs.NetInvariant.{HasProblem};
 ghost use Rattle.hyd_sweep.specs.LeapingRounds.{AreLeapingRounds};
-ghost use Rattle.hyd_period_vectors.specs.Vectors.{HasOther, InOrder, Fits, IsFound, IsTold};
+ghost use Rattle.hyd_theorems_on_definitions.specs.TermsOfTheorems.{TanksInOrder};
+ghost use Rattle.hyd_period_vectors.specs.Vectors.{HasOther, Fits, IsFound, IsTold};
 ghost use Rattle.hyd_period_vectors.specs.Vectors.{IsSought, IsOffered, Tells};
 ghost use Rattle.hyd_period_vectors.specs.Vectors.{Comes, Lacks};
 
 use crate::missing_vector::Lack;
-use crate::starting::{Starter, begin_near};
+use crate::search_start::{Starter, begin_near};
 use hyd_cert::Record;
 use hyd_finders::Finder;
 use hyd_period_network::Net;
@@ -97,7 +98,7 @@ pub(crate) fn find<F: Finder>(
     requires starter_room { starter.old ≡ length heads.old }
     requires room { sweeper.old ≡ length heads.old }
     requires pinned { HasProblem net.now problem }
-    requires order { InOrder (grid_of net.now) }
+    requires order { TanksInOrder (grid_of net.now) }
     requires fits { Fits net.now (header_of row.now) }
     requires other { HasOther (grid_of net.now) problem side (row_of row.now) }
     ensures sought { OnOk result

@@ -8,11 +8,12 @@ ghost use Rattle.hyd_cert.specs.RecordView.{header_of, row_of};
 ghost use Rattle.hyd_period_network.specs.NetAsPeriodNetwork.{grid_of};
 ghost use Rattle.hyd_period_network.specs.NetInvariant.{HasProblem};
 ghost use Rattle.hyd_period_vectors.specs.Vectors.{IsSought, Comes, LacksFirst, EachBefore};
-ghost use Rattle.hyd_period_vectors.specs.Vectors.{OfEach, InOrder, Stays, Fits};
+ghost use Rattle.hyd_theorems_on_definitions.specs.TermsOfTheorems.{TanksInOrder};
+ghost use Rattle.hyd_period_vectors.specs.Vectors.{OfEach, Stays, Fits};
 
 use crate::missing_vector::Lack;
 use crate::one_vector::find;
-use crate::starting::Starter;
+use crate::search_start::Starter;
 use hyd_cert::Record;
 use hyd_finders::Finder;
 use hyd_period_network::Net;
@@ -70,7 +71,7 @@ impl Search {
     ) -> Result<(), Lack>
         requires room { self.old.junctions ≡ length net.now.junctions }
         requires fits { Fits net.now (header_of row.old) }
-        requires order { InOrder (grid_of net.now) }
+        requires order { TanksInOrder (grid_of net.now) }
         requires pinned { HasProblem net.now problem }
         requires before { EachBefore (IsSought tight (F.told finder.old) (grid_of net.now) (length net.now.tanks))
             (length net.now.tanks) (turn problem side) (row_of row.old) }
@@ -116,7 +117,7 @@ impl Search {
     ) -> Result<(), Lack>
         requires room { self.old.junctions ≡ length net.now.junctions }
         requires fits { Fits net.now (header_of row.old) }
-        requires order { InOrder (grid_of net.now) }
+        requires order { TanksInOrder (grid_of net.now) }
         requires pinned { HasProblem net.now problem }
         requires before { EachBefore (IsSought tight (F.told finder.old) (grid_of net.now) (length net.now.tanks))
             (length net.now.tanks) (turn problem Upper) (row_of row.old) }
@@ -153,7 +154,7 @@ impl Search {
     ) -> Result<(), Lack>
         requires room { self.old.junctions ≡ length net.now.junctions }
         requires fits { Fits net.now (header_of row.old) }
-        requires order { InOrder (grid_of net.now) }
+        requires order { TanksInOrder (grid_of net.now) }
         ensures found { OnOk result (OfEach (IsSought tight (F.told finder.old) (grid_of net.now)
             (length net.now.tanks))
             (length net.now.tanks) (row_of row.new)) }

@@ -1,5 +1,5 @@
 pub mod ChangeLemmas
-pub mod Joining
+pub mod JoinedTexts
 pub mod LineLemmas
 pub mod LinkLemmas
 pub mod LoopLemmas

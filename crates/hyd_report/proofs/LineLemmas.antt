@@ -24,7 +24,7 @@ use Rattle.hyd_spec_reports.specs.ReportLine.{ReportLine, JunctionLine, Reservoi
 use Rattle.hyd_spec_reports.specs.Report.{status_of}
 use Rattle.hyd_spec_reports.specs.declared.StatusWord.{StatusWord}
 use Rattle.hyd_bounds.specs.VectorsInOrder.{IsSpan, AreInOrder}
-use Rattle.hyd_report.specs.Printing.{printed, quantity_in, ArePrinted}
+use Rattle.hyd_report.specs.PrintedIntervals.{printed, quantity_in, ArePrinted}
 use Rattle.hyd_report.specs.NodeAndLinkLines.{texts, junction_between, junction_line, reservoir_line, tank_at}
 use Rattle.hyd_report.specs.NodeAndLinkLines.{tank_line, no_link, link_line}
 use Rattle.std.proofs.lemmas.List.{map-append}

@@ -20,7 +20,7 @@ use Rattle.hyd_period_network.specs.declared.net_types.Setting.{Setting}
 use Rattle.hyd_period_network.specs.ExactLaw.{exact_law}
 use Rattle.hyd_period_network.specs.NetView.{NetView}
 use Rattle.hyd_period_network.specs.NetAsPeriodNetwork.{grid_of, state_of, states_of, own_laws}
-use Rattle.hyd_period_network.specs.Periods.{IsNetOf}
+use Rattle.hyd_period_network.specs.NetsSetToPeriods.{IsNetOf}
 use Rattle.hyd_period_network.specs.LawsInSettings.{AreStates}
 use Rattle.hyd_lemmas.proofs.ListsOptionsAndResults.{item_there}
 

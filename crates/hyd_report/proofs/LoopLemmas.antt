@@ -9,7 +9,7 @@ use Rattle.hyd_io.specs.Output.{PenState}
 use Rattle.hyd_spec.specs.ProgramTypes.{Project}
 use Rattle.hyd_spec.specs.Lists.{map_from}
 use Rattle.hyd_spec_reports.specs.ReportLine.{ReportLine, line_text}
-use Rattle.hyd_io.specs.Putting.{Puts}
+use Rattle.hyd_io.specs.TextPutIn.{Puts}
 use Rattle.hyd_report.specs.NodeAndLinkLines.{texts}
 use Rattle.hyd_report.proofs.LineLemmas.{there, lines_more, lines_rest, lines_split}
 use Rattle.hyd_io.proofs.PutLemmas.{puts_then, puts_cut_off, puts_same}

@@ -4,12 +4,12 @@ use Rattle.std.proofs.lemmas.Int.{ints}
 use Rattle.hyd_num.specs.Rational.{negated, floor, ceiling}
 use Rattle.hyd_num.proofs.Floors.{floor_is, ceiling_is}
 use Rattle.hyd_num.specs.PrintedDecimals.{IsRoundedDown, IsRoundedUp}
-use Rattle.hyd_units.proofs.Wholes.{IsFloor-floor, IsCeiling-ceiling}
+use Rattle.hyd_units.proofs.FloorsAndCeilings.{IsFloor-floor, IsCeiling-ceiling}
 use Rattle.hyd_spec.specs.ProgramTypes.{Project}
 use Rattle.hyd_spec.specs.DemandsReservoirHeadsAndCurves.{is_us}
 use Rattle.hyd_spec_certificates.specs.Interval.{Interval}
 use Rattle.hyd_spec_reports.specs.Report.{Prints}
-use Rattle.hyd_report.specs.Printing.{in_ten_thousandths, printed, quantity_in}
+use Rattle.hyd_report.specs.PrintedIntervals.{in_ten_thousandths, printed, quantity_in}
 use Rattle.hyd_report.specs.declared.printed_intervals.Quantity.{Quantity}
 use Rattle.hyd_report.specs.declared.printed_intervals.Quantity.TheVariants.{Head, Pressure, Flow}
 use Rattle.hyd_lemmas.proofs.DenominatorsAboveZero.{flow_above, head_above, pressure_above}

@@ -23,7 +23,7 @@ use Rattle.hyd_spec_reports.specs.Report.{AreStateLines, AreEndLines, IsReport, 
 use Rattle.hyd_spec_reports.specs.Report.{changes_at, status_of}
 use Rattle.hyd_period_facts.specs.declared.facts.Facts.{Facts}
 use Rattle.hyd_period_facts.specs.FactsOfPeriod.{AreFacts}
-use Rattle.hyd_report.specs.Printing.{printed, quantity_in}
+use Rattle.hyd_report.specs.PrintedIntervals.{printed, quantity_in}
 use Rattle.hyd_report.specs.declared.printed_intervals.Quantity.TheVariants.{Head, Pressure, Flow}
 use Rattle.hyd_report.specs.EventTextsAndChangesByRules.{before_rules}
 use Rattle.hyd_report.specs.NodeAndLinkLines.{junction_line, reservoir_line, tank_line, no_link, link_line}

@@ -1,5 +1,5 @@
 pub mod NodeAndLinkLines
 pub mod PeriodLines
-pub mod Printing
+pub mod PrintedIntervals
 pub mod EventTextsAndChangesByRules
 pub mod RefusedText

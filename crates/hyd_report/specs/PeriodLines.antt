@@ -12,7 +12,7 @@ use Rattle.hyd_period_network.specs.NetView.{NetView}
 use Rattle.hyd_period_network.specs.NetAsPeriodNetwork.{grid_of}
 use Rattle.hyd_bounds.specs.VectorsInOrder.{IsVector, AreInOrder}
 use Rattle.hyd_period_facts.specs.declared.facts.Facts.{Facts}
-use Rattle.hyd_report.specs.Printing.{IsSmall}
+use Rattle.hyd_report.specs.PrintedIntervals.{IsSmall}
 use Rattle.hyd_report.specs.EventTextsAndChangesByRules.{before_rules}
 use Rattle.hyd_report.specs.NodeAndLinkLines.{junction_line, reservoir_line, tank_line, link_line}
 

@@ -5,12 +5,12 @@ ghost use Rattle.hyd_spec.specs.Lists.{joined};
 ghost use Rattle.hyd_spec_reports.specs.Report.{change_line};
 ghost use Rattle.hyd_report.specs.EventTextsAndChangesByRules.{is_by_rule, before_rules};
 ghost use Rattle.hyd_io.specs.Output.{OnCert};
-ghost use Rattle.hyd_net.specs.Sound.{Sound};
+ghost use Rattle.hyd_net.specs.Sound.{IsSound};
 ghost use Rattle.hyd_spec_reports.specs.ReportLine.{ControlLine, RuleLine, line_text};
-ghost use Rattle.hyd_io.specs.Putting.{Puts};
+ghost use Rattle.hyd_io.specs.TextPutIn.{Puts};
 
 use crate::ids::{link_id, rule_id};
-use crate::numbers::{clock, number};
+use crate::numbers_times_and_settings::{clock, number};
 use crate::pieces::put_pieces;
 use crate::states::state_text;
 use hyd_io::{Desk, OutFault, Pen};
@@ -27,7 +27,7 @@ fn put_control<D: Desk>(
     pen: &mut Pen,
     desk: &mut D,
 ) -> Result<(), OutFault>
-    requires sound { Sound project.now }
+    requires sound { IsSound project.now }
     requires ready { OnCert pen.old.to (IsTrue (D.ready desk.old)) }
     ensures { Puts D.files D.rest D.written D.printed D.target D.ready D.counts D.openings
         (line_text project.now (ControlLine time control link to.now)) result pen.old pen.new desk.old desk.new }
@@ -62,7 +62,7 @@ fn put_rule<D: Desk>(
     pen: &mut Pen,
     desk: &mut D,
 ) -> Result<(), OutFault>
-    requires sound { Sound project.now }
+    requires sound { IsSound project.now }
     requires ready { OnCert pen.old.to (IsTrue (D.ready desk.old)) }
     ensures { Puts D.files D.rest D.written D.printed D.target D.ready D.counts D.openings
         (line_text project.now (RuleLine time rule link to.now)) result pen.old pen.new desk.old desk.new }
@@ -94,7 +94,7 @@ fn put_change<D: Desk>(
     pen: &mut Pen,
     desk: &mut D,
 ) -> Result<(), OutFault>
-    requires sound { Sound project.now }
+    requires sound { IsSound project.now }
     requires ready { OnCert pen.old.to (IsTrue (D.ready desk.old)) }
     ensures { Puts D.files D.rest D.written D.printed D.target D.ready D.counts D.openings
         (line_text project.now (change_line time change.now)) result pen.old pen.new desk.old desk.new }
@@ -115,7 +115,7 @@ pub(crate) fn put_changes<D: Desk>(
     pen: &mut Pen,
     desk: &mut D,
 ) -> Result<(), OutFault>
-    requires sound { Sound project.now }
+    requires sound { IsSound project.now }
     requires ready { OnCert pen.old.to (IsTrue (D.ready desk.old)) }
     requires unbroken { pen.old.fault ≡ None }
     ensures { Puts D.files D.rest D.written D.printed D.target D.ready D.counts D.openings

@@ -3,9 +3,9 @@
 ghost use Rattle.std.specs.Prelude.{IsTrue};
 ghost use Rattle.hyd_io.specs.Output.{OnCert};
 ghost use Rattle.hyd_spec_reports.specs.ReportLine.{done_line, partial_line, refused_end_line};
-ghost use Rattle.hyd_io.specs.Putting.{Puts};
+ghost use Rattle.hyd_io.specs.TextPutIn.{Puts};
 
-use crate::numbers::number;
+use crate::numbers_times_and_settings::number;
 use crate::pieces::put_pieces;
 use hyd_io::{Desk, OutFault, Pen};
 

@@ -3,14 +3,14 @@
 ghost use Rattle.std.specs.Prelude.{◌≡◌, map, IsTrue, None};
 ghost use Rattle.hyd_spec.specs.Lists.{joined};
 ghost use Rattle.hyd_io.specs.Output.{OnCert};
-ghost use Rattle.hyd_net.specs.Sound.{Sound};
+ghost use Rattle.hyd_net.specs.Sound.{IsSound};
 ghost use Rattle.hyd_spec_reports.specs.ReportLine.{line_text};
 ghost use Rattle.hyd_spec_reports.specs.Report.{event_line};
-ghost use Rattle.hyd_io.specs.Putting.{Puts};
+ghost use Rattle.hyd_io.specs.TextPutIn.{Puts};
 ghost use Rattle.hyd_report.specs.EventTextsAndChangesByRules.{event_text};
 
 use crate::ids::tank_id;
-use crate::numbers::{clock, number};
+use crate::numbers_times_and_settings::{clock, number};
 use crate::pieces::put_pieces;
 use crate::short_text::Text;
 use hyd_io::{Desk, OutFault, Pen};
@@ -41,7 +41,7 @@ fn put_event<D: Desk>(
     pen: &mut Pen,
     desk: &mut D,
 ) -> Result<(), OutFault>
-    requires sound { Sound project.now }
+    requires sound { IsSound project.now }
     requires ready { OnCert pen.old.to (IsTrue (D.ready desk.old)) }
     ensures { Puts D.files D.rest D.written D.printed D.target D.ready D.counts D.openings
         (line_text project.now (event_line time event.now)) result pen.old pen.new desk.old desk.new }
@@ -71,7 +71,7 @@ pub(crate) fn put_events<D: Desk>(
     pen: &mut Pen,
     desk: &mut D,
 ) -> Result<(), OutFault>
-    requires sound { Sound project.now }
+    requires sound { IsSound project.now }
     requires ready { OnCert pen.old.to (IsTrue (D.ready desk.old)) }
     requires unbroken { pen.old.fault ≡ None }
     ensures { Puts D.files D.rest D.written D.printed D.target D.ready D.counts D.openings

@@ -1,14 +1,14 @@
 //! The IDs of nodes, links and rules by their numbers. A number that there isn't has the empty one.
 
 ghost use Rattle.std.specs.Prelude.{◌≡◌};
-ghost use Rattle.hyd_net.specs.Sound.{Sound};
+ghost use Rattle.hyd_net.specs.Sound.{IsSound};
 ghost use Rattle.hyd_spec_reports.specs.ReportLine.{node_id, tank_id, reservoir_id, link_id, rule_id};
 
 use hyd_net::Project;
 
 /// The ID of a node.
 pub(crate) fn node_id(project: &Project, node: usize) -> &[u8]
-    requires { Sound project.now }
+    requires { IsSound project.now }
     ensures { result.now ≡ node_id project.now node }
 {
     let nodes = project.junctions.len() + project.reservoirs.len() + project.tanks.len();
@@ -20,7 +20,7 @@ pub(crate) fn node_id(project: &Project, node: usize) -> &[u8]
 
 /// The ID of a reservoir.
 pub(crate) fn reservoir_id(project: &Project, reservoir: u32) -> &[u8]
-    requires { Sound project.now }
+    requires { IsSound project.now }
     ensures { result.now ≡ reservoir_id project.now reservoir }
 {
     node_id(project, project.junctions.len() + reservoir as usize)
@@ -28,7 +28,7 @@ pub(crate) fn reservoir_id(project: &Project, reservoir: u32) -> &[u8]
 
 /// The ID of a tank.
 pub(crate) fn tank_id(project: &Project, tank: u32) -> &[u8]
-    requires { Sound project.now }
+    requires { IsSound project.now }
     ensures { result.now ≡ tank_id project.now tank }
 {
     let before = project.junctions.len() + project.reservoirs.len();
@@ -37,7 +37,7 @@ pub(crate) fn tank_id(project: &Project, tank: u32) -> &[u8]
 
 /// The ID of a link.
 pub(crate) fn link_id(project: &Project, link: u32) -> &[u8]
-    requires { Sound project.now }
+    requires { IsSound project.now }
     ensures { result.now ≡ link_id project.now link }
 {
     if (link as usize) < project.links.len() {

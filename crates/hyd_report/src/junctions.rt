@@ -3,7 +3,7 @@
 ghost use Rattle.std.specs.Prelude.{◌≡◌, ◌<◌, ◌≤◌, ◌^◌, ◌≤ℤ◌, ◌-ℤ◌, pos, length, unsigned_abs, slice_get, IsTrue};
 ghost use Rattle.std.specs.Prelude.{IfSome, None};
 ghost use Rattle.hyd_io.specs.Output.{OnCert};
-ghost use Rattle.hyd_net.specs.Sound.{Sound};
+ghost use Rattle.hyd_net.specs.Sound.{IsSound};
 ghost use Rattle.hyd_spec.specs.Lists.{map_from};
 ghost use Rattle.hyd_spec_certificates.specs.Certificate.{IsInBox};
 ghost use Rattle.hyd_spec_certificates.specs.PeriodNetwork.{all_heads};
@@ -13,8 +13,8 @@ ghost use Rattle.hyd_spec_certificates.specs.declared.Side.TheVariants.{Upper, L
 ghost use Rattle.hyd_spec_reports.specs.ReportLine.{JunctionLine, line_text};
 ghost use Rattle.hyd_period_network.specs.NetAsPeriodNetwork.{grid_of};
 ghost use Rattle.hyd_bounds.specs.VectorsInOrder.{IsVector, AreInOrder};
-ghost use Rattle.hyd_io.specs.Putting.{Puts};
-ghost use Rattle.hyd_report.specs.Printing.{ArePrinted};
+ghost use Rattle.hyd_io.specs.TextPutIn.{Puts};
+ghost use Rattle.hyd_report.specs.PrintedIntervals.{ArePrinted};
 ghost use Rattle.hyd_report.specs.NodeAndLinkLines.{texts, junction_between, junction_line};
 
 use crate::ids::node_id;
@@ -35,7 +35,7 @@ fn put_parts<D: Desk>(
     pen: &mut Pen,
     desk: &mut D,
 ) -> Result<(), OutFault>
-    requires sound { Sound project.now }
+    requires sound { IsSound project.now }
     requires ready { OnCert pen.old.to (IsTrue (D.ready desk.old)) }
     ensures { (h p o : Interval) → ArePrinted h head.now → ArePrinted p pressure.now → ArePrinted o outflow.now
         → Puts D.files D.rest D.written D.printed D.target D.ready D.counts D.openings
@@ -74,7 +74,7 @@ fn put_junction<D: Desk>(
     pen: &mut Pen,
     desk: &mut D,
 ) -> Result<(), OutFault>
-    requires sound { Sound project.now }
+    requires sound { IsSound project.now }
     requires in_range { junction < length net.now.junctions }
     requires lower { IsInBox lower.now }
     requires upper { IsInBox upper.now }
@@ -101,7 +101,7 @@ pub(crate) fn put_junctions<D: Desk>(
     pen: &mut Pen,
     desk: &mut D,
 ) -> Result<(), OutFault>
-    requires sound { Sound project.now }
+    requires sound { IsSound project.now }
     requires lower { IsVector net.now lower.now }
     requires upper { IsVector net.now upper.now }
     requires ordered { AreInOrder (pos 0) lower.now upper.now }

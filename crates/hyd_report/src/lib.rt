@@ -1,4 +1,5 @@
-//! The report of a period: what puts its lines out, and the last line of a run.
+//! What puts out the report of a period, the last line of a run or of a check, and the one line of an input file that
+//! is refused.
 #![tactic(auto)]
 
 mod changes;
@@ -7,18 +8,18 @@ mod events;
 mod ids;
 mod junctions;
 mod links;
-mod numbers;
+mod numbers_times_and_settings;
 mod pieces;
 mod printed_intervals;
 mod refused_records;
 mod refused_text;
 mod report;
+mod report_time;
 mod reservoirs;
 mod short_text;
 mod states;
 mod stops;
 mod tanks;
-mod times;
 
 pub use done_partial_and_refused_end::{put_done, put_partial, put_refused_end};
 pub use refused_records::put_refused;

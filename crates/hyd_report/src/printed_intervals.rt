@@ -1,10 +1,10 @@
-//! Printed decimals.
+//! The two ends of intervals as printed decimals.
 
 ghost use Rattle.std.specs.Prelude.{◌≡◌, ◌≤◌, ◌^◌, ◌+ℤ◌, ◌-ℤ◌, unsigned_abs};
 ghost use Rattle.hyd_spec_certificates.specs.Spans.{levels_of, flows_of};
 ghost use Rattle.hyd_spec_certificates.specs.Interval.{shifted};
 ghost use Rattle.hyd_units.specs.PrintedText.{IsDecimalOf};
-ghost use Rattle.hyd_report.specs.Printing.{printed, quantity_in, ArePrinted};
+ghost use Rattle.hyd_report.specs.PrintedIntervals.{printed, quantity_in, ArePrinted};
 ghost use Rattle.hyd_report.specs.declared.printed_intervals.Quantity.TheVariants.{Head, Pressure, Flow};
 
 use crate::short_text::Text;
@@ -21,7 +21,7 @@ pub(crate) enum Quantity {
     Flow,
 }
 
-/// The number of ticks in the units of the project's file, rounded one way to four decimals.
+/// The number of ticks in the units of the network's file, rounded one way to four decimals.
 fn print_ticks(project: &Project, quantity: Quantity, ticks: i128, way: Way) -> Text
     requires { unsigned_abs ticks ≤ 10 ^ 27 }
     ensures { IsDecimalOf way (quantity_in project.now quantity ticks) result }
@@ -43,7 +43,7 @@ pub(crate) struct Ends {
     pub(crate) high: Text,
 }
 
-/// The ends of an interval of ticks, in the units of the project's file.
+/// The ends of an interval of ticks, in the units of the network's file.
 pub(crate) fn print_ends(project: &Project, quantity: Quantity, low: i128, high: i128) -> Ends
     requires low { unsigned_abs low ≤ 10 ^ 27 }
     requires high { unsigned_abs high ≤ 10 ^ 27 }

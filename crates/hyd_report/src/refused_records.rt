@@ -2,12 +2,12 @@
 
 ghost use Rattle.std.specs.Prelude.{◌≡◌, ◌++◌, codes, IsTrue};
 ghost use Rattle.hyd_io.specs.Output.{OnCert};
-ghost use Rattle.hyd_net.specs.Sound.{Sound};
+ghost use Rattle.hyd_net.specs.Sound.{IsSound};
 ghost use Rattle.hyd_spec_reports.specs.CertificateText.{words};
 ghost use Rattle.hyd_spec_reports.specs.ReportLine.{refused_period, refusal_words, refused_line};
-ghost use Rattle.hyd_io.specs.Putting.{Puts};
+ghost use Rattle.hyd_io.specs.TextPutIn.{Puts};
 
-use crate::numbers::number;
+use crate::numbers_times_and_settings::number;
 use crate::pieces::put_pieces;
 use crate::stops::put_failing;
 use hyd_io::{Desk, OutFault, Pen};
@@ -21,7 +21,7 @@ fn put_refusal<D: Desk>(
     pen: &mut Pen,
     desk: &mut D,
 ) -> Result<(), OutFault>
-    requires sound { Sound project.now }
+    requires sound { IsSound project.now }
     requires ready { OnCert pen.old.to (IsTrue (D.ready desk.old)) }
     ensures { Puts D.files D.rest D.written D.printed D.target D.ready D.counts D.openings
         (words (refusal_words project.now cause.now) ++ codes "\n")
@@ -64,7 +64,7 @@ pub fn put_refused<D: Desk>(
     pen: &mut Pen,
     desk: &mut D,
 ) -> Result<(), OutFault>
-    requires sound { Sound project.now }
+    requires sound { IsSound project.now }
     requires ready { OnCert pen.old.to (IsTrue (D.ready desk.old)) }
     ensures { Puts D.files D.rest D.written D.printed D.target D.ready D.counts D.openings
         (refused_line project.now cause.now)

@@ -2,17 +2,17 @@
 
 ghost use Rattle.std.specs.Prelude.{◌≡◌, ◌+◌, ◌++◌, take, drop, IsTrue, None};
 ghost use Rattle.hyd_io.specs.Output.{OnCert};
-ghost use Rattle.hyd_net.specs.Sound.{Sound};
+ghost use Rattle.hyd_net.specs.Sound.{IsSound};
 ghost use Rattle.hyd_spec.specs.Lists.{map_from};
 ghost use Rattle.hyd_spec_certificates.specs.Decided.{heads_below, heads_above};
 ghost use Rattle.hyd_spec_certificates.specs.RecordAndStanding.{Standing};
 ghost use Rattle.hyd_spec_reports.specs.Report.{IsReport};
 ghost use Rattle.hyd_period_facts.specs.FactsOfPeriod.{AreFacts};
 ghost use Rattle.hyd_period_network.specs.NetAsPeriodNetwork.{grid_of, states_of};
-ghost use Rattle.hyd_period_network.specs.Periods.{IsNetOf};
+ghost use Rattle.hyd_period_network.specs.NetsSetToPeriods.{IsNetOf};
 ghost use Rattle.hyd_period_network.specs.LawsInSettings.{AreStates};
 ghost use Rattle.hyd_cert.specs.RecordView.{row_of};
-ghost use Rattle.hyd_io.specs.Putting.{Puts};
+ghost use Rattle.hyd_io.specs.TextPutIn.{Puts};
 ghost use Rattle.hyd_report.specs.NodeAndLinkLines.{texts, tank_line, link_line};
 ghost use Rattle.hyd_report.specs.EventTextsAndChangesByRules.{before_rules};
 ghost use Rattle.hyd_report.specs.PeriodLines.{start_lines, state_lines, middle_lines, end_lines, lines_of};
@@ -24,9 +24,9 @@ use crate::events::put_events;
 use crate::junctions::put_junctions;
 use crate::links::put_links;
 use crate::pieces::put_piece;
+use crate::report_time::{is_report_time, put_time};
 use crate::reservoirs::put_reservoirs;
 use crate::tanks::put_tanks;
-use crate::times::{is_report_time, put_time};
 use hyd_cert::Record;
 use hyd_io::{Desk, OutFault, Pen};
 use hyd_net::Project;
@@ -58,7 +58,7 @@ fn put_start<D: Desk>(
     pen: &mut Pen,
     desk: &mut D,
 ) -> Result<(), OutFault>
-    requires sound { Sound project.now }
+    requires sound { IsSound project.now }
     requires ready { OnCert pen.old.to (IsTrue (D.ready desk.old)) }
     ensures { Puts D.files D.rest D.written D.printed D.target D.ready D.counts D.openings
         (texts project.now (start_lines facts.now))
@@ -92,7 +92,7 @@ fn put_end<D: Desk>(
     pen: &mut Pen,
     desk: &mut D,
 ) -> Result<(), OutFault>
-    requires sound { Sound project.now }
+    requires sound { IsSound project.now }
     requires ready { OnCert pen.old.to (IsTrue (D.ready desk.old)) }
     requires unbroken { pen.old.fault ≡ None }
     ensures { Puts D.files D.rest D.written D.printed D.target D.ready D.counts D.openings
@@ -116,7 +116,7 @@ fn put_tanks_and_links<D: Desk>(
     pen: &mut Pen,
     desk: &mut D,
 ) -> Result<(), OutFault>
-    requires sound { Sound project.now }
+    requires sound { IsSound project.now }
     requires of { IsNetOf project.now net.now }
     requires states { AreStates project.now (states_of net.now) }
     requires bounds { AreBounds net.now (row_of row.now) }
@@ -155,7 +155,7 @@ fn put_state<D: Desk>(
     pen: &mut Pen,
     desk: &mut D,
 ) -> Result<(), OutFault>
-    requires sound { Sound project.now }
+    requires sound { IsSound project.now }
     requires of { IsNetOf project.now net.now }
     requires states { AreStates project.now (states_of net.now) }
     requires bounds { AreBounds net.now (row_of row.now) }
@@ -191,7 +191,7 @@ fn put_middle<D: Desk>(
     pen: &mut Pen,
     desk: &mut D,
 ) -> Result<(), OutFault>
-    requires sound { Sound project.now }
+    requires sound { IsSound project.now }
     requires of { IsNetOf project.now net.now }
     requires states { AreStates project.now (states_of net.now) }
     requires bounds { AreBounds net.now (row_of row.now) }
@@ -222,7 +222,7 @@ pub fn put_report<D: Desk>(
     pen: &mut Pen,
     desk: &mut D,
 ) -> Result<(), OutFault>
-    requires sound { Sound project.now }
+    requires sound { IsSound project.now }
     requires of { IsNetOf project.now net.now }
     requires states { AreStates project.now (states_of net.now) }
     requires bounds { AreBounds net.now (row_of row.now) }

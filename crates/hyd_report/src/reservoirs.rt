@@ -2,13 +2,13 @@
 
 ghost use Rattle.std.specs.Prelude.{◌≡◌, ◌<◌, length, slice_get, IsTrue, IfSome, None};
 ghost use Rattle.hyd_io.specs.Output.{OnCert};
-ghost use Rattle.hyd_net.specs.Sound.{Sound};
+ghost use Rattle.hyd_net.specs.Sound.{IsSound};
 ghost use Rattle.hyd_spec.specs.Lists.{map_from};
 ghost use Rattle.hyd_spec_certificates.specs.Interval.{Interval};
 ghost use Rattle.hyd_spec_reports.specs.ReportLine.{ReservoirLine, line_text};
 ghost use Rattle.hyd_period_network.specs.NetAsPeriodNetwork.{grid_of};
-ghost use Rattle.hyd_io.specs.Putting.{Puts};
-ghost use Rattle.hyd_report.specs.Printing.{ArePrinted};
+ghost use Rattle.hyd_io.specs.TextPutIn.{Puts};
+ghost use Rattle.hyd_report.specs.PrintedIntervals.{ArePrinted};
 ghost use Rattle.hyd_report.specs.NodeAndLinkLines.{texts, reservoir_line};
 
 use crate::ids::reservoir_id;
@@ -27,7 +27,7 @@ fn put_parts<D: Desk>(
     pen: &mut Pen,
     desk: &mut D,
 ) -> Result<(), OutFault>
-    requires sound { Sound project.now }
+    requires sound { IsSound project.now }
     requires ready { OnCert pen.old.to (IsTrue (D.ready desk.old)) }
     ensures { (h : Interval) → ArePrinted h head.now
         → Puts D.files D.rest D.written D.printed D.target D.ready D.counts D.openings
@@ -56,7 +56,7 @@ fn put_reservoir<D: Desk>(
     pen: &mut Pen,
     desk: &mut D,
 ) -> Result<(), OutFault>
-    requires sound { Sound project.now }
+    requires sound { IsSound project.now }
     requires in_range { reservoir < length net.now.reservoirs }
     requires ready { OnCert pen.old.to (IsTrue (D.ready desk.old)) }
     ensures { IfSome (slice_get (grid_of net.now).reservoirs reservoir) (λ height.
@@ -77,7 +77,7 @@ pub(crate) fn put_reservoirs<D: Desk>(
     pen: &mut Pen,
     desk: &mut D,
 ) -> Result<(), OutFault>
-    requires sound { Sound project.now }
+    requires sound { IsSound project.now }
     requires ready { OnCert pen.old.to (IsTrue (D.ready desk.old)) }
     requires unbroken { pen.old.fault ≡ None }
     ensures { Puts D.files D.rest D.written D.printed D.target D.ready D.counts D.openings

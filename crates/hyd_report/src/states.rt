@@ -5,7 +5,7 @@ ghost use Rattle.hyd_num.specs.PrintedDecimals.{setting_text};
 ghost use Rattle.hyd_spec_reports.specs.CertificateText.{words};
 ghost use Rattle.hyd_spec_reports.specs.ReportLine.{state_words, tank_word, status_text, side_word};
 
-use crate::numbers::push_setting;
+use crate::numbers_times_and_settings::push_setting;
 use crate::short_text::Text;
 use hyd_net::LinkState;
 use hyd_spec::TankState;

@@ -1,16 +1,16 @@
-//! The lines of problems without a certificate, of stops and of refusals.
+//! The line of a stop, and the words of a problem, side and junction, which lines of refusals have too.
 
 ghost use Rattle.std.specs.Prelude.{◌≡◌, ◌+◌, ◌++◌, [], ◌∷◌, codes, decimal, IsTrue};
 ghost use Rattle.hyd_io.specs.Output.{OnCert};
-ghost use Rattle.hyd_net.specs.Sound.{Sound};
+ghost use Rattle.hyd_net.specs.Sound.{IsSound};
 ghost use Rattle.hyd_spec_reports.specs.CertificateText.{words};
 ghost use Rattle.hyd_spec_reports.specs.ReportLine.{node_id, rule_id, problem_words, side_word, cause_words, stop_line};
 ghost use Rattle.hyd_spec_reports.specs.Stops.{period_of};
 ghost use Rattle.std.specs.Fmt.{signed_decimal};
-ghost use Rattle.hyd_io.specs.Putting.{Puts};
+ghost use Rattle.hyd_io.specs.TextPutIn.{Puts};
 
 use crate::ids::{node_id, rule_id, tank_id};
-use crate::numbers::{clock, number, signed};
+use crate::numbers_times_and_settings::{clock, number, signed};
 use crate::pieces::{put_piece, put_pieces};
 use crate::states::side_word;
 use hyd_io::{Desk, OutFault, Pen};
@@ -26,7 +26,7 @@ fn put_problem<D: Desk>(
     pen: &mut Pen,
     desk: &mut D,
 ) -> Result<(), OutFault>
-    requires sound { Sound project.now }
+    requires sound { IsSound project.now }
     requires ready { OnCert pen.old.to (IsTrue (D.ready desk.old)) }
     ensures { Puts D.files D.rest D.written D.printed D.target D.ready D.counts D.openings
         (words (problem_words project.now problem ++ side_word side ∷ []))
@@ -58,7 +58,7 @@ pub(crate) fn put_failing<D: Desk>(
     pen: &mut Pen,
     desk: &mut D,
 ) -> Result<(), OutFault>
-    requires sound { Sound project.now }
+    requires sound { IsSound project.now }
     requires ready { OnCert pen.old.to (IsTrue (D.ready desk.old)) }
     ensures { Puts D.files D.rest D.written D.printed D.target D.ready D.counts D.openings
         (key.now ++ (words (problem_words project.now problem ++ side_word side ∷ [])
@@ -93,7 +93,7 @@ fn put_rounds<D: Desk>(
     pen: &mut Pen,
     desk: &mut D,
 ) -> Result<(), OutFault>
-    requires sound { Sound project.now }
+    requires sound { IsSound project.now }
     requires ready { OnCert pen.old.to (IsTrue (D.ready desk.old)) }
     ensures { Puts D.files D.rest D.written D.printed D.target D.ready D.counts D.openings
         (codes "ROUNDS " ++ (words (problem_words project.now problem ++ side_word side ∷ [])
@@ -164,6 +164,24 @@ fn put_open_rule<D: Desk>(
     put_between(b"", clause.bytes(), lo, hi, pen, desk)
 }
 
+/// Puts the words of a control that is open.
+fn put_open_control<D: Desk>(
+    control: u32,
+    lo: &i128,
+    hi: &i128,
+    pen: &mut Pen,
+    desk: &mut D,
+) -> Result<(), OutFault>
+    requires { OnCert pen.old.to (IsTrue (D.ready desk.old)) }
+    ensures { Puts D.files D.rest D.written D.printed D.target D.ready D.counts D.openings
+        (codes "CONTROL " ++ (decimal (control + 1) ++ (codes " " ++ (signed_decimal lo.now ++ (codes " "
+        ++ (signed_decimal hi.now ++ codes "\n"))))))
+        result pen.old pen.new desk.old desk.new }
+{
+    let control = number(u64::from(control) + 1);
+    put_between(b"CONTROL ", control.bytes(), lo, hi, pen, desk)
+}
+
 /// Puts the words of an end that is open between two seconds.
 fn put_open_event<D: Desk>(
     earliest: u32,
@@ -213,7 +231,7 @@ fn put_cause<D: Desk>(
     pen: &mut Pen,
     desk: &mut D,
 ) -> Result<(), OutFault>
-    requires sound { Sound project.now }
+    requires sound { IsSound project.now }
     requires ready { OnCert pen.old.to (IsTrue (D.ready desk.old)) }
     ensures { Puts D.files D.rest D.written D.printed D.target D.ready D.counts D.openings
         (words (cause_words project.now cause.now) ++ codes "\n")
@@ -241,10 +259,7 @@ fn put_cause<D: Desk>(
             lo,
             hi,
             ..
-        } => {
-            let control = number(u64::from(*control) + 1);
-            put_between(b"CONTROL ", control.bytes(), lo, hi, pen, desk)
-        }
+        } => { put_open_control(*control, lo, hi, pen, desk) }
         StopCause::EventOpen {
             earliest,
             latest,
@@ -288,7 +303,7 @@ pub fn put_stop<D: Desk>(
     pen: &mut Pen,
     desk: &mut D,
 ) -> Result<(), OutFault>
-    requires sound { Sound project.now }
+    requires sound { IsSound project.now }
     requires ready { OnCert pen.old.to (IsTrue (D.ready desk.old)) }
     ensures { Puts D.files D.rest D.written D.printed D.target D.ready D.counts D.openings
         (stop_line project.now time cause.now)

@@ -3,13 +3,13 @@
 ghost use Rattle.std.specs.Prelude.{◌≡◌, ◌<◌, ◌≤◌, ◌^◌, ◌++◌, codes, length, slice_get, unsigned_abs, All, IsTrue};
 ghost use Rattle.std.specs.Prelude.{IfSome, None};
 ghost use Rattle.hyd_io.specs.Output.{OnCert};
-ghost use Rattle.hyd_net.specs.Sound.{Sound};
+ghost use Rattle.hyd_net.specs.Sound.{IsSound};
 ghost use Rattle.hyd_spec.specs.Lists.{map_from};
 ghost use Rattle.hyd_spec_certificates.specs.Spans.{levels_of, flows_of};
 ghost use Rattle.hyd_spec_certificates.specs.Interval.{Interval};
 ghost use Rattle.hyd_spec_reports.specs.ReportLine.{TankLine, line_text, tank_word};
-ghost use Rattle.hyd_io.specs.Putting.{Puts};
-ghost use Rattle.hyd_report.specs.Printing.{ArePrinted, IsSmall};
+ghost use Rattle.hyd_io.specs.TextPutIn.{Puts};
+ghost use Rattle.hyd_report.specs.PrintedIntervals.{ArePrinted, IsSmall};
 ghost use Rattle.hyd_report.specs.NodeAndLinkLines.{texts, tank_at, tank_line};
 
 use crate::ids::tank_id;
@@ -45,7 +45,7 @@ fn put_parts<'x, D: Desk>(
     pen: &mut Pen,
     desk: &mut D,
 ) -> Result<(), OutFault>
-    requires sound { Sound project.now }
+    requires sound { IsSound project.now }
     requires ready { OnCert pen.old.to (IsTrue (D.ready desk.old)) }
     ensures { (h l i : Interval) → ArePrinted h head.now → ArePrinted l level.now → ArePrinted i inflow.now
         → Puts D.files D.rest D.written D.printed D.target D.ready D.counts D.openings
@@ -93,7 +93,7 @@ fn put_tank<D: Desk>(
     pen: &mut Pen,
     desk: &mut D,
 ) -> Result<(), OutFault>
-    requires sound { Sound project.now }
+    requires sound { IsSound project.now }
     requires in_range { tank < length project.now.tanks.list }
     requires small { IsSmall inflow.now }
     requires ready { OnCert pen.old.to (IsTrue (D.ready desk.old)) }
@@ -117,7 +117,7 @@ pub(crate) fn put_tanks<D: Desk>(
     pen: &mut Pen,
     desk: &mut D,
 ) -> Result<(), OutFault>
-    requires sound { Sound project.now }
+    requires sound { IsSound project.now }
     requires levels { length levels.now ≡ length project.now.tanks.list }
     requires inflows { length inflows.now ≡ length project.now.tanks.list }
     requires states { length states.now ≡ length project.now.tanks.list }

@@ -3,7 +3,7 @@
 
 ghost use Rattle.std.specs.Prelude.{◌≡◌, ◌<◌, Some, length, map, slice_get, IfErr, OnOk, IfOk};
 ghost use Rattle.std.specs.List.{All};
-ghost use Rattle.hyd_net.specs.Sound.{Sound};
+ghost use Rattle.hyd_net.specs.Sound.{IsSound};
 ghost use Rattle.hyd_spec.specs.ProgramTypes.{Rule};
 ghost use Rattle.hyd_spec.specs.NodeNumbers.{nodes_before_tanks, tank_count};
 ghost use Rattle.hyd_spec.specs.Rules.{Readings};
@@ -43,7 +43,7 @@ fn value_of(
     links: &[LinkState],
     time: u32,
 ) -> Result<bool, RuleOpen>
-    requires sound { Sound project.now }
+    requires sound { IsSound project.now }
     requires in_range { rule < length project.now.rules.list }
     requires each_low { length low.now ≡ nodes_before_tanks project.now }
     requires each_high { length high.now ≡ nodes_before_tanks project.now }
@@ -94,7 +94,7 @@ pub fn decide_all(
     time: u32,
     values: &mut [bool],
 ) -> Result<(), RuleOpen>
-    requires sound { Sound project.now }
+    requires sound { IsSound project.now }
     requires each_low { length low.now ≡ nodes_before_tanks project.now }
     requires each_high { length high.now ≡ nodes_before_tanks project.now }
     requires each_flow { length flows.now ≡ length project.now.links.list }

@@ -3,7 +3,7 @@
 
 ghost use Rattle.std.specs.Prelude.{◌≡◌, ◌≤◌, ◌+◌, ◌^◌, length, IfErr, OnOk};
 ghost use Rattle.std.specs.List.{All};
-ghost use Rattle.hyd_net.specs.Sound.{Sound};
+ghost use Rattle.hyd_net.specs.Sound.{IsSound};
 ghost use Rattle.hyd_spec.specs.NodeNumbers.{nodes_before_tanks, tank_count};
 ghost use Rattle.hyd_spec_certificates.specs.PeriodNetwork.{Grid};
 ghost use Rattle.hyd_spec_certificates.specs.RecordAndStanding.{Record, Standing};
@@ -35,7 +35,7 @@ pub fn try_rules(
     levels: &mut List<LevelSpan>,
     values: &mut [bool],
 ) -> Result<(), RuleOpen>
-    requires sound { Sound project.now }
+    requires sound { IsSound project.now }
     requires tanks { HaveTanks project.now facts.now }
     requires time { facts.now.time + seconds ≤ 10 ^ 8 }
     requires each_low { length low.now ≡ nodes_before_tanks project.now }

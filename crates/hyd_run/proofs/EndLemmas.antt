@@ -1,7 +1,7 @@
 -- The beginning and the end of a run.
 use Rattle.std.proofs.Common.{◌≡◌, ℕ, ◌<◌, ◌^◌, List, [], Option, None, sym, ap, subst, ◌∙◌, arith}
 use Rattle.std.specs.Prelude.{IsTrue, Result, Ok, Err, IfOk, IfErr, OnOk}
-use Rattle.hyd_net.specs.Sound.{Sound}
+use Rattle.hyd_net.specs.Sound.{IsSound}
 use Rattle.hyd_spec.specs.ProgramTypes.{Project}
 use Rattle.hyd_spec_certificates.specs.RecordAndStanding.{Standing, initial_standing}
 use Rattle.hyd_spec_reports.specs.CertificateText.{end_line}
@@ -13,7 +13,7 @@ use Rattle.hyd_io.specs.declared.output.OutFault.{OutFault}
 use Rattle.hyd_io.specs.Output.{PenState}
 use Rattle.hyd_sim.specs.View.{header_for}
 use Rattle.hyd_sim.specs.declared.settings.Settings.{Settings}
-use Rattle.hyd_run.specs.Pens.{Told, Moment, moment, AreOpen, PutIn, IsCutOff, OneRose, LeavesRest}
+use Rattle.hyd_run.specs.Pens.{Told, RunMoment, moment, AreOpen, PutIn, IsCutOff, OneRose, LeavesRest}
 use Rattle.hyd_run.specs.Runs.{sharpness_of, fresh, first_line, IsSoFar, IsWhole, IsCutShort, IsPutOut, IsBrokenOff}
 use Rattle.hyd_run.specs.Runs.{RunPuts, outcome_of}
 use Rattle.hyd_run.specs.declared.outcome.RunEnd.{RunEnd}
@@ -36,7 +36,7 @@ pen-fresh to pen e f g =
     ∙ ap (λ (h : List ℕ). record { to = to; fault = None; held = h }) g)
 
 -- the header and the first line were put in, or a fault cut them off
-pub begun : (project : Project) (settings : Settings) (left : Standing) (header : Header) (before now : Moment)
+pub begun : (project : Project) (settings : Settings) (left : Standing) (header : Header) (before now : RunMoment)
     → header ≡ header_for project
     → left ≡ initial_standing project → PutIn (header_text header) first_line before now
     → IsSoFar project (sharpness_of settings) left before now
@@ -45,7 +45,8 @@ begun project settings left header before now same start put =
     (so-far-begins project (sharpness_of settings) before now
     (subst (λ (h : Header). PutIn (header_text h) first_line before now) same put))
 
-pub begun-cut-off : (project : Project) (settings : Settings) (fault : OutFault) (header : Header) (before now : Moment)
+pub begun-cut-off : (project : Project) (settings : Settings) (fault : OutFault) (header : Header)
+    (before now : RunMoment)
     → header ≡ header_for project
     → IsCutOff fault (header_text header) first_line before now → IsCutShort project settings fault before now
 begun-cut-off project settings fault header before now same cut_off =
@@ -54,7 +55,7 @@ begun-cut-off project settings fault header before now same cut_off =
 
 -- the last lines were put in, or a fault cut them off
 pub ended : (project shown : Project) (settings : Settings) (outcome : Outcome) (left : Standing) (start before
-    now : Moment) (records : ℕ)
+    now : RunMoment) (records : ℕ)
     → shown ≡ project → records ≡ left.number → left.number < 2 ^ 32 → EndsSo project left settings.rounds outcome
     → PutIn (end_line records (is_finished outcome)) (last_line shown left records outcome) before now
     → IsSoFar project (sharpness_of settings) left start before → IsWhole project settings outcome start now
@@ -64,7 +65,7 @@ ended project shown settings outcome left start before now records same counted 
     before now) same put)
 
 pub ended-cut-off : (project shown : Project) (settings : Settings) (fault : OutFault) (outcome : Outcome) (left :
-    Standing) (start before now : Moment) (records : ℕ)
+    Standing) (start before now : RunMoment) (records : ℕ)
     → shown ≡ project → records ≡ left.number → EndsSo project left settings.rounds outcome
     → IsCutOff fault (end_line records (is_finished outcome)) (last_line shown left records outcome) before now
     → IsSoFar project (sharpness_of settings) left start before → IsCutShort project settings fault start now
@@ -75,7 +76,7 @@ ended-cut-off project shown settings fault outcome left start before now records
 
 -- ---- what a run gives
 
-module _ (project : Project) (settings : Settings) (start now : Moment) (sound : Sound project)
+module _ (project : Project) (settings : Settings) (start now : RunMoment) (sound : IsSound project)
     (certificate : start.certificate ≡ fresh Cert) (report : start.report ≡ fresh Report) where
   c-held : start.certificate.held ≡ []
   c-held = ap (λ (p : PenState). p.held) certificate
@@ -113,13 +114,13 @@ module _ (project : Project) (settings : Settings) (start now : Moment) (sound :
 
 -- what the last lines make of a run, as of the one that was begun
 pub ending-puts : (project p : Project) (settings s : Settings) (left : Standing) (outcome : Outcome)
-    (result : Result RunEnd OutFault) (start before now : Moment) → p ≡ project → s ≡ settings
-    → (EndsSo p left s.rounds outcome → (x : Moment) → IsSoFar p (sharpness_of s) left x before
+    (result : Result RunEnd OutFault) (start before now : RunMoment) → p ≡ project → s ≡ settings
+    → (EndsSo p left s.rounds outcome → (x : RunMoment) → IsSoFar p (sharpness_of s) left x before
     → RunPuts result p s x now)
     → EndsSo project left settings.rounds outcome → IsSoFar project (sharpness_of settings) left start before
     → RunPuts result project settings start now
 ending-puts project p settings s left outcome result start before now e f puts ends so_far =
-    subst (λ (t : Settings). EndsSo project left t.rounds outcome → (x : Moment)
+    subst (λ (t : Settings). EndsSo project left t.rounds outcome → (x : RunMoment)
     → IsSoFar project (sharpness_of t) left x before → RunPuts result project t x now) f
-    (subst (λ (q : Project). EndsSo q left s.rounds outcome → (x : Moment)
+    (subst (λ (q : Project). EndsSo q left s.rounds outcome → (x : RunMoment)
     → IsSoFar q (sharpness_of s) left x before → RunPuts result q s x now) e puts) ends start so_far

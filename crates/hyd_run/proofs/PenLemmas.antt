@@ -9,9 +9,9 @@ use Rattle.hyd_io.specs.declared.output.Channel.{Channel}
 use Rattle.hyd_io.specs.declared.output.Channel.TheVariants.{Cert, Report}
 use Rattle.hyd_io.specs.DeskBytes.{Files, Moves, PutOut, append_known}
 use Rattle.hyd_io.specs.Output.{by_channel, OnCert, OnReport, HasOutCause, PenState}
-use Rattle.hyd_io.proofs.ToldLemmas.{moves_then, put_out_then, put_out_nothing, moves_all}
-use Rattle.hyd_io.specs.Putting.{Puts}
-use Rattle.hyd_run.specs.Pens.{Told, told, Moment, moment, AreOpen, LeavesRest, PutIn, IsCutOff, PutsIn}
+use Rattle.hyd_io.proofs.MovedBytesLemmas.{moves_then, put_out_then, put_out_nothing, moves_all}
+use Rattle.hyd_io.specs.TextPutIn.{Puts}
+use Rattle.hyd_run.specs.Pens.{Told, told, RunMoment, moment, AreOpen, LeavesRest, PutIn, IsCutOff, PutsIn}
 
 -- whatever the channel
 pub on_any : (to : Channel) (P : Type 0) → P → OnCert to P
@@ -140,7 +140,8 @@ module _ {S : Type 0} {files : S → Option Files} {rest written printed target 
   }
 
 -- one pair of texts and then another
-pub put-then : (a b a' b' : List ℕ) (m n o : Moment) → PutIn a b m n → PutIn a' b' n o → PutIn (a ++ a') (b ++ b') m o
+pub put-then : (a b a' b' : List ℕ) (m n o : RunMoment) → PutIn a b m n → PutIn a' b' n o
+    → PutIn (a ++ a') (b ++ b') m o
 put-then a b a' b' m n o first second = record {
   written = subst (λ (all : List ℕ). Moves m.told.written o.told.written all o.certificate.held)
       (append_assoc m.certificate.held a a')
@@ -157,7 +158,7 @@ put-then a b a' b' m n o first second = record {
 }
 
 -- the second pair was cut off
-pub cut-off-then : (why : OutFault) (a b a' b' : List ℕ) (m n o : Moment) → PutIn a b m n → IsCutOff why a' b' n o
+pub cut-off-then : (why : OutFault) (a b a' b' : List ℕ) (m n o : RunMoment) → PutIn a b m n → IsCutOff why a' b' n o
     → IsCutOff why (a ++ a') (b ++ b') m o
 cut-off-then why a b a' b' m n o first second = record {
   written = subst (PutOut m.told.written o.told.written) (append_assoc m.certificate.held a a')

@@ -2,6 +2,7 @@
 use Rattle.std.proofs.Common.{◌≡◌, ℕ, suc, ◌<◌, ◌≤◌, ◌+◌, ◌^◌, ℤ, pos, List, length, sym, ap, ◌∙◌, arith}
 use Rattle.std.proofs.lemmas.Int.{ints}
 use Rattle.std.proofs.lemmas.List.Elements.{All-from_get_or}
+use Rattle.std.proofs.lemmas.List.{length-map}
 use Rattle.hyd_spec.specs.ProgramTypes.{Project}
 use Rattle.hyd_spec.specs.Lists.{map_from}
 use Rattle.hyd_spec.specs.NodeNumbers.{junction_count, tank_count}
@@ -14,19 +15,19 @@ use Rattle.hyd_spec_certificates.specs.Certificate.{IsCertificate}
 use Rattle.hyd_spec_certificates.specs.RecordAndStanding.{Record, Standing, Vectors, no_vectors}
 use Rattle.hyd_spec_certificates.specs.Valid.{AreCertificates, IsValid, LeadsOn, continues, finishes}
 use Rattle.hyd_spec_reports.specs.CertificateText.{IsRow, IsVector as IsRowVector}
-use Rattle.hyd_theorems_on_definitions.specs.TermsOfTheorems.{IsSteady}
+use Rattle.hyd_theorems_on_definitions.specs.TermsOfTheorems.{IsSteady, TanksInOrder}
 use Rattle.hyd_theorems_on_definitions.proofs.HeadLists.{fixed-in-order, ends-in-order}
 use Rattle.hyd_theorems_on_nesting.proofs.TwoSides.{heads_below_plus}
 use Rattle.hyd_period_network.specs.NetAsPeriodNetwork.{grid_of}
 use Rattle.hyd_period_network.specs.NetView.{NetView}
-use Rattle.hyd_period_network.specs.Periods.{IsNetOf}
-use Rattle.hyd_period_network.proofs.Counts.{junctions_count}
-use Rattle.hyd_period_network.proofs.Sounding.{long_zipped}
-use Rattle.hyd_bounds.specs.VectorsInOrder.{TanksInOrder}
+use Rattle.hyd_period_network.specs.NetsSetToPeriods.{IsNetOf, ends_of}
+use Rattle.hyd_period_network.proofs.GridJunctionsAndLinks.{junctions_count, links_count}
+use Rattle.hyd_period_network.proofs.NetOfSoundProject.{long_zipped}
 use Rattle.hyd_period_facts.specs.declared.facts.Facts.{Facts}
 use Rattle.hyd_report.specs.PeriodLines.{AreBounds, AreTankFacts}
 use Rattle.hyd_watched_levels.specs.FactsBeforeEnd.{HaveTanks}
 use Rattle.hyd_sim.specs.View.{SimView, IsSim, standing_of}
+use Rattle.hyd_run.specs.Runs.{periods_left}
 
 -- ---- bounds
 
@@ -89,6 +90,14 @@ grid-count project net of =
     let same = long_zipped _ _ _ of.junctions in
     junctions_count net.junctions net.demands (of.each_demand ∙ same) ∙ sym same
 
+-- the grid has each link
+pub each-link : (now : SimView) → IsSim now → length (grid_of now.net).links ≡ length now.project.links.list
+each-link now is =
+    let ends : length now.net.ends ≡ length now.project.links.list =
+    ap length is.net.ends ∙ length-map now.project.links.list ends_of in
+    links_count now.net.ends now.net.settings now.net.own (is.net.each_setting ∙ sym ends) (is.net.each_own ∙ sym ends)
+    ∙ ends
+
 -- ---- the number of the next standing
 
 -- no more periods were done than a run has seconds, but for the one at its end
@@ -111,3 +120,7 @@ number-next project standing grid row next valid = by valid.leads_on
     by : LeadsOn project grid standing row next → next.number ≡ suc standing.number
     by (continues c) = c.number
     by (finishes f) = ap (λ (s : Standing). s.number) f.next_is
+
+pub fewer-left : (before now : SimView) → IsSim now → (standing_of now).number ≡ suc (standing_of before).number
+    → periods_left now.project (standing_of now) < periods_left now.project (standing_of before)
+fewer-left before now is next = let few = few-periods now is in omega (arith, next, few)

@@ -3,7 +3,7 @@ use Rattle.std.proofs.Common.{◌≡◌, ℕ, ◌<◌, ◌^◌, List, [], ◌∷
 use Rattle.std.proofs.Common.{refl, sym, ap, subst, ◌∙◌, arith, append-nil, append_assoc, Bool, true, false}
 use Rattle.std.specs.Prelude.{All, if◌then◌else◌, ◌≤◌}
 use Rattle.std.proofs.lemmas.List.Elements.{All-push}
-use Rattle.hyd_net.specs.Sound.{Sound}
+use Rattle.hyd_net.specs.Sound.{IsSound}
 use Rattle.hyd_spec.specs.ProgramTypes.{Project}
 use Rattle.hyd_spec.specs.Lists.{joined}
 use Rattle.hyd_spec.specs.NodeNumbers.{junction_count, tank_count}
@@ -16,17 +16,17 @@ use Rattle.hyd_spec_reports.specs.PromisesOfRunsAndChecks.{EndsSo, rows_of, line
 use Rattle.hyd_spec_reports.specs.PromisesOfRunsAndChecks.{certificate_so_far, report_so_far}
 use Rattle.std.proofs.lemmas.List.{map-append}
 use Rattle.hyd_lemmas.proofs.ListsOptionsAndResults.{join-append, join-more, all-more}
-use Rattle.hyd_theorems_on_definitions.proofs.Appending.{run_more}
-use Rattle.hyd_theorems_on_histories.proofs.Running.{every_history}
+use Rattle.hyd_theorems_on_definitions.proofs.OnePeriodMore.{run_more}
+use Rattle.hyd_theorems_on_histories.proofs.HistoriesAlongRuns.{every_history}
 use Rattle.hyd_cert.specs.Lines.{Header, header_words}
 use Rattle.hyd_cert.proofs.HeadLemmas.{header_is}
-use Rattle.hyd_cert.proofs.ReadingLemmas.{whole_reading}
+use Rattle.hyd_cert.proofs.CertificatesLineByLine.{whole_reading}
 use Rattle.hyd_report.specs.NodeAndLinkLines.{texts}
 use Rattle.hyd_io.specs.declared.output.OutFault.{OutFault}
 use Rattle.hyd_io.specs.DeskBytes.{append_known, Moves, PutOut}
-use Rattle.hyd_io.proofs.ToldLemmas.{moves_whole}
+use Rattle.hyd_io.proofs.MovedBytesLemmas.{moves_whole}
 use Rattle.hyd_sim.specs.declared.settings.Settings.{Settings}
-use Rattle.hyd_run.specs.Pens.{Moment, PutIn, IsCutOff}
+use Rattle.hyd_run.specs.Pens.{RunMoment, PutIn, IsCutOff}
 use Rattle.hyd_run.specs.Runs.{sharpness_of, first_line, IsStep, IsSoFar, IsWhole, IsCutShort, IsPutOut, IsBrokenOff}
 use Rattle.hyd_run.proofs.PenLemmas.{put-then, cut-off-then}
 
@@ -80,10 +80,10 @@ report-more project left next founds found =
 
 -- ---- texts put in, in other words
 
-pub put-as : (a b a' b' : List ℕ) (m n : Moment) → a ≡ a' → b ≡ b' → PutIn a b m n → PutIn a' b' m n
+pub put-as : (a b a' b' : List ℕ) (m n : RunMoment) → a ≡ a' → b ≡ b' → PutIn a b m n → PutIn a' b' m n
 put-as a b a' b' m n e f put = subst (λ (x : List ℕ). PutIn x b' m n) e (subst (λ (y : List ℕ). PutIn a y m n) f put)
 
-pub cut-off-as : (why : OutFault) (a b a' b' : List ℕ) (m n : Moment) → a ≡ a' → b ≡ b' → IsCutOff why a b m n
+pub cut-off-as : (why : OutFault) (a b a' b' : List ℕ) (m n : RunMoment) → a ≡ a' → b ≡ b' → IsCutOff why a b m n
     → IsCutOff why a' b' m n
 cut-off-as why a b a' b' m n e f cut_off = subst (λ (x : List ℕ). IsCutOff why x b' m n) e (subst (λ (y : List ℕ).
     IsCutOff why a y m n) f cut_off)
@@ -107,7 +107,7 @@ rows-with project founds found fit here =
     (found ∷ [])))
     (All-push (IsRow (junction_count project) (tank_count project)) (rows_of founds) found.row fit here)
 
-pub so-far-begins : (project : Project) (sharpness : Sharpness) (before now : Moment)
+pub so-far-begins : (project : Project) (sharpness : Sharpness) (before now : RunMoment)
     → PutIn (header_line (version_of project) (junction_count project) (tank_count project)) first_line before now
     → IsSoFar project sharpness (initial_standing project) before now
 so-far-begins project sharpness before now put = record {
@@ -121,7 +121,7 @@ so-far-begins project sharpness before now put = record {
       (append-nil first_line)) put;
 }
 
-pub so-far-more : (project : Project) (sharpness : Sharpness) (left next : Standing) (start before now : Moment)
+pub so-far-more : (project : Project) (sharpness : Sharpness) (left next : Standing) (start before now : RunMoment)
     (found : Found)
     → IsStep project sharpness left next found
     → PutIn (record_text found.row) (texts project found.lines) before now
@@ -139,7 +139,7 @@ so-far-more project sharpness left next start before now found step put so_far =
 }
 
 pub so-far-cut-off : (project : Project) (settings : Settings) (fault : OutFault) (left next : Standing) (start before
-    now : Moment) (found : Found)
+    now : RunMoment) (found : Found)
     → IsStep project (sharpness_of settings) left next found
     → IsCutOff fault (record_text found.row) (texts project found.lines) before now
     → IsSoFar project (sharpness_of settings) left start before → IsCutShort project settings fault start now
@@ -155,7 +155,7 @@ so-far-cut-off project settings fault left next start before now found step cut_
       (cut-off-then fault _ _ _ _ start before now so_far.put cut_off);
 }
 
-pub first-cut-short : (project : Project) (settings : Settings) (fault : OutFault) (before now : Moment)
+pub first-cut-short : (project : Project) (settings : Settings) (fault : OutFault) (before now : RunMoment)
     → IsCutOff fault (header_line (version_of project) (junction_count project) (tank_count project)) first_line
     before now
     → IsCutShort project settings fault before now
@@ -174,7 +174,7 @@ first-cut-short project settings fault before now cut_off = record {
 -- ---- its end
 
 pub is-whole : (project : Project) (settings : Settings) (outcome : Outcome) (left : Standing) (start before now :
-    Moment) (records : ℕ)
+    RunMoment) (records : ℕ)
     → records ≡ left.number → records < 2 ^ 32 → EndsSo project left settings.rounds outcome
     → PutIn (end_line records (is_finished outcome)) (last_line project left records outcome) before now
     → IsSoFar project (sharpness_of settings) left start before → IsWhole project settings outcome start now
@@ -196,7 +196,7 @@ is-whole project settings outcome left start before now records counted few ends
     }
 
 pub last-cut-short : (project : Project) (settings : Settings) (fault : OutFault) (outcome : Outcome) (left :
-    Standing) (start before now : Moment) (records : ℕ)
+    Standing) (start before now : RunMoment) (records : ℕ)
     → records ≡ left.number → EndsSo project left settings.rounds outcome
     → IsCutOff fault (end_line records (is_finished outcome)) (last_line project left records outcome) before now
     → IsSoFar project (sharpness_of settings) left start before → IsCutShort project settings fault start now
@@ -217,7 +217,7 @@ last-cut-short project settings fault outcome left start before now records coun
     }
 
 -- the pens are emptied, or a fault cuts that off
-pub whole-emptied : (project : Project) (settings : Settings) (outcome : Outcome) (start before now : Moment)
+pub whole-emptied : (project : Project) (settings : Settings) (outcome : Outcome) (start before now : RunMoment)
     → IsWhole project settings outcome start before → PutIn [] [] before now
     → IsWhole project settings outcome start now
 whole-emptied project settings outcome start before now whole put = record {
@@ -232,7 +232,7 @@ whole-emptied project settings outcome start before now whole put = record {
 }
 
 pub whole-cut-off : (project : Project) (settings : Settings) (fault : OutFault) (outcome : Outcome) (start before now :
-    Moment)
+    RunMoment)
     → IsWhole project settings outcome start before → IsCutOff fault [] [] before now
     → IsCutShort project settings fault start now
 whole-cut-off project settings fault outcome start before now whole cut_off = record {
@@ -259,7 +259,7 @@ known project = (by _, most _)
     most true = omega arith
     most false = omega arith
 
-pub certificate-is : (project : Project) → Sound project → (founds : List Found) (outcome : Outcome)
+pub certificate-is : (project : Project) → IsSound project → (founds : List Found) (outcome : Outcome)
     → All (IsRow (junction_count project) (tank_count project)) (rows_of founds) → length founds < 2 ^ 32
     → IsCertificateText (certificate_so_far project founds (Some outcome)) (version_of project) (junction_count
     project)
@@ -287,7 +287,7 @@ moved-whole w w' h a h' e e' m =
 pub out-whole : (w w' : Option (List ℕ)) (h a : List ℕ) → h ≡ [] → PutOut w w' (h ++ a) → PutOut w w' a
 out-whole w w' h a e m = subst (λ (x : List ℕ). PutOut w w' (x ++ a)) e m
 
-pub put-out : (project : Project) (settings : Settings) (outcome : Outcome) (start now : Moment) → Sound project
+pub put-out : (project : Project) (settings : Settings) (outcome : Outcome) (start now : RunMoment) → IsSound project
     → start.certificate.held ≡ [] → start.report.held ≡ [] → now.certificate.held ≡ [] → now.report.held ≡ []
     → IsWhole project settings outcome start now → IsPutOut project settings outcome start.told now.told
 put-out project settings outcome start now sound c r c' r' whole =
@@ -312,7 +312,7 @@ put-out project settings outcome start now sound c r c' r' whole =
           whole.put.printed;
     }
 
-pub broken-off : (project : Project) (settings : Settings) (fault : OutFault) (start now : Moment) → Sound project
+pub broken-off : (project : Project) (settings : Settings) (fault : OutFault) (start now : RunMoment) → IsSound project
     → start.certificate.held ≡ [] → start.report.held ≡ [] → IsCutShort project settings fault start now
     → IsBrokenOff project settings start.told now.told
 broken-off project settings fault start now sound c r short =

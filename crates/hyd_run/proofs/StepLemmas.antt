@@ -1,7 +1,6 @@
 -- What the steps of a run find and put in.
-use Rattle.std.proofs.Common.{◌≡◌, suc, ◌<◌, ◌^◌, true, false, length, Option, Some, refl, sym, ap, subst, ◌∙◌, arith}
+use Rattle.std.proofs.Common.{◌≡◌, suc, ◌<◌, ◌^◌, true, false, length, Option, Some, refl, sym, ap, subst, ◌∙◌}
 use Rattle.std.specs.Prelude.{IfSome}
-use Rattle.std.proofs.lemmas.List.{length-map}
 use Rattle.hyd_spec.specs.ProgramTypes.{Project}
 use Rattle.hyd_spec_certificates.specs.RecordAndStanding.{Standing}
 use Rattle.hyd_spec_reports.specs.PromisesOfRunsAndChecks.{Found, EndsSo, Finished, Stopped}
@@ -9,16 +8,14 @@ use Rattle.hyd_spec_reports.specs.Stops.{Stops}
 use Rattle.hyd_spec_reports.specs.declared.StopCause.{StopCause}
 use Rattle.hyd_cert.specs.RecordView.{row_of}
 use Rattle.hyd_period_network.specs.NetAsPeriodNetwork.{grid_of, states_of}
-use Rattle.hyd_period_network.specs.Periods.{ends_of, IsNetOf}
+use Rattle.hyd_period_network.specs.NetsSetToPeriods.{IsNetOf}
 use Rattle.hyd_report.specs.PeriodLines.{AreTankFacts, lines_of}
-use Rattle.hyd_period_network.proofs.Counts.{links_count}
 use Rattle.hyd_report.proofs.ReportLemmas.{lines_are_report}
-use Rattle.hyd_bounds.specs.VectorsInOrder.{TanksInOrder}
 use Rattle.hyd_io.specs.declared.output.OutFault.{OutFault}
 use Rattle.hyd_sim.specs.View.{SimView, IsSim, standing_of}
 use Rattle.hyd_sim.specs.Steps.{IsPeriod}
 use Rattle.hyd_sim.specs.declared.settings.Settings.{Settings}
-use Rattle.hyd_net.specs.Sound.{Sound}
+use Rattle.hyd_net.specs.Sound.{IsSound}
 use Rattle.hyd_spec_certificates.specs.Valid.{AreCertificates}
 use Rattle.hyd_spec_reports.specs.CertificateText.{record_text}
 use Rattle.hyd_cert.specs.declared.record.Record.{Record as Row}
@@ -26,11 +23,12 @@ use Rattle.hyd_period_facts.specs.declared.facts.Facts.{Facts}
 use Rattle.hyd_period_network.specs.NetView.{NetView}
 use Rattle.hyd_period_network.specs.LawsInSettings.{AreStates}
 use Rattle.hyd_report.specs.NodeAndLinkLines.{texts}
-use Rattle.hyd_run.specs.Pens.{Moment, PutIn, IsCutOff}
-use Rattle.hyd_run.specs.Runs.{sharpness_of, IsStep, IsSoFar, IsCutShort, DidPeriod, LostPeriod, IsOver, periods_left}
+use Rattle.hyd_run.specs.Pens.{RunMoment, PutIn, IsCutOff}
+use Rattle.hyd_run.specs.Runs.{sharpness_of, IsStep, IsSoFar, IsCutShort, DidPeriod, LostPeriod, IsOver}
 use Rattle.hyd_spec_reports.specs.PromisesOfRunsAndChecks.{Outcome}
-use Rattle.hyd_run.proofs.PeriodLemmas.{tank-facts-of, few-periods, row-fits, grid-count, number-next}
+use Rattle.hyd_run.proofs.PeriodLemmas.{tank-facts-of, row-fits, grid-count, number-next, each-link, fewer-left}
 use Rattle.hyd_run.proofs.RunLemmas.{so-far-more, so-far-cut-off}
+use Rattle.hyd_theorems_on_definitions.specs.TermsOfTheorems.{TanksInOrder}
 
 -- what a period found
 abbrev pub found-of : SimView → SimView → Found
@@ -46,12 +44,9 @@ module _ (before now : SimView) (is : IsSim now) (period : IsPeriod before now) 
   pub tank-facts : AreTankFacts now.project now.facts
   tank-facts = tank-facts-of now.project now.facts period.have
 
-  each-link : length (grid_of now.net).links ≡ length now.project.links.list
-  each-link =
-      let ends : length now.net.ends ≡ length now.project.links.list =
-      ap length is.net.ends ∙ length-map now.project.links.list ends_of in
-      links_count now.net.ends now.net.settings now.net.own (is.net.each_setting ∙ sym ends) (is.net.each_own ∙
-      sym ends) ∙ ends
+  pub number-is : (standing_of now).number ≡ suc (standing_of before).number
+  number-is =
+      number-next now.project (standing_of before) (grid_of now.net) (row_of now.row) (standing_of now) period.valid
 
   pub step-of : now.row.number < 2 ^ 32 → now.row.time < 2 ^ 32 → now.row.length < 2 ^ 32
       → IsStep now.project (sharpness_of now.settings) (standing_of before) (standing_of now) (found-of before now)
@@ -62,25 +57,17 @@ module _ (before now : SimView) (is : IsSim now) (period : IsPeriod before now) 
       valid = period.valid;
       report = lines_are_report now.project (grid_of now.net) (states_of now.net) (standing_of before) (row_of
           now.row) now.facts
-          period.facts tank-facts period.links each-link;
+          period.facts tank-facts period.links (each-link now is);
     };
     sharp = period.sharp;
     fits = row-fits now.project (grid_of now.net) (row_of now.row) (grid-count now.project now.net is.net)
         period.valid.certificates
         number time seconds;
-    number = number-next now.project (standing_of before) (grid_of now.net) (row_of now.row) (standing_of now)
-        period.valid;
+    number = number-is;
   }
 
-  pub fewer-left : periods_left now.project (standing_of now) < periods_left now.project (standing_of before)
-  fewer-left =
-      let next : (standing_of now).number ≡ suc (standing_of before).number =
-      number-next now.project (standing_of before) (grid_of now.net) (row_of now.row) (standing_of now) period.valid in
-      let few = few-periods now is in
-      omega (arith, next, few)
-
 -- a run that is over has finished
-pub over-finished : (before now : SimView) (moment : Moment) → (standing_of before).finished ≡ true → now ≡ before
+pub over-finished : (before now : SimView) (moment : RunMoment) → (standing_of before).finished ≡ true → now ≡ before
     → IsOver Finished before now moment moment
 over-finished before now moment finished same = record {
   stays = ap standing_of same;
@@ -89,7 +76,8 @@ over-finished before now moment finished same = record {
 }
 
 -- or its cause holds
-pub over-stopped : (before now : SimView) (cause : StopCause) (moment : Moment) → IsSim now → now.stopped ≡ Some cause
+pub over-stopped : (before now : SimView) (cause : StopCause) (moment : RunMoment) → IsSim now → now.stopped
+    ≡ Some cause
     → standing_of now ≡ standing_of before → IsOver (Stopped cause) before now moment moment
 over-stopped before now cause moment is stopped same = record {
   stays = same;
@@ -100,7 +88,7 @@ over-stopped before now cause moment is stopped same = record {
 
 -- ---- steps of one run
 
-pub steps-more : (project : Project) (settings : Settings) (before now : SimView) (start m n : Moment)
+pub steps-more : (project : Project) (settings : Settings) (before now : SimView) (start m n : RunMoment)
     → now.project ≡ project
     → now.settings ≡ settings → DidPeriod before now m n
     → IsSoFar project (sharpness_of settings) (standing_of before) start m
@@ -115,7 +103,7 @@ steps-more project settings before now start m n of_project same did =
     did.put))
 
 pub steps-cut-off : (project : Project) (settings : Settings) (fault : OutFault) (before now : SimView) (start m n :
-    Moment) → now.project ≡ project
+    RunMoment) → now.project ≡ project
     → now.settings ≡ settings → LostPeriod fault before now m n
     → IsSoFar project (sharpness_of settings) (standing_of before) start m
     → IsCutShort project settings fault start n
@@ -128,7 +116,7 @@ steps-cut-off project settings fault before now start m n of_project same lost =
     lost.cut_off))
 
 -- the end of a run
-pub steps-end : (project : Project) (settings : Settings) (outcome : Outcome) (before now : SimView) (m n : Moment)
+pub steps-end : (project : Project) (settings : Settings) (outcome : Outcome) (before now : SimView) (m n : RunMoment)
     → now.project ≡ project
     → now.settings ≡ settings → IsOver outcome before now m n
     → EndsSo project (standing_of now) settings.rounds outcome
@@ -137,12 +125,12 @@ steps-end project settings outcome before now m n of_project same over =
     (subst (λ (s : Settings). EndsSo now.project (standing_of now) s.rounds outcome) same over.ends_so)
 
 pub steps-over : (project : Project) (settings : Settings) (outcome : Outcome) (before now : SimView) (start m n :
-    Moment)
+    RunMoment)
     → IsOver outcome before now m n → IsSoFar project (sharpness_of settings) (standing_of before) start m
     → IsSoFar project (sharpness_of settings) (standing_of now) start n
 steps-over project settings outcome before now start m n over so_far =
     subst (λ (s : Standing). IsSoFar project (sharpness_of settings) s start n) (sym over.stays)
-    (subst (λ (x : Moment). IsSoFar project (sharpness_of settings) (standing_of before) start x) (sym over.nothing)
+    (subst (λ (x : RunMoment). IsSoFar project (sharpness_of settings) (standing_of before) start x) (sym over.nothing)
     so_far)
 
 -- ---- a period that was put in
@@ -150,7 +138,7 @@ steps-over project settings outcome before now start m n over so_far =
 module _ (before now : SimView) (is : IsSim now) (period : IsPeriod before now) (project : Project) (net : NetView)
     (row : Row) (facts : Facts)
     (p : project ≡ now.project) (n : net ≡ now.net) (r : row ≡ now.row) (f : facts ≡ now.facts) where
-  pub sound-there : Sound project
+  pub sound-there : IsSound project
   sound-there = rw p is.sound
 
   pub net-there : IsNetOf project net
@@ -175,18 +163,18 @@ module _ (before now : SimView) (is : IsSim now) (period : IsPeriod before now) 
       → IsStep now.project (sharpness_of now.settings) (standing_of before) (standing_of now) (found-of before now)
   step-there number time seconds = step-of before now is period (rw r at number) (rw r at time) (rw r at seconds)
 
-  pub did-there : (m o : Moment) → row.number < 2 ^ 32 → row.time < 2 ^ 32 → row.length < 2 ^ 32
+  pub did-there : (m o : RunMoment) → row.number < 2 ^ 32 → row.time < 2 ^ 32 → row.length < 2 ^ 32
       → PutIn (record_text (row_of row)) (texts project (lines_of project (grid_of net) (states_of net) (row_of row)
       facts)) m o
       → DidPeriod before now m o
   did-there m o number time seconds put = record {
     found = found-of before now;
     step = step-there number time seconds;
-    fewer = fewer-left before now is period;
+    fewer = fewer-left before now is (number-is before now is period);
     put = rw (p, n, r, f) at put;
   }
 
-  pub lost-there : (fault : OutFault) (m o : Moment) → row.number < 2 ^ 32 → row.time < 2 ^ 32 → row.length < 2 ^ 32
+  pub lost-there : (fault : OutFault) (m o : RunMoment) → row.number < 2 ^ 32 → row.time < 2 ^ 32 → row.length < 2 ^ 32
       → IsCutOff fault (record_text (row_of row)) (texts project (lines_of project (grid_of net) (states_of net)
       (row_of row) facts)) m o
       → LostPeriod fault before now m o

@@ -35,17 +35,17 @@ told files rest written printed target ready counts openings desk = record {
 }
 
 -- The pen of the certificate, the pen of the report, and what their desk tells.
-pub record Moment : Type 0 where
+pub record RunMoment : Type 0 where
   pub certificate : PenState
   pub report : PenState
   pub told : Told
 
-abbrev pub moment : PenState → PenState → Told → Moment
+abbrev pub moment : PenState → PenState → Told → RunMoment
 moment certificate report told = record { certificate = certificate; report = report; told = told }
 
 -- The certificate goes to the file and the report to standard output, a file was created, and neither pen has a
 -- fault.
-pub record AreOpen (at : Moment) : Type 0 where
+pub record AreOpen (at : RunMoment) : Type 0 where
   pub certificate_to : at.certificate.to ≡ Cert
   pub certificate_fault : at.certificate.fault ≡ None
   pub report_to : at.report.to ≡ Report
@@ -65,7 +65,7 @@ pub record LeavesRest (before now : Told) : Type 0 where
 -- A text was put in at each pen: a front of what the pen held and of the text went out, and the pen holds the rest.
 -- No call
 -- failed, and the pens are open still.
-pub record PutIn (certificate report : List ℕ) (before now : Moment) : Type 0 where
+pub record PutIn (certificate report : List ℕ) (before now : RunMoment) : Type 0 where
   pub written : Moves before.told.written now.told.written (before.certificate.held ++ certificate)
       now.certificate.held
   pub printed : Moves before.told.printed now.told.printed (before.report.held ++ report) now.report.held
@@ -79,13 +79,13 @@ abbrev pub OneRose : OutFault → Faults → Faults → Type 0
 OneRose fault before now = HasOutCause Cert fault before now ⊎ HasOutCause Report fault before now
 
 -- One call failed: of what each pen held and of a text for it a front went out.
-pub record IsCutOff (fault : OutFault) (certificate report : List ℕ) (before now : Moment) : Type 0 where
+pub record IsCutOff (fault : OutFault) (certificate report : List ℕ) (before now : RunMoment) : Type 0 where
   pub written : PutOut before.told.written now.told.written (before.certificate.held ++ certificate)
   pub printed : PutOut before.told.printed now.told.printed (before.report.held ++ report)
   pub rose : OneRose fault before.told.counts now.told.counts
   pub leaves : LeavesRest before.told now.told
 
 -- What a call says that puts a text in at each pen.
-abbrev pub PutsIn : List ℕ → List ℕ → Result (Unit {0}) OutFault → Moment → Moment → Type 0
+abbrev pub PutsIn : List ℕ → List ℕ → Result (Unit {0}) OutFault → RunMoment → RunMoment → Type 0
 PutsIn certificate report (Ok done) before now = PutIn certificate report before now
 PutsIn certificate report (Err fault) before now = IsCutOff fault certificate report before now

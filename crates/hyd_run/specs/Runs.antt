@@ -18,7 +18,7 @@ use Rattle.hyd_io.specs.Output.{PenState}
 use Rattle.hyd_io.specs.DeskBytes.{append_known}
 use Rattle.hyd_sim.specs.declared.settings.Settings.{Settings}
 use Rattle.hyd_sim.specs.View.{SimView, standing_of}
-use Rattle.hyd_run.specs.Pens.{Told, Moment, PutIn, IsCutOff}
+use Rattle.hyd_run.specs.Pens.{Told, RunMoment, PutIn, IsCutOff}
 use Rattle.hyd_run.specs.declared.outcome.RunEnd.{RunEnd}
 use Rattle.hyd_run.specs.declared.outcome.RunEnd.TheVariants.{Finished as EndFinished, Stopped as EndStopped}
 
@@ -76,7 +76,7 @@ pub record IsStep (project : Project) (sharpness : Sharpness) (before next : Sta
 -- What was found so far is a run that leaves a standing, as sharp as was asked for, with one record for each period
 -- that was done,
 -- and its certificate and its report as far as they go were put in at the pens.
-pub record IsSoFar (project : Project) (sharpness : Sharpness) (left : Standing) (before now : Moment) : Type 0 where
+pub record IsSoFar (project : Project) (sharpness : Sharpness) (left : Standing) (before now : RunMoment) : Type 0 where
   pub founds : List Found
   pub is_run : IsRun project founds left
   pub sharp : AllByRecursion (IsSharpFound project sharpness) founds
@@ -85,7 +85,7 @@ pub record IsSoFar (project : Project) (sharpness : Sharpness) (left : Standing)
   pub put : PutIn (certificate_so_far project founds None) (report_so_far project left founds None) before now
 
 -- So it is, and the run's end is known and was put in too.
-pub record IsWhole (project : Project) (settings : Settings) (outcome : Outcome) (before now : Moment) : Type 0 where
+pub record IsWhole (project : Project) (settings : Settings) (outcome : Outcome) (before now : RunMoment) : Type 0 where
   pub founds : List Found
   pub left : Standing
   pub is_run : IsRun project founds left
@@ -97,7 +97,7 @@ pub record IsWhole (project : Project) (settings : Settings) (outcome : Outcome)
       outcome)) before now
 
 -- A fault cut a run off, whose end is known or isn't.
-pub record IsCutShort (project : Project) (settings : Settings) (fault : OutFault) (before now : Moment) : Type 0
+pub record IsCutShort (project : Project) (settings : Settings) (fault : OutFault) (before now : RunMoment) : Type 0
   where
     pub founds : List Found
     pub left : Standing
@@ -115,42 +115,42 @@ abbrev pub periods_left : Project → Standing → ℕ
 periods_left project standing = suc project.times.duration - standing.number
 
 -- A period was due and was found, and its record and its report were put in at the pens.
-pub record DidPeriod (sim now : SimView) (before after : Moment) : Type 0 where
+pub record DidPeriod (sim now : SimView) (before after : RunMoment) : Type 0 where
   pub found : Found
   pub step : IsStep now.project (sharpness_of now.settings) (standing_of sim) (standing_of now) found
   pub fewer : periods_left now.project (standing_of now) < periods_left now.project (standing_of sim)
   pub put : PutIn (record_text found.row) (texts now.project found.lines) before after
 
 -- It was found, and a fault cut its record and its report off.
-pub record LostPeriod (fault : OutFault) (sim now : SimView) (before after : Moment) : Type 0 where
+pub record LostPeriod (fault : OutFault) (sim now : SimView) (before after : RunMoment) : Type 0 where
   pub found : Found
   pub step : IsStep now.project (sharpness_of now.settings) (standing_of sim) (standing_of now) found
   pub cut_off : IsCutOff fault (record_text found.row) (texts now.project found.lines) before after
 
 -- The run is over, at a standing that stays, and nothing was put in.
-pub record IsOver (outcome : Outcome) (sim now : SimView) (before after : Moment) : Type 0 where
+pub record IsOver (outcome : Outcome) (sim now : SimView) (before after : RunMoment) : Type 0 where
   pub stays : standing_of now ≡ standing_of sim
   pub ends_so : EndsSo now.project (standing_of now) now.settings.rounds outcome
   pub nothing : after ≡ before
 
 -- What a step does.
-abbrev pub StepPuts : Result (Option RunEnd) OutFault → SimView → SimView → Moment → Moment → Type 0
+abbrev pub StepPuts : Result (Option RunEnd) OutFault → SimView → SimView → RunMoment → RunMoment → Type 0
 StepPuts (Ok None) sim now before after = DidPeriod sim now before after
 StepPuts (Ok (Some end)) sim now before after = IsOver (outcome_of end) sim now before after
 StepPuts (Err fault) sim now before after = LostPeriod fault sim now before after
 
 -- What the steps of a run do: whatever was put in before them as a run so far is one still when they are over, or is
 -- cut short.
-abbrev pub StepsPut : Result RunEnd OutFault → SimView → SimView → Moment → Moment → Type 0
+abbrev pub StepsPut : Result RunEnd OutFault → SimView → SimView → RunMoment → RunMoment → Type 0
 StepsPut (Ok end) sim now before after =
-    EndsSo sim.project (standing_of now) sim.settings.rounds (outcome_of end) × ((start : Moment)
+    EndsSo sim.project (standing_of now) sim.settings.rounds (outcome_of end) × ((start : RunMoment)
     → IsSoFar sim.project (sharpness_of sim.settings) (standing_of sim) start before
     → IsSoFar sim.project (sharpness_of sim.settings) (standing_of now) start after)
-StepsPut (Err fault) sim now before after = (start : Moment)
+StepsPut (Err fault) sim now before after = (start : RunMoment)
     → IsSoFar sim.project (sharpness_of sim.settings) (standing_of sim) start before
     → IsCutShort sim.project sim.settings fault start after
 
 -- What a run does before the pens are emptied.
-abbrev pub RunPuts : Result RunEnd OutFault → Project → Settings → Moment → Moment → Type 0
+abbrev pub RunPuts : Result RunEnd OutFault → Project → Settings → RunMoment → RunMoment → Type 0
 RunPuts (Ok end) project settings before after = IsWhole project settings (outcome_of end) before after
 RunPuts (Err fault) project settings before after = IsCutShort project settings fault before after

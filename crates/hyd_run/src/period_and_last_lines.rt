@@ -4,7 +4,7 @@
 ghost use Rattle.std.specs.Prelude.{◌≡◌, ◌<◌};
 ghost use Rattle.hyd_io.specs.Output.{OnCert};
 ghost use Rattle.std.specs.Prelude.{IsTrue};
-ghost use Rattle.hyd_net.specs.Sound.{Sound};
+ghost use Rattle.hyd_net.specs.Sound.{IsSound};
 ghost use Rattle.hyd_spec_certificates.specs.RecordAndStanding.{Standing};
 ghost use Rattle.hyd_spec_certificates.specs.Valid.{AreCertificates};
 ghost use Rattle.hyd_spec_reports.specs.CertificateText.{record_text, end_line};
@@ -12,13 +12,13 @@ ghost use Rattle.hyd_spec_reports.specs.PromisesOfRunsAndChecks.{last_line, is_f
 ghost use Rattle.hyd_spec_reports.specs.Report.{IsReport};
 ghost use Rattle.hyd_cert.specs.RecordView.{row_of};
 ghost use Rattle.hyd_period_facts.specs.FactsOfPeriod.{AreFacts};
-ghost use Rattle.hyd_bounds.specs.VectorsInOrder.{TanksInOrder};
+ghost use Rattle.hyd_theorems_on_definitions.specs.TermsOfTheorems.{TanksInOrder};
 ghost use Rattle.hyd_period_network.specs.NetAsPeriodNetwork.{grid_of, states_of};
-ghost use Rattle.hyd_period_network.specs.Periods.{IsNetOf};
+ghost use Rattle.hyd_period_network.specs.NetsSetToPeriods.{IsNetOf};
 ghost use Rattle.hyd_period_network.specs.LawsInSettings.{AreStates};
 ghost use Rattle.hyd_report.specs.NodeAndLinkLines.{texts};
 ghost use Rattle.hyd_report.specs.PeriodLines.{AreTankFacts, lines_of};
-ghost use Rattle.hyd_io.specs.Putting.{Puts};
+ghost use Rattle.hyd_io.specs.TextPutIn.{Puts};
 ghost use Rattle.hyd_run.specs.Pens.{told, moment, AreOpen, PutsIn};
 ghost use Rattle.hyd_run.specs.Runs.{outcome_of};
 
@@ -41,7 +41,7 @@ pub(crate) fn put_period<D: Desk>(
     report: &mut Pen,
     desk: &mut D,
 ) -> Result<(), OutFault>
-    requires sound { Sound project.now }
+    requires sound { IsSound project.now }
     requires of { IsNetOf project.now net.now }
     requires states { AreStates project.now (states_of net.now) }
     requires certificates { AreCertificates project.now (grid_of net.now) (row_of row.now) }
@@ -76,7 +76,7 @@ pub fn put_last_line<D: Desk>(
     pen: &mut Pen,
     desk: &mut D,
 ) -> Result<(), OutFault>
-    requires sound { Sound project.now }
+    requires sound { IsSound project.now }
     requires ready { OnCert pen.old.to (IsTrue (D.ready desk.old)) }
     ensures { (standing : Standing) → standing.time ≡ time
         → Puts D.files D.rest D.written D.printed D.target D.ready D.counts D.openings
@@ -98,7 +98,7 @@ pub(crate) fn put_last<D: Desk>(
     report: &mut Pen,
     desk: &mut D,
 ) -> Result<(), OutFault>
-    requires sound { Sound project.now }
+    requires sound { IsSound project.now }
     requires unbroken { AreOpen (moment certificate.old report.old
         (told D.files D.rest D.written D.printed D.target D.ready D.counts D.openings desk.old)) }
     ensures { (standing : Standing) → standing.time ≡ time

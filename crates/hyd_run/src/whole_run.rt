@@ -5,15 +5,15 @@ ghost use Rattle.std.specs.Prelude.{◌≡◌, IsTrue, IfOk, IfErr, OnOk};
 ghost use Rattle.hyd_io.specs.declared.output.Channel.TheVariants.{Cert, Report};
 ghost use Rattle.hyd_spec_certificates.specs.RecordAndStanding.{initial_standing};
 ghost use Rattle.hyd_sim.specs.View.{standing_of};
-ghost use Rattle.hyd_net.specs.Sound.{Sound};
+ghost use Rattle.hyd_net.specs.Sound.{IsSound};
 ghost use Rattle.hyd_spec.specs.ProgramTypes.{Project};
 ghost use Rattle.hyd_spec_reports.specs.PromisesOfRunsAndChecks.{EndsSo};
 ghost use Rattle.hyd_sim.specs.declared.settings.Settings.{Settings};
-ghost use Rattle.hyd_run.specs.Pens.{Moment, told, moment, AreOpen, OneRose, LeavesRest};
+ghost use Rattle.hyd_run.specs.Pens.{RunMoment, told, moment, AreOpen, OneRose, LeavesRest};
 ghost use Rattle.hyd_run.specs.Runs.{fresh, outcome_of, sharpness_of, IsSoFar, IsWhole, IsPutOut, IsBrokenOff, RunPuts};
 
+use crate::first_lines_and_emptying::{empty_both, put_front};
 use crate::outcome::RunEnd;
-use crate::pens::{empty_both, put_front};
 use crate::period_and_last_lines::put_last;
 use crate::steps::put_steps;
 use hyd_finders::Finder;
@@ -31,7 +31,7 @@ fn put_ending<D: Desk>(
     requires { AreOpen (moment certificate.old report.old
         (told D.files D.rest D.written D.printed D.target D.ready D.counts D.openings desk.old)) }
     ensures { EndsSo sim.now.project (standing_of sim.now) sim.now.settings.rounds (outcome_of end)
-        → (start : Moment)
+        → (start : RunMoment)
         → IsSoFar sim.now.project (sharpness_of sim.now.settings) (standing_of sim.now) start
         (moment certificate.old report.old
         (told D.files D.rest D.written D.printed D.target D.ready D.counts D.openings desk.old))
@@ -69,7 +69,7 @@ fn put_run<D: Desk, F: Finder>(
         (told D.files D.rest D.written D.printed D.target D.ready D.counts D.openings desk.old))
         (moment certificate.new report.new
         (told D.files D.rest D.written D.printed D.target D.ready D.counts D.openings desk.new)) }
-    ensures sound { Sound sim.old.project }
+    ensures sound { IsSound sim.old.project }
     ensures project { sim.new.project ≡ sim.old.project }
     ensures settings { sim.new.settings ≡ sim.old.settings }
 {
@@ -94,7 +94,7 @@ fn finish<D: Desk>(
 ) -> Result<RunEnd, OutFault>
     requires { AreOpen (moment certificate.old report.old
         (told D.files D.rest D.written D.printed D.target D.ready D.counts D.openings desk.old)) }
-    ensures puts { (project : Project) (settings : Settings) (start : Moment)
+    ensures puts { (project : Project) (settings : Settings) (start : RunMoment)
         → IsWhole project settings (outcome_of end) start (moment certificate.old report.old
         (told D.files D.rest D.written D.printed D.target D.ready D.counts D.openings desk.old))
         → RunPuts result project settings start (moment certificate.new report.new

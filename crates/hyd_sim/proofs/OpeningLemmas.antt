@@ -1,18 +1,18 @@
 -- The standing at which a run begins.
 use Rattle.std.proofs.Common.{◌≡◌, false, sym, subst, arith, map}
-use Rattle.hyd_net.specs.Sound.{Sound}
+use Rattle.hyd_net.specs.Sound.{IsSound}
 use Rattle.hyd_spec.specs.ProgramTypes.{Project}
 use Rattle.hyd_spec_certificates.specs.Spans.{levels_of}
 use Rattle.hyd_spec_certificates.specs.RecordAndStanding.{initial_standing}
 use Rattle.hyd_theorems_on_histories.specs.Agreement.{IsKept}
-use Rattle.hyd_theorems_on_histories.proofs.Stepping.{kept_at_start}
+use Rattle.hyd_theorems_on_histories.proofs.AgreementAfterPeriod.{kept_at_start}
 use Rattle.hyd_theorems_on_nesting.specs.Nesting.{IsTidy}
-use Rattle.hyd_theorems_on_nesting.proofs.Holding.{tidy_at_start}
+use Rattle.hyd_theorems_on_nesting.proofs.TightVectorsDecide.{tidy_at_start}
 use Rattle.hyd_tank.specs.StockIntervals.{volumes_of}
 use Rattle.hyd_period_stocks.specs.ReservedMemory.{HasRoom}
 use Rattle.hyd_period_end.specs.EndOfPeriod.{AreKeptIn}
 use Rattle.hyd_sim.specs.View.{IsStanding, standing_for}
-use Rattle.hyd_sim.specs.declared.standing.Standing.{Standing as Here}
+use Rattle.hyd_sim.specs.declared.standing_between_periods.Standing.{Standing as Here}
 
 module _ (project : Project) (here : Here) (number : here.number ≡ 0) (time : here.time ≡ 0)
     (levels : map levels_of here.stocks.levels.list ≡ (initial_standing project).levels)
@@ -30,7 +30,7 @@ module _ (project : Project) (here : Here) (number : here.number ≡ 0) (time : 
     finished = finished i;
   }
 
-  pub first-stands : Sound project → AreKeptIn project here.stocks → HasRoom project here.stocks
+  pub first-stands : IsSound project → AreKeptIn project here.stocks → HasRoom project here.stocks
       → IsStanding project here
   first-stands sound held room = record {
     kept = subst (IsKept project) (sym first-is) (kept_at_start project sound);

@@ -10,16 +10,17 @@ use Rattle.hyd_spec_certificates.specs.PeriodNetwork.{Grid}
 use Rattle.hyd_spec_certificates.specs.RecordAndStanding.{Record, Standing, Vectors, no_vectors}
 use Rattle.hyd_spec_certificates.specs.Valid.{IsValid, LeadsOn, Continues, continues, finishes, levels_next}
 use Rattle.hyd_theorems_on_definitions.proofs.OneLength.{one_length}
-use Rattle.hyd_theorems_on_definitions.proofs.OneStanding.{one_standing}
+use Rattle.hyd_theorems_on_definitions.proofs.OneStandingAndTightVector.{one_standing}
 use Rattle.hyd_theorems_on_definitions.proofs.CertificateLines.{vectors-equal}
+use Rattle.hyd_theorems_on_definitions.proofs.OneEndOfPeriod.{not-last, leaves-not-last, leaves-one, leaves-no-rule}
+use Rattle.hyd_theorems_on_definitions.proofs.OneEndOfPeriod.{leaves-no-event}
+use Rattle.hyd_theorems_on_definitions.proofs.OneRefusal.{states-decided, controls-decided}
 use Rattle.hyd_period_end.specs.OpenMatters.{SharesVectors, IsOpenAt, EndsWith, IsFirstControl}
 use Rattle.hyd_period_end.specs.declared.undecided.Open.{Open}
 use Rattle.hyd_period_end.specs.declared.undecided.Open.TheVariants.{Rule, Event, Tank, Control}
 use Rattle.hyd_period_stocks.specs.TankStart.{IsFirstOpen}
 use Rattle.hyd_rules_in_period.specs.Trial.{open_rule}
 use Rattle.hyd_period_vectors.specs.Vectors.{HaveSame}
-use Rattle.hyd_sim.proofs.Proposing.{not-last, not-last-left, not-open-by-rule, not-open-by-event, same-seconds}
-use Rattle.hyd_sim.proofs.Proposing.{no-open-tank, no-open-control}
 
 -- ---- the same vectors
 
@@ -61,29 +62,28 @@ module _ (project : Project) (standing : Standing) (grid : Grid) (w : Record) (n
       at-end : (P : List Interval → Type 0) → Continues project grid standing w next
           → EndsWith project grid standing w P → P next.levels
       at-end P c ends =
-          let same = same-seconds project grid standing w w.length ends.seconds next.commanded ends.links
+          let same = leaves-one project grid standing w w.length ends.seconds next.commanded ends.links
           c.leaves_links ends.leaves in
           subst P (sym c.levels)
           (subst (λ (s : ℕ). P (levels_next project grid standing w s)) (sym same) ends.at_levels)
 
       by : LeadsOn project grid standing w next → (matter : Open) → IsOpenAt project grid standing w matter → ⊥
       by (continues c) (Rule found) o =
-          not-open-by-rule project grid standing w w.length next.commanded (open_rule found) c.leaves_links o
+          leaves-no-rule project grid standing w w.length next.commanded (open_rule found) c.leaves_links o
       by (continues c) (Event earliest latest) o =
-          not-open-by-event project grid standing w w.length earliest latest next.commanded c.leaves_links o
+          leaves-no-event project grid standing w w.length next.commanded earliest latest c.leaves_links o
       by (continues c) (Tank found) o =
-          no-open-tank project next.levels next.tanks c.tanks found.tank
+          states-decided project next.levels next.tanks found.tank c.tanks
           (at-end (λ levels. IsFirstOpen project levels found) c o).first
       by (continues c) (Control found) o =
-          let first = at-end (λ levels. IsFirstControl project levels found) c o in
-          no-open-control project next.levels c.controls found.control first.tank first.above first.ticks
-          first.control first.first first.is_control first.is_level
+          controls-decided project next.levels found.control c.controls
+          (at-end (λ levels. IsFirstControl project levels found) c o).first
       by (finishes f) (Rule found) o = not-last project grid standing w _ o f.is_last
       by (finishes f) (Event earliest latest) o = not-last project grid standing w _ o f.is_last
       by (finishes f) (Tank found) o =
-          not-last-left project grid standing w o.seconds o.links o.leaves f.is_last
+          leaves-not-last project grid standing w o.seconds o.links o.leaves f.is_last
       by (finishes f) (Control found) o =
-          not-last-left project grid standing w o.seconds o.links o.leaves f.is_last
+          leaves-not-last project grid standing w o.seconds o.links o.leaves f.is_last
 
   -- and another record with its vectors, number and time that leads on is the same, and leads on to the same standing
   module _ (row : Record) (other : Standing) (share : SharesVectors w row) (number : w.number ≡ row.number)

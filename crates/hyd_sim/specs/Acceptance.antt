@@ -14,11 +14,11 @@ use Rattle.hyd_period_facts.specs.declared.facts.Facts.{Facts}
 use Rattle.hyd_period_network.specs.NetAsPeriodNetwork.{grid_of, states_of}
 use Rattle.hyd_period_network.specs.NetView.{NetView}
 use Rattle.hyd_period_network.specs.LawsInSettings.{AreStates}
-use Rattle.hyd_bounds.specs.VectorsInOrder.{TanksInOrder}
 use Rattle.hyd_watched_levels.specs.FactsBeforeEnd.{HaveTanks}
 use Rattle.hyd_period_vectors.specs.Vectors.{EachBefore}
 use Rattle.hyd_sim.specs.View.{SimView, standing_of}
 use Rattle.hyd_sim.specs.declared.given_vectors.Failing.{Failing}
+use Rattle.hyd_theorems_on_definitions.specs.TermsOfTheorems.{TanksInOrder}
 
 -- the first vector of a record, in the order of problems and sides, that isn't a certificate, and the junction at which
 -- it fails first

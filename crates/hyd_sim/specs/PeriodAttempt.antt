@@ -13,7 +13,6 @@ use Rattle.hyd_period_facts.specs.declared.facts.Facts.{Facts}
 use Rattle.hyd_period_network.specs.NetAsPeriodNetwork.{grid_of, states_of}
 use Rattle.hyd_period_network.specs.NetView.{NetView}
 use Rattle.hyd_period_network.specs.LawsInSettings.{AreStates}
-use Rattle.hyd_bounds.specs.VectorsInOrder.{TanksInOrder}
 use Rattle.hyd_spec_reports.specs.declared.StopCause.{StopCause}
 use Rattle.hyd_period_end.specs.FactsBeforeVectors.{AreBegun, AreReady}
 use Rattle.hyd_period_end.specs.EndOfPeriod.{AreKeptIn}
@@ -25,7 +24,8 @@ use Rattle.hyd_sim.specs.NarrowRecordsAndStops.{stop_of, open_stop_of}
 use Rattle.hyd_sim.specs.View.{standing_at, standing_for}
 use Rattle.hyd_sim.specs.declared.attempt.Fault.{Fault}
 use Rattle.hyd_sim.specs.declared.attempt.Fault.TheVariants.{Lack, Open}
-use Rattle.hyd_sim.specs.declared.standing.Standing.{Standing as Here}
+use Rattle.hyd_sim.specs.declared.standing_between_periods.Standing.{Standing as Here}
+use Rattle.hyd_theorems_on_definitions.specs.TermsOfTheorems.{TanksInOrder}
 
 -- where the run ends, the standing after its last period: the stocks, the states and the commands stay
 abbrev pub last_standing : Here → Standing

@@ -1,6 +1,6 @@
 -- A run as contracts see it.
 use Rattle.std.specs.Prelude.{◌≡◌, ◌≤◌, ℕ, ◌+◌, Bool, false, List, length, map, Option, IfSome}
-use Rattle.hyd_net.specs.Sound.{Sound}
+use Rattle.hyd_net.specs.Sound.{IsSound}
 use Rattle.hyd_spec.specs.ProgramTypes.{Project, LinkState}
 use Rattle.hyd_spec_certificates.specs.Spans.{levels_of}
 use Rattle.hyd_spec_certificates.specs.RecordAndStanding.{Standing}
@@ -16,14 +16,14 @@ use Rattle.hyd_tank.specs.StockIntervals.{volumes_of}
 use Rattle.hyd_period_facts.specs.declared.facts.Facts.{Facts}
 use Rattle.hyd_period_facts.specs.ReservedMemory.{HasRoom}
 use Rattle.hyd_period_network.specs.NetView.{NetView}
-use Rattle.hyd_period_network.specs.Periods.{IsNetOf}
+use Rattle.hyd_period_network.specs.NetsSetToPeriods.{IsNetOf}
 use Rattle.hyd_period_stocks.specs.ReservedMemory.{HasRoom as HasNextRoom}
 use Rattle.hyd_period_stocks.specs.declared.tanks_at_start.TankStart.{TankStart}
 use Rattle.hyd_period_end.specs.EndOfPeriod.{HasRoom as HasCloseRoom, AreKeptIn}
 use Rattle.hyd_period_end.specs.declared.period_end.PeriodEnd.{PeriodEnd}
 use Rattle.hyd_period_vectors.specs.OpenedSearch.{Room}
 use Rattle.hyd_sim.specs.declared.settings.Settings.{Settings}
-use Rattle.hyd_sim.specs.declared.standing.Standing.{Standing as Here}
+use Rattle.hyd_sim.specs.declared.standing_between_periods.Standing.{Standing as Here}
 
 -- the parts of a run
 pub record SimView : Type 0 where
@@ -79,7 +79,7 @@ pub record IsStanding (project : Project) (here : Here) : Type 0 where
 
 -- what a run is between its periods
 pub record IsSim (sim : SimView) : Type 0 where
-  pub sound : Sound sim.project
+  pub sound : IsSound sim.project
   pub net : IsNetOf sim.project sim.net
   pub header : header_of sim.row ≡ header_for sim.project
   pub facts : HasRoom sim.project sim.facts

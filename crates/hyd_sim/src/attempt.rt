@@ -2,14 +2,14 @@
 #![tactic(auto)]
 
 ghost use Rattle.std.specs.Prelude.{◌≡◌, false, length, IfErr, OnOk};
-ghost use Rattle.hyd_net.specs.Sound.{Sound};
+ghost use Rattle.hyd_net.specs.Sound.{IsSound};
 ghost use Rattle.hyd_spec.specs.NodeNumbers.{tank_count};
 ghost use Rattle.hyd_spec_certificates.specs.Valid.{AreCertificates};
 ghost use Rattle.hyd_cert.specs.RecordView.{header_of, row_of};
 ghost use Rattle.hyd_period_facts.specs.ReservedMemory.{HasRoom};
 ghost use Rattle.hyd_period_network.specs.NetAsPeriodNetwork.{grid_of};
-ghost use Rattle.hyd_period_network.specs.Periods.{IsNetOf};
-ghost use Rattle.hyd_bounds.specs.VectorsInOrder.{TanksInOrder};
+ghost use Rattle.hyd_period_network.specs.NetsSetToPeriods.{IsNetOf};
+ghost use Rattle.hyd_theorems_on_definitions.specs.TermsOfTheorems.{TanksInOrder};
 ghost use Rattle.hyd_period_end.specs.FactsBeforeVectors.{AreBegun, AreReady};
 ghost use Rattle.hyd_period_end.specs.EndOfPeriod.{HasRoom as HasCloseRoom};
 ghost use Rattle.hyd_period_end.specs.declared.period_end.PeriodEnd as closes;
@@ -18,7 +18,7 @@ ghost use Rattle.hyd_spec_certificates.specs.RecordAndStanding.{Record as Row};
 ghost use Rattle.hyd_sim.specs.View.{IsStanding, header_for, standing_for};
 ghost use Rattle.hyd_sim.specs.PeriodAttempt.{AreSought, IsFault, IsMade, IsOver, IsStarted};
 
-use crate::standing::Standing;
+use crate::standing_between_periods::Standing;
 use hyd_cert::Record;
 use hyd_finders::Finder;
 use hyd_net::Project;
@@ -39,7 +39,7 @@ pub(crate) enum Fault {
 
 // Ends the period at the end of the run, which lasts no time and brings nothing.
 fn end_run(project: &Project, standing: &Standing, net: &Net, row: &mut Record, facts: &mut Facts)
-    requires sound { Sound project.now }
+    requires sound { IsSound project.now }
     requires standing { IsStanding project.now standing.now }
     requires last { standing.now.time ≡ project.now.times.duration }
     requires of { IsNetOf project.now net.now }
@@ -71,7 +71,7 @@ pub(crate) fn end_period(
     facts: &mut Facts,
     close: &mut PeriodEnd,
 ) -> Result<(), Open>
-    requires sound { Sound project.now }
+    requires sound { IsSound project.now }
     requires standing { IsStanding project.now standing.now }
     requires of { IsNetOf project.now net.now }
     requires order { TanksInOrder (grid_of net.now) }
@@ -108,7 +108,7 @@ pub(crate) fn try_period<F: Finder>(
     facts: &mut Facts,
     close: &mut PeriodEnd,
 ) -> Result<(), Fault>
-    requires sound { Sound project.now }
+    requires sound { IsSound project.now }
     requires standing { IsStanding project.now standing.now }
     requires unfinished { standing.now.finished ≡ false }
     requires of { IsNetOf project.now net.now }

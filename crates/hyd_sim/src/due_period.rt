@@ -2,7 +2,7 @@
 #![tactic(auto)]
 
 ghost use Rattle.std.specs.Prelude.{◌≡◌, ◌≢◌, ℕ, length, true, false, Ok, IfOk, IfErr, IsOk, OnOk, OnErr};
-ghost use Rattle.hyd_net.specs.Sound.{Sound};
+ghost use Rattle.hyd_net.specs.Sound.{IsSound};
 ghost use Rattle.hyd_spec.specs.NodeNumbers.{tank_count};
 ghost use Rattle.hyd_spec_certificates.specs.Narrow.{IsNarrow};
 ghost use Rattle.hyd_spec_certificates.specs.RecordAndStanding.{Record as Row};
@@ -11,7 +11,7 @@ ghost use Rattle.hyd_spec_reports.specs.Stops.{Stops};
 ghost use Rattle.hyd_cert.specs.RecordView.{header_of, row_of};
 ghost use Rattle.hyd_period_facts.specs.ReservedMemory.{HasRoom};
 ghost use Rattle.hyd_period_network.specs.NetAsPeriodNetwork.{grid_of};
-ghost use Rattle.hyd_period_network.specs.Periods.{IsNetOf};
+ghost use Rattle.hyd_period_network.specs.NetsSetToPeriods.{IsNetOf};
 ghost use Rattle.hyd_period_end.specs.EndOfPeriod.{HasRoom as HasCloseRoom};
 ghost use Rattle.hyd_period_vectors.specs.Vectors.{HaveSame};
 ghost use Rattle.hyd_sim.specs.PeriodAttempt.{AreSought, IsMade, IsStarted, fault_stop_of, next_standing};
@@ -23,7 +23,7 @@ use crate::attempt::{Fault, try_period};
 use crate::facts_and_links_at_start::begin;
 use crate::narrow_records::are_narrow;
 use crate::settings::Settings;
-use crate::standing::Standing;
+use crate::standing_between_periods::Standing;
 use crate::stop_causes::{demand_stop, lack_fits, lack_stop, open_stop};
 use hyd_cert::Record;
 use hyd_finders::Finder;
@@ -70,7 +70,7 @@ pub(crate) fn start_period(
     facts: &mut Facts,
     links: &mut [LinkState],
 ) -> Result<(), StopCause>
-    requires sound { Sound project.now }
+    requires sound { IsSound project.now }
     requires standing { IsStanding project.now standing.now }
     requires of { IsNetOf project.now net.old }
     requires facts { HasRoom project.now facts.old }
@@ -121,7 +121,7 @@ fn tighten<F: Finder>(
     facts: &mut Facts,
     close: &mut PeriodEnd,
 ) -> Result<(), StopCause>
-    requires sound { Sound project.now }
+    requires sound { IsSound project.now }
     requires standing { IsStanding project.now standing.now }
     requires unfinished { standing.now.finished ≡ false }
     requires of { IsNetOf project.now net.now }
@@ -163,7 +163,7 @@ fn does<F: Finder>(
     facts: &mut Facts,
     close: &mut PeriodEnd,
 ) -> Result<bool, StopCause>
-    requires sound { Sound project.now }
+    requires sound { IsSound project.now }
     requires standing { IsStanding project.now standing.now }
     requires unfinished { standing.now.finished ≡ false }
     requires of { IsNetOf project.now net.now }
@@ -214,7 +214,7 @@ fn do_period<F: Finder>(
     close: &mut PeriodEnd,
     finder: &mut F,
 ) -> Result<(), StopCause>
-    requires sound { Sound project.now }
+    requires sound { IsSound project.now }
     requires standing { IsStanding project.now standing.now }
     requires unfinished { standing.now.finished ≡ false }
     requires of { IsNetOf project.now net.old }
@@ -284,7 +284,7 @@ pub(crate) fn advance<F: Finder>(
     close: &mut PeriodEnd,
     finder: &mut F,
 ) -> Result<(), StopCause>
-    requires sound { Sound project.now }
+    requires sound { IsSound project.now }
     requires standing { IsStanding project.now standing.old }
     requires unfinished { standing.old.finished ≡ false }
     requires of { IsNetOf project.now net.old }

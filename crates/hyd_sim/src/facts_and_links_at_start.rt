@@ -2,7 +2,7 @@
 #![tactic(auto)]
 
 ghost use Rattle.std.specs.Prelude.{◌≡◌, ◌≤◌, ◌+◌, length, map};
-ghost use Rattle.hyd_net.specs.Sound.{Sound};
+ghost use Rattle.hyd_net.specs.Sound.{IsSound};
 ghost use Rattle.hyd_spec.specs.PumpPatternsAndSimpleControls.{started};
 ghost use Rattle.hyd_spec.specs.NodeNumbers.{tank_count};
 ghost use Rattle.hyd_spec_certificates.specs.Spans.{levels_of};
@@ -14,7 +14,7 @@ ghost use Rattle.hyd_period_network.specs.LawsInSettings.{AreStates};
 ghost use Rattle.hyd_period_end.specs.FactsBeforeVectors.{AreBegun, AreReady};
 ghost use Rattle.hyd_sim.specs.View.{IsStanding, standing_for};
 
-use crate::standing::Standing;
+use crate::standing_between_periods::Standing;
 use hyd_controls_and_rules::{Changes, settle};
 use hyd_net::{LinkState, List, Project};
 use hyd_period_facts::Facts;
@@ -68,7 +68,7 @@ fn start_links(
     links: &mut [LinkState],
     changes: &mut Changes,
 )
-    requires sound { Sound project.now }
+    requires sound { IsSound project.now }
     requires each_level { length levels.now ≡ tank_count project.now }
     requires decided { ControlsAreDecided project.now (map levels_of levels.now) }
     requires each_state { length commanded.now ≡ length project.now.links.list }
@@ -96,7 +96,7 @@ pub(crate) fn begin(
     links: &mut [LinkState],
     facts: &mut Facts,
 )
-    requires sound { Sound project.now }
+    requires sound { IsSound project.now }
     requires standing { IsStanding project.now standing.now }
     requires each { length links.old ≡ length project.now.links.list }
     requires room { HasRoom project.now facts.old }

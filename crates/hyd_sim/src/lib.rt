@@ -1,17 +1,17 @@
 //! A run, one period after another, found or checked: the record of each is valid, and its facts are its own.
 #![tactic(auto)]
 
-mod accept;
 mod attempt;
-mod closing;
 mod due_period;
 mod facts_and_links_at_start;
 mod given_vectors;
+mod handed_in_record;
 mod narrow_records;
-mod opening;
+mod run_at_start;
+mod run_taken_apart;
 mod settings;
 mod sim;
-mod standing;
+mod standing_between_periods;
 mod steps;
 mod stop_causes;
 

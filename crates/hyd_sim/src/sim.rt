@@ -1,7 +1,7 @@
 //! The state of a run.
 
 use crate::settings::Settings;
-use crate::standing::Standing;
+use crate::standing_between_periods::Standing;
 use hyd_cert::Record;
 use hyd_net::{LinkState, Project};
 use hyd_period_end::PeriodEnd;

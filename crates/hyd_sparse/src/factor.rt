@@ -3,7 +3,7 @@ ghost use Rattle.std.specs.Prelude.{◌≡◌, length, IfOk};
 
 use crate::numeric_factorization::eliminate;
 use crate::pattern::Pattern;
-use crate::pattern_making::make_pattern;
+use crate::pattern_from_links::make_pattern;
 use crate::solution::solve;
 use std::alloc::{AllocError as OutOfMemory, Global};
 use std::marker::Model;
@@ -31,7 +31,7 @@ pub struct Factor {
 
 impl Model for Factor {
     ghost use Rattle.std.specs.Prelude.{◌≡◌, length};
-    ghost use Rattle.hyd_sparse.specs.Shape.{Shape};
+    ghost use Rattle.hyd_sparse.specs.FactorView.{Shape};
 
     ghost Value = { Shape };
 

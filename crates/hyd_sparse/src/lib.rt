@@ -3,11 +3,11 @@
 //! them checks what they lead to.
 #![tactic(auto)]
 
+mod elimination_order;
 mod factor;
 mod numeric_factorization;
-mod ordering;
 mod pattern;
-mod pattern_making;
+mod pattern_from_links;
 mod permutation;
 mod queue;
 mod solution;

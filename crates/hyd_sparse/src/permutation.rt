@@ -2,7 +2,7 @@
 ghost use Rattle.std.specs.Prelude.{◌≡◌, ◌<◌, length, IfOk};
 ghost use Rattle.std.specs.List.{All};
 
-use crate::ordering::Eliminated;
+use crate::elimination_order::Eliminated;
 use std::alloc::{AllocError as OutOfMemory, Global};
 
 /// The numbers below a count, in order.

@@ -20,14 +20,14 @@ valve_law Linear = LinearLaw
 
 -- What a curve by straight lines passes at most (flow ticks), a general purpose valve's also in reverse: 10^10 cubic
 -- metres a day.
-abbrev pub greatest_flow : ℤ
-greatest_flow = pos (10 ^ 17)
+abbrev pub greatest_curve_flow : ℤ
+greatest_curve_flow = pos (10 ^ 17)
 
 -- The law of a link of this kind in this state, whatever the tanks at its ends allow.
 -- A running pump passes forward only, what its curve gives at the head difference plus its lift, or what the straight
 -- lines between its points give at its speed; a throttled valve is a valve whose coefficient is the setting; a
 -- flow-control valve passes at most its setting; an open general purpose valve follows its curve. Curves pass no more
--- than the greatest flow. A kind and a state that don't go together have the law of a closed link.
+-- than their greatest flow. A kind and a state that don't go together have the law of a closed link.
 abbrev pub own_law : Bool → List (ListView HeadPoint) → LinkKind → LinkState → Law
 own_law us bends (PipeLink capacity) Open = QuadraticLaw capacity
 own_law us bends (PipeLink capacity) Closed = Shut
@@ -39,7 +39,7 @@ own_law us bends (PumpLink capacity shutoff head pattern) (Speed speed) = Forwar
     (Lifted (lift_of us head speed) (QuadraticLaw capacity))
 own_law us bends (PumpLink capacity shutoff head pattern) Closed = Shut
 own_law us bends (PumpLink capacity shutoff head pattern) other = Shut
-own_law us bends (CurvePump bend pattern) (Speed speed) = Held (pos 0) greatest_flow
+own_law us bends (CurvePump bend pattern) (Speed speed) = Held (pos 0) greatest_curve_flow
     (Bent (pump_knots (points_of bends bend) speed))
 own_law us bends (CurvePump bend pattern) Closed = Shut
 own_law us bends (CurvePump bend pattern) other = Shut
@@ -51,7 +51,8 @@ own_law us bends (Fcv valve) Open = valve_law valve
 own_law us bends (Fcv valve) (Limit setting ticks) = Capped ticks (valve_law valve)
 own_law us bends (Fcv valve) Closed = Shut
 own_law us bends (Fcv valve) other = Shut
-own_law us bends (Gpv bend) Open = Held (neg_ℤ greatest_flow) greatest_flow (Bent (valve_knots (points_of bends bend)))
+own_law us bends (Gpv bend) Open = Held (neg_ℤ greatest_curve_flow) greatest_curve_flow
+    (Bent (valve_knots (points_of bends bend)))
 own_law us bends (Gpv bend) Closed = Shut
 own_law us bends (Gpv bend) other = Shut
 

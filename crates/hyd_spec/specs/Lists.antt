@@ -20,3 +20,7 @@ abbrev pub present : {X : Type 0} → List (Option X) → List X
 present [] = []
 present (Some x ∷ rest) = x ∷ present rest
 present (None ∷ rest) = present rest
+
+-- A list or a text goes on with some more, or with nothing, to make the whole one.
+abbrev pub IsFrontOf : {X : Type 0} → List X → List X → Type 0
+IsFrontOf {X} front whole = (rest : List X) × (front ++ rest ≡ whole)

@@ -11,6 +11,10 @@ pub const MISSED_FLOW_TICKS: i64 = 10;
 /// cubic metres.
 pub const MISSED_STOCK_TICKS: i64 = 10;
 
+/// How far below its maximum a tank counts as full, and above its minimum as empty, in head ticks of 10^-13 m: 0.0005
+/// foot.
+pub const STATE_BAND: i64 = 1_524_000_000;
+
 /// How full a tank is at the start of a period (EPANET 2.2 User Manual, chapter 3, tanks).
 #[derive(Debug, Clone, Copy, PartialEq, Eq, Drop)]
 pub enum TankState {

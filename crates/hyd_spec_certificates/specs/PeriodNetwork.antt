@@ -38,7 +38,7 @@ pub record Grid : Type 0 where
   pub tanks : List Interval
   pub links : List GridLink
 
--- ---- the grid of a project
+-- ---- the grid of a network
 
 -- The capacity of a pressure-driven demand is the one that is made of the demand and the two pressures.
 pub record IsDriven (project : Project) (demand : ℤ) (law : DemandLaw) : Type 0 where

@@ -9,7 +9,8 @@ use lib.Signed.{le_z, lt_z}
 use Rattle.hyd_num.specs.FileQuantity.{head_ticks, flow_ticks}
 use Rattle.hyd_num.specs.Rational.{whole, is_at_most}
 use Rattle.hyd_num.specs.declared.flow_units.FlowUnit.{FlowUnit}
-use Rattle.hyd_net.specs.NumberRanges.{head_limit, flow_limit}
+use Rattle.hyd_net.specs.NumberRanges.{head_limit, flow_limit, volume_limit, shutoff_head_limit}
+use Rattle.hyd_net.specs.NumberRanges.{least_volume_difference}
 use Rattle.hyd_net.specs.Curves.{value_at, head_knots, volume_at}
 use Rattle.hyd_net.specs.declared.curves.VolumePoint.{VolumePoint}
 use Rattle.hyd_net.specs.declared.curves.HeadPoint.{HeadPoint}
@@ -93,11 +94,11 @@ is_pump_curve points = is_bent points
 abbrev pub are_flows : FlowUnit → List Point → Bool
 are_flows unit points = list_all (λ point. is_flow unit point.x) points
 
--- the head at which a pump of one point or three gives no flow is at most 10^16 ticks: four thirds of the one head,
+-- the head at which a pump of one point or three gives no flow is at most its limit: four thirds of the one head,
 -- or the first of three, up or down. The drop of a curve of three points is at most 10^12, as numbers of a file are.
 abbrev pub has_shutoff : Bool → List Point → Bool
-has_shutoff us (a ∷ []) = le_z (pos 4 *ℤ head_ticks us a.y) (pos (3 * 10 ^ 16))
-has_shutoff us (a ∷ b ∷ c ∷ []) = is_within (10 ^ 16) (head_ticks us a.y) && le_z (a.y -ℤ b.y) (pos (10 ^ 21))
+has_shutoff us (a ∷ []) = le_z (pos 4 *ℤ head_ticks us a.y) (pos (3 * shutoff_head_limit))
+has_shutoff us (a ∷ b ∷ c ∷ []) = is_within shutoff_head_limit (head_ticks us a.y) && le_z (a.y -ℤ b.y) (pos (10 ^ 21))
 has_shutoff us _ = true
 
 -- the flow and the drop that make a pump's capacity, and the thirds of the drop
@@ -125,12 +126,12 @@ abbrev pub has_flow : HeadPoint → Bool
 has_flow point = is_within flow_limit point.flow
 
 -- a pump's curve of four and more points: flows of at least 0 that rise, heads that fall to at least 0, and at flow
--- 0, by the line of the first two points, a head of at most 10^16 ticks
+-- 0, by the line of the first two points, a head of at most the limit of shutoff heads
 abbrev pub is_pump_bend : List HeadPoint → Bool
 is_pump_bend points =
     (list_all has_flow points && in_turn is_slower points)
     && ((at_start (λ point. le_z (pos 0) point.flow) points && at_end (λ point. le_z (pos 0) point.head) points)
-    && is_at_most (value_at 1 (head_knots points) (pos 0)) (whole (pos (10 ^ 16))))
+    && is_at_most (value_at 1 (head_knots points) (pos 0)) (whole (pos shutoff_head_limit)))
 
 -- the curve of a general purpose valve begins at no flow and no loss, in the file's numbers
 abbrev pub begins_at_0 : List Point → Bool
@@ -153,11 +154,12 @@ abbrev pub covers : ℤ → ℤ → List VolumePoint → Bool
 covers minimum maximum points =
     at_start (λ point. le_z point.level minimum) points && at_end (λ point. le_z maximum point.level) points
 
--- levels in range and volumes that rise, from at least 0 to at most 10^18 ticks, over all levels of the tank; between
--- its minimum and its maximum there are 10^6 volume ticks at least
+-- levels in range and volumes that rise, from at least 0 to at most their limit, over all levels of the tank; between
+-- its minimum and its maximum there is the least difference of volumes or more
 abbrev pub is_volume_curve : ℤ → ℤ → List VolumePoint → Bool
 is_volume_curve minimum maximum points =
     ((nat_le 2 (length points) && (list_all (λ point. is_head point.level) points && in_turn is_fuller points))
     && (at_start (λ point. le_z (pos 0) point.volume) points
-    && at_end (λ point. le_z point.volume (pos (10 ^ 18))) points))
-    && (covers minimum maximum points && le_z (pos (10 ^ 6)) (volume_at points maximum -ℤ volume_at points minimum))
+    && at_end (λ point. le_z point.volume (pos volume_limit)) points))
+    && (covers minimum maximum points
+    && le_z (pos least_volume_difference) (volume_at points maximum -ℤ volume_at points minimum))

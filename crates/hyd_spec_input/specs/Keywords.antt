@@ -2,7 +2,7 @@
 -- Source: EPANET 2.2 User Manual, appendix C.
 use Rattle.std.specs.Prelude.{ℕ, List, [], ◌∷◌, codes, Option, Some, None, if◌then◌else◌}
 use Rattle.hyd_spec_lines.specs.WordsOfLines.{is_keyword}
-use Rattle.hyd_spec_lines.specs.Headings.{is_one_of}
+use Rattle.hyd_spec_lines.specs.Headings.{is_one_of, first_named, either}
 use Rattle.hyd_num.specs.declared.flow_units.FlowUnit.{FlowUnit}
 use Rattle.hyd_num.specs.declared.flow_units.FlowUnit.TheVariants.{Cfs, Gpm, Mgd, Imgd, Afd, Lps, Lpm, Mld, Cmh, Cmd}
 use Rattle.hyd_net.specs.declared.rules.Relation.{Relation}
@@ -21,16 +21,6 @@ use Rattle.hyd_spec_input.specs.declared.Attribute.{Attribute}
 use Rattle.hyd_spec_input.specs.declared.Attribute.TheVariants as attribute
 use Rattle.hyd_spec_input.specs.declared.RuleWord.{RuleWord}
 use Rattle.hyd_spec_input.specs.declared.RuleWord.TheVariants as rule
-
--- what the first keyword of a table that a word is stands for
-abbrev pub first_named : {A : Type 0} → List (List ℕ × A) → List ℕ → Option A
-first_named [] word = None
-first_named (entry ∷ entries) word = if is_keyword entry.0 word then Some entry.1 else first_named entries word
-
--- the first of two meanings that is there
-abbrev pub either : {A : Type 0} → Option A → Option A → Option A
-either (Some meaning) other = Some meaning
-either None other = other
 
 -- ---- units
 

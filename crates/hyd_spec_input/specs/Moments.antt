@@ -8,8 +8,8 @@ use borrow.Author.Differences.{up}
 use Rattle.hyd_num.specs.Numeral as numeral
 use Rattle.hyd_num.specs.Numeral.{is_digit, nano_of}
 use Rattle.hyd_spec_lines.specs.WordsOfLines.{is_keyword}
+use Rattle.hyd_spec_lines.specs.Headings.{first_named, either}
 use Rattle.hyd_spec_input.specs.Columns.{Column, first, unless, is_there, number, one_of, needed, optional, ends, word}
-use Rattle.hyd_spec_input.specs.Keywords.{first_named, either}
 use Rattle.hyd_net.specs.declared.refusal_cause.Cause.{Cause}
 use Rattle.hyd_net.specs.declared.refusal_cause.Cause.TheVariants.{Syntax, Range}
 

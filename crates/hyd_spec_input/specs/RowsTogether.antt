@@ -36,7 +36,10 @@ use Rattle.hyd_spec_input.specs.declared.Attribute.{Attribute}
 use Rattle.hyd_spec_input.specs.declared.Attribute.TheVariants.{Pressure, Level}
 use Rattle.hyd_spec_input.specs.declared.RuleWord.{RuleWord}
 use Rattle.hyd_spec_input.specs.declared.RuleWord.TheVariants.{Rule, And, Then, Else, Priority}
-use Rattle.hyd_net.specs.NumberRanges.{head_limit}
+use Rattle.hyd_net.specs.NumberRanges.{head_limit, least_level_difference}
+use Rattle.hyd_net.specs.CountLimits.{most_junctions, most_reservoirs, most_tanks, most_links, most_patterns}
+use Rattle.hyd_net.specs.CountLimits.{most_multipliers, most_curves, most_points, most_demands, most_controls}
+use Rattle.hyd_net.specs.CountLimits.{most_rules, most_parts}
 use Rattle.hyd_net.specs.declared.refusal_cause.Cause.{Cause}
 use Rattle.hyd_net.specs.declared.refusal_cause.Cause.TheVariants.{Syntax, Range, DuplicateId, UnknownName, Unsupported}
 use Rattle.hyd_net.specs.declared.refusal_cause.Cause.TheVariants.{Limit}
@@ -99,7 +102,7 @@ each_multiplier in_range rows name = unless (list_all in_range (multipliers_of r
 
 abbrev pub junction_faults : List Row → ℕ → Row → List (Option Cause)
 junction_faults rows k row =
-    passes 10000 4 (length (rows_of Junctions (take (k + 1) rows))) ∷ new_in (node_rows (take k rows)) row
+    passes most_junctions 4 (length (rows_of Junctions (take (k + 1) rows))) ∷ new_in (node_rows (take k rows)) row
     ∷ known_pattern rows (slice_get row.words 3) ∷ head rows (amount 1 row.words)
     ∷ flow rows (amount_or (pos 0) 2 row.words) ∷ []
 
@@ -112,7 +115,7 @@ is_head_times rows nano multiplier = is_within (10 ^ 26) (head_ticks (us rows) n
 
 abbrev pub reservoir_faults : List Row → ℕ → Row → List (Option Cause)
 reservoir_faults rows k row =
-    passes 1000 5 (length (rows_of Reservoirs (take (k + 1) rows))) ∷ new_in (node_rows (take k rows)) row
+    passes most_reservoirs 5 (length (rows_of Reservoirs (take (k + 1) rows))) ∷ new_in (node_rows (take k rows)) row
     ∷ known_pattern rows (slice_get row.words 2) ∷ head rows (amount 1 row.words)
     ∷ each_multiplier (is_head_times rows (amount 1 row.words)) rows (slice_get row.words 2) ∷ []
 
@@ -128,14 +131,14 @@ volume_curve rows row (Some name) =
     (volume_points (us rows) (curve_named rows name)))
     Range
 
--- maximum and minimum level are a hundredth of a foot apart at least
+-- maximum and minimum level are apart by the least level difference or more
 abbrev pub levels_apart : List Row → Row → Option Cause
 levels_apart rows row =
-    unless (le_z (pos 30480000000) (head_ticks (us rows) (amount 4 row.words -ℤ amount 3 row.words))) Range
+    unless (le_z (pos least_level_difference) (head_ticks (us rows) (amount 4 row.words -ℤ amount 3 row.words))) Range
 
 abbrev pub tank_faults : List Row → ℕ → Row → List (Option Cause)
 tank_faults rows k row =
-    passes 32 6 (length (rows_of Tanks (take (k + 1) rows))) ∷ new_in (node_rows (take k rows)) row
+    passes most_tanks 6 (length (rows_of Tanks (take (k + 1) rows))) ∷ new_in (node_rows (take k rows)) row
     ∷ known_curve rows (tank_curve row.words) ∷ head rows (amount 1 row.words) ∷ levels_apart rows row
     ∷ head rows (amount 1 row.words +ℤ amount 4 row.words) ∷ volume_curve rows row (tank_curve row.words) ∷ []
 
@@ -147,7 +150,7 @@ tank rows k row = first (tank_faults rows k row)
 -- what all links are asked
 abbrev pub ends_faults : List Row → ℕ → Row → List (Option Cause)
 ends_faults rows k row =
-    passes 20000 7 (length (link_rows (take (k + 1) rows))) ∷ new_in (link_rows (take k rows)) row
+    passes most_links 7 (length (link_rows (take (k + 1) rows))) ∷ new_in (link_rows (take k rows)) row
     ∷ known_node rows (word 1 row.words) ∷ known_node rows (word 2 row.words) ∷ []
 
 abbrev pub ends : List Row → ℕ → Row → Option Cause
@@ -237,7 +240,7 @@ status rows k row = first (status_faults rows k row)
 
 abbrev pub demand_faults : List Row → ℕ → Row → List (Option Cause)
 demand_faults rows k row =
-    passes 100000 10 (length (rows_of Demands (take (k + 1) rows))) ∷ known_junction rows (word 0 row.words)
+    passes most_demands 10 (length (rows_of Demands (take (k + 1) rows))) ∷ known_junction rows (word 0 row.words)
     ∷ known_pattern rows (slice_get row.words 2) ∷ flow rows (amount 1 row.words) ∷ []
 
 abbrev pub demand : List Row → ℕ → Row → Option Cause
@@ -248,8 +251,8 @@ emitter rows k row = known_junction rows (word 0 row.words)
 
 abbrev pub curve_faults : List Row → ℕ → Row → List (Option Cause)
 curve_faults rows k row =
-    passes 1000 9 (distinct (rows_of Curves (take (k + 1) rows)))
-    ∷ passes 100000 9 (length (rows_of Curves (take (k + 1) rows))) ∷ []
+    passes most_curves 9 (distinct (rows_of Curves (take (k + 1) rows)))
+    ∷ passes most_points 9 (length (rows_of Curves (take (k + 1) rows))) ∷ []
 
 abbrev pub curve : List Row → ℕ → Row → Option Cause
 curve rows k row = first (curve_faults rows k row)
@@ -259,8 +262,8 @@ multiplier_count rows = sum_by (λ (row : Row). length (multipliers row.words)) 
 
 abbrev pub pattern_faults : List Row → ℕ → Row → List (Option Cause)
 pattern_faults rows k row =
-    passes 1000 8 (distinct (rows_of Patterns (take (k + 1) rows)))
-    ∷ passes 1000000 8 (multiplier_count (rows_of Patterns (take (k + 1) rows))) ∷ []
+    passes most_patterns 8 (distinct (rows_of Patterns (take (k + 1) rows)))
+    ∷ passes most_multipliers 8 (multiplier_count (rows_of Patterns (take (k + 1) rows))) ∷ []
 
 abbrev pub pattern : List Row → ℕ → Row → Option Cause
 pattern rows k row = first (pattern_faults rows k row)
@@ -288,7 +291,7 @@ control_level rows row = if is_at_level row then head rows (amount 7 row.words) 
 
 abbrev pub control_faults : List Row → ℕ → Row → List (Option Cause)
 control_faults rows k row =
-    passes 10000 11 (length (rows_of Controls (take (k + 1) rows)))
+    passes most_controls 11 (length (rows_of Controls (take (k + 1) rows)))
     ∷ link_by_word rows (link_word (word 0 row.words)) (word 1 row.words) ∷ control_node rows row
     ∷ set_link rows (link_named rows (word 1 row.words)) (word 2 row.words) (control_tank rows row)
     ∷ control_level rows row ∷ []
@@ -358,11 +361,11 @@ holds_action earlier row = is_action_word (begins_with row.words) (is_acting (st
 
 abbrev pub rule_faults : List Row → ℕ → Row → List (Option Cause)
 rule_faults rows k row =
-    passes 10000 12 (length (rules_in (take (k + 1) rows))) ∷ new_rule (rules_in (take k rows)) row ∷ []
+    passes most_rules 12 (length (rules_in (take (k + 1) rows))) ∷ new_rule (rules_in (take k rows)) row ∷ []
 
 abbrev pub part_faults : List Row → ℕ → Row → List (Option Cause)
 part_faults rows k row =
-    passes 100000 12 (length (parts_in (take (k + 1) rows)))
+    passes most_parts 12 (length (parts_in (take (k + 1) rows)))
     ∷ (if holds_action (take k rows) row then action rows row.words else clause rows row.words) ∷ []
 
 abbrev pub rule_line : List Row → ℕ → Row → Option Cause

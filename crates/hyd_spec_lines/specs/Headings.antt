@@ -11,10 +11,15 @@ use Rattle.hyd_spec_lines.specs.declared.section.Kind.{Kind}
 use Rattle.hyd_spec_lines.specs.declared.section.Kind.TheVariants.{Wrong, Opens}
 use Rattle.hyd_spec_lines.specs.declared.fault.LexCause.TheVariants.{UnknownSection}
 
--- the first section whose heading a word is
-abbrev pub first_named : List (List ℕ × Section) → List ℕ → Option Section
+-- what the first keyword of a table that a word is stands for
+abbrev pub first_named : {A : Type 0} → List (List ℕ × A) → List ℕ → Option A
 first_named [] word = None
 first_named (entry ∷ entries) word = if is_keyword entry.0 word then Some entry.1 else first_named entries word
+
+-- the first of two meanings that is there
+abbrev pub either : {A : Type 0} → Option A → Option A → Option A
+either (Some meaning) other = Some meaning
+either None other = other
 
 -- the headings of the sections of nodes and links
 abbrev pub network_headings : List (List ℕ × Section)
@@ -52,16 +57,11 @@ drawing_headings =
     codes "[MIXING]" ∷ codes "[REPORT]" ∷ codes "[COORDINATES]" ∷ codes "[VERTICES]" ∷ codes "[LABELS]"
     ∷ codes "[BACKDROP]" ∷ []
 
--- the first section that is there
-abbrev pub either_section : Option Section → Option Section → Option Section
-either_section (Some section) other = Some section
-either_section None other = other
-
 -- the section that is read and has this heading
 unfoldable pub read_section : List ℕ → Option Section
 read_section word =
-    either_section (first_named network_headings word)
-    (either_section (first_named data_headings word) (first_named run_headings word))
+    either (first_named network_headings word)
+    (either (first_named data_headings word) (first_named run_headings word))
 
 -- a section that is passed over has this heading
 unfoldable pub is_passed_over : List ℕ → Bool

@@ -166,14 +166,14 @@ pub record LiesIn (text : List ℕ) (line : Line) : Type 0 where
 
 -- A line begins at this place, behind this number of lines: so many line feeds stand before the place, the last of them
 -- directly, or it's the start.
-pub record Begins (text : List ℕ) (place lines : ℕ) : Type 0 where
+pub record LineBegins (text : List ℕ) (place lines : ℕ) : Type 0 where
   pub feeds : length (filter is_line_feed (take place text)) ≡ lines
   pub behind : (place ≡ 0) ⊎ (is_line_feed (slice_index text (place - 1)) ≡ true)
 
 -- A line of the reader is the text's line of its number: it begins where that begins, and its bytes are those of that
 -- up to a comment.
 pub record IsLineOf (text : List ℕ) (line : Line) : Type 0 where
-  pub from : Begins text line.from (line.number - 1)
+  pub from : LineBegins text line.from (line.number - 1)
   pub whole : List ℕ
   pub whole_is : slice_get (text_lines text) (line.number - 1) ≡ Some whole
   pub to : line.to ≡ line.from + length (body whole)

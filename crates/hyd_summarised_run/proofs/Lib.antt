@@ -1,5 +1,5 @@
 pub mod PenLemmas
 pub mod EventLemmas
 pub mod StepLemmas
-pub mod SumLemmas
+pub mod RunLemmas
 pub mod TextLemmas

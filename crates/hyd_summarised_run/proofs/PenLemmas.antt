@@ -6,7 +6,7 @@ use Rattle.hyd_io.specs.declared.desk.Openings.{Openings}
 use Rattle.hyd_io.specs.declared.output.OutFault.{OutFault}
 use Rattle.hyd_io.specs.DeskBytes.{Files}
 use Rattle.hyd_io.specs.Output.{PenState}
-use Rattle.hyd_io.specs.Putting.{Puts}
+use Rattle.hyd_io.specs.TextPutIn.{Puts}
 use Rattle.hyd_io.proofs.PutLemmas.{puts_nothing}
 use Rattle.hyd_run.specs.Pens.{told, moment, AreOpen, PutsIn}
 use Rattle.hyd_run.proofs.PenLemmas.{both-put, first-cut-off}

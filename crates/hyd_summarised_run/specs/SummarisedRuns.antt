@@ -19,7 +19,7 @@ use Rattle.hyd_io.specs.Output.{PenState}
 use Rattle.hyd_io.specs.DeskBytes.{append_known, Moves}
 use Rattle.hyd_sim.specs.declared.settings.Settings.{Settings}
 use Rattle.hyd_sim.specs.View.{SimView, standing_of}
-use Rattle.hyd_run.specs.Pens.{Told, Moment, moment, PutIn, IsCutOff}
+use Rattle.hyd_run.specs.Pens.{Told, RunMoment, moment, PutIn, IsCutOff}
 use Rattle.hyd_run.specs.Runs.{sharpness_of, outcome_of, fresh, IsStep, IsOver, periods_left}
 use Rattle.hyd_summarised_run.specs.declared.steps.Ended.{Ended}
 use Rattle.hyd_summarised_run.specs.declared.steps.Turn.{Turn}
@@ -27,7 +27,7 @@ use Rattle.hyd_summarised_run.specs.declared.steps.Turn.TheVariants.{Period, Ove
 use Rattle.hyd_run.specs.declared.outcome.RunEnd.{RunEnd}
 
 -- The pen of the certificate and the desk, while nothing is printed.
-abbrev pub aside : PenState → Told → Moment
+abbrev pub aside : PenState → Told → RunMoment
 aside certificate told = moment certificate (fresh Report) told
 
 -- ---- what was put out
@@ -54,7 +54,7 @@ pub record IsSumBrokenOff (project : Project) (settings : Settings) (before now 
 -- What was found so far is a run that leaves a standing, as sharp as was asked for, with one record for each period
 -- that was done and so many events, and its certificate as far as it goes was put in at the pen.
 pub record SumsSoFar (project : Project) (sharpness : Sharpness) (left : Standing) (events : ℕ)
-    (before now : Moment) : Type 0 where
+    (before now : RunMoment) : Type 0 where
   pub founds : List Found
   pub is_run : IsRun project founds left
   pub sharp : AllByRecursion (IsSharpFound project sharpness) founds
@@ -68,7 +68,8 @@ abbrev pub summary_so_far : Project → Standing → List Found → Option Outco
 summary_so_far project left founds last = option_map_or (summary_text project left founds) last []
 
 -- So it is, the run's end is known, and its certificate was put in whole, and its summary too.
-pub record SumsWhole (project : Project) (settings : Settings) (outcome : Outcome) (before now : Moment) : Type 0 where
+pub record SumsWhole (project : Project) (settings : Settings) (outcome : Outcome)
+    (before now : RunMoment) : Type 0 where
   pub founds : List Found
   pub left : Standing
   pub is_run : IsRun project founds left
@@ -80,13 +81,13 @@ pub record SumsWhole (project : Project) (settings : Settings) (outcome : Outcom
       before now
 
 -- A text was written whole, and the pen of the certificate held none of it back.
-abbrev pub IsWritten : List ℕ → Moment → Moment → Type 0
+abbrev pub IsWritten : List ℕ → RunMoment → RunMoment → Type 0
 IsWritten text before now = Moves before.told.written now.told.written (before.certificate.held ++ text) []
 
 -- A fault cut the run off, whose end is known or isn't: before anything of its summary was put in, or when its
 -- certificate was written whole.
 pub record SumsCutShort (project : Project) (settings : Settings) (fault : OutFault)
-    (before now : Moment) : Type 0 where
+    (before now : RunMoment) : Type 0 where
   pub founds : List Found
   pub left : Standing
   pub is_run : IsRun project founds left
@@ -101,7 +102,7 @@ pub record SumsCutShort (project : Project) (settings : Settings) (fault : OutFa
 -- ---- a step
 
 -- A period was due and was found, with so many events, and its record was put in at the pen.
-pub record SumsPeriod (events : ℕ) (sim now : SimView) (before after : Moment) : Type 0 where
+pub record SumsPeriod (events : ℕ) (sim now : SimView) (before after : RunMoment) : Type 0 where
   pub found : Found
   pub step : IsStep now.project (sharpness_of now.settings) (standing_of sim) (standing_of now) found
   pub fewer : periods_left now.project (standing_of now) < periods_left now.project (standing_of sim)
@@ -111,29 +112,29 @@ pub record SumsPeriod (events : ℕ) (sim now : SimView) (before after : Moment)
   pub put : PutIn (record_text found.row) [] before after
 
 -- It was found, and a fault cut its record off.
-pub record LosesPeriod (fault : OutFault) (sim now : SimView) (before after : Moment) : Type 0 where
+pub record LosesPeriod (fault : OutFault) (sim now : SimView) (before after : RunMoment) : Type 0 where
   pub found : Found
   pub step : IsStep now.project (sharpness_of now.settings) (standing_of sim) (standing_of now) found
   pub cut_off : IsCutOff fault (record_text found.row) [] before after
 
 -- What a step does.
-abbrev pub StepSums : Result Turn OutFault → SimView → SimView → Moment → Moment → Type 0
+abbrev pub StepSums : Result Turn OutFault → SimView → SimView → RunMoment → RunMoment → Type 0
 StepSums (Ok (Period events)) sim now before after = SumsPeriod events sim now before after
 StepSums (Ok (Over end)) sim now before after = IsOver (outcome_of end) sim now before after
 StepSums (Err fault) sim now before after = LosesPeriod fault sim now before after
 
 -- What the steps of a run do from its start on: whatever was put in before them as the front of a certificate is one
 -- still, or is cut short.
-abbrev pub StepsSum : Result Ended OutFault → SimView → SimView → Moment → Moment → Type 0
+abbrev pub StepsSum : Result Ended OutFault → SimView → SimView → RunMoment → RunMoment → Type 0
 StepsSum (Ok ended) sim now before after =
-    EndsSo sim.project (standing_of now) sim.settings.rounds (outcome_of ended.end) × ((start : Moment)
+    EndsSo sim.project (standing_of now) sim.settings.rounds (outcome_of ended.end) × ((start : RunMoment)
     → SumsSoFar sim.project (sharpness_of sim.settings) (standing_of sim) 0 start before
     → SumsSoFar sim.project (sharpness_of sim.settings) (standing_of now) ended.events start after)
-StepsSum (Err fault) sim now before after = (start : Moment)
+StepsSum (Err fault) sim now before after = (start : RunMoment)
     → SumsSoFar sim.project (sharpness_of sim.settings) (standing_of sim) 0 start before
     → SumsCutShort sim.project sim.settings fault start after
 
 -- What a run does.
-abbrev pub RunSumsIn : Result RunEnd OutFault → Project → Settings → Moment → Moment → Type 0
+abbrev pub RunSumsIn : Result RunEnd OutFault → Project → Settings → RunMoment → RunMoment → Type 0
 RunSumsIn (Ok end) project settings before after = SumsWhole project settings (outcome_of end) before after
 RunSumsIn (Err fault) project settings before after = SumsCutShort project settings fault before after

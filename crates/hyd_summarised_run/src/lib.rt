@@ -1,8 +1,7 @@
 //! A run of a network of which the certificate is written and a summary is printed, in place of its report.
 #![tactic(auto)]
 
-mod ending;
-mod numbers;
+mod end_line_and_summary;
 mod steps;
 mod summary;
 mod whole_run;

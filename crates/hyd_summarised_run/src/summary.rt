@@ -3,10 +3,9 @@
 ghost use Rattle.std.specs.Prelude.{◌++◌, IsTrue, codes, decimal};
 ghost use Rattle.hyd_io.specs.Output.{OnCert};
 ghost use Rattle.hyd_spec_summary.specs.Summary.{summary_line};
-ghost use Rattle.hyd_io.specs.Putting.{Puts};
+ghost use Rattle.hyd_io.specs.TextPutIn.{Puts};
 
-use crate::numbers::put_number;
-use hyd_io::{Desk, OutFault, Pen};
+use hyd_io::{Desk, OutFault, Pen, put_number};
 
 // Puts a text and the number behind it.
 fn put_counted<D: Desk>(

@@ -2,14 +2,14 @@
 
 ghost use Rattle.std.specs.Prelude.{◌≡◌, [], IsTrue, IfOk, IfErr, OnOk};
 ghost use Rattle.hyd_io.specs.declared.output.Channel.TheVariants.{Cert, Report};
-ghost use Rattle.hyd_net.specs.Sound.{Sound};
+ghost use Rattle.hyd_net.specs.Sound.{IsSound};
 ghost use Rattle.hyd_spec_certificates.specs.RecordAndStanding.{initial_standing};
 ghost use Rattle.hyd_sim.specs.View.{standing_of};
 ghost use Rattle.hyd_run.specs.Pens.{told, moment, OneRose, LeavesRest};
 ghost use Rattle.hyd_run.specs.Runs.{fresh, outcome_of};
 ghost use Rattle.hyd_summarised_run.specs.SummarisedRuns.{IsSummed, IsSumBrokenOff, RunSumsIn};
 
-use crate::ending::put_ending;
+use crate::end_line_and_summary::put_ending;
 use crate::steps::put_steps;
 use hyd_cert::put_head;
 use hyd_finders::Finder;
@@ -34,7 +34,7 @@ fn put_run<D: Desk, F: Finder>(
         (told D.files D.rest D.written D.printed D.target D.ready D.counts D.openings desk.old))
         (moment certificate.new report.new
         (told D.files D.rest D.written D.printed D.target D.ready D.counts D.openings desk.new)) }
-    ensures sound { Sound sim.old.project }
+    ensures sound { IsSound sim.old.project }
     ensures certificate { OnOk result (certificate.new.held ≡ []) }
     ensures report { OnOk result (report.new.held ≡ []) }
 {

@@ -1,6 +1,6 @@
-pub mod Ends
-pub mod Values
-pub mod Walking
-pub mod Turns
-pub mod Striding
-pub mod Apart
+pub mod OneHeadThroughout
+pub mod RaiseValues
+pub mod RaisesRoundsAndSweeps
+pub mod LeapsInTurn
+pub mod ReachOfStrides
+pub mod NoLinkBetweenJunctions

@@ -9,7 +9,7 @@ use Rattle.hyd_spec_certificates.specs.PeriodNetwork.{Grid}
 use Rattle.hyd_sweep.specs.declared.answers.Swept.{Swept}
 use Rattle.hyd_sweep.specs.declared.answers.Swept.TheVariants.{Least, NoCertificate, RoundsSpent}
 use Rattle.hyd_sweep.specs.Sweeps.{AreRaises, RoundGives, numbers}
-use Rattle.hyd_sweep.specs.Leaps.{LeadsOn}
+use Rattle.hyd_sweep.specs.Leaps.{LeapsLeadTo}
 use Rattle.hyd_sweep.specs.Strides.{GoesOnWithin}
 
 -- so many rounds in file order, each with leaps after it, lead from the first vector to the last
@@ -18,7 +18,7 @@ pub data AreLeapingRounds (held : Option HeldJunction) (grid : Grid) (problem : 
   no_round : {u : List ℤ} → AreLeapingRounds held grid problem side 0 u u
   one_round : {n : ℕ} {u v w x : List ℤ} → AreLeapingRounds held grid problem side n u v
       → AreRaises held grid problem side (numbers (length grid.junctions)) v w
-      → LeadsOn held grid problem side w x → GoesOnWithin side v w x
+      → LeapsLeadTo held grid problem side w x → GoesOnWithin side v w x
       → AreLeapingRounds held grid problem side (suc n) u x
 
 -- how a sweep with leaps goes: some of the rounds, or all of them; where a junction has no value, a part of one more

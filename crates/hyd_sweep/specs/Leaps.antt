@@ -39,7 +39,7 @@ pub record IsLeapInTurn (held : Option HeldJunction) (grid : Grid) (problem : Pr
   pub moves : (i : ℕ) → i < length u → MayMove held grid problem side u v i
 
 -- heads that leaps lead to
-pub record LeadsOn (held : Option HeldJunction) (grid : Grid) (problem : Problem) (side : Side)
+pub record LeapsLeadTo (held : Option HeldJunction) (grid : Grid) (problem : Problem) (side : Side)
     (u v : List ℤ) : Type 0 where
   pub one_each : length v ≡ length u
   pub in_box : All IsInBox u → All IsInBox v

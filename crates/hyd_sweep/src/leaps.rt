@@ -11,7 +11,7 @@ ghost use Rattle.hyd_sweep.specs.Sweeps.{HoldsInBox};
 ghost use Rattle.hyd_sweep.specs.Leaps.{nearer, IsTurn, MayMove, IsLeapInTurn};
 
 use crate::heads_along_side::{is_beyond, is_same, nearer};
-use crate::raising::held_head;
+use crate::single_raises::held_head;
 use hyd_period_network::Net;
 use hyd_spec_certificates::{HeldJunction, Problem, Side};
 use hyd_vector_check::{head_of, is_in_box, passes};

@@ -9,7 +9,7 @@ ghost use Rattle.hyd_period_network.specs.NetInvariant.{HasProblem};
 ghost use Rattle.hyd_sweep.specs.Sweeps.{FollowGives, FollowLeads, HoldsInBox};
 
 use crate::answers::Raised;
-use crate::raising::raise;
+use crate::single_raises::raise;
 use hyd_period_network::Net;
 use hyd_spec_certificates::{HeldJunction, Problem, Side};
 

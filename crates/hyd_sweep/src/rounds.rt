@@ -11,7 +11,7 @@ ghost use Rattle.hyd_sweep.specs.Sweeps.{SuitsAt, RoundGives, SweepGives, Rounds
 
 use crate::answers::{Raised, Swept};
 use crate::heads_along_side::is_same;
-use crate::raising::{held_head, raise};
+use crate::single_raises::{held_head, raise};
 use hyd_period_network::Net;
 use hyd_spec_certificates::{HeldJunction, Problem, Side};
 use hyd_vector_check::{head_of, passes};

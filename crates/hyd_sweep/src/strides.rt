@@ -9,7 +9,7 @@ ghost use Rattle.hyd_theorems_on_definitions.specs.Sides.{along};
 ghost use Rattle.hyd_period_network.specs.NetAsPeriodNetwork.{grid_of};
 ghost use Rattle.hyd_period_network.specs.NetInvariant.{HasProblem};
 ghost use Rattle.hyd_sweep.specs.Sweeps.{HoldsInBox};
-ghost use Rattle.hyd_sweep.specs.Leaps.{LeadsOn};
+ghost use Rattle.hyd_sweep.specs.Leaps.{LeapsLeadTo};
 ghost use Rattle.hyd_sweep.specs.Strides.{IsStride, reach, LiesWithin};
 
 use crate::leaps::leap;
@@ -159,7 +159,7 @@ pub(crate) fn leap_on(
     requires heads_each { length heads.old ≡ length u.old }
     requires pinned { HasProblem net.now problem }
     requires held_in_box { HoldsInBox held }
-    ensures leads { LeadsOn held (grid_of net.now) problem side u.old u.new }
+    ensures leads { LeapsLeadTo held (grid_of net.now) problem side u.old u.new }
     ensures near { LiesWithin side (2 ^ 20 - 1) ways.now u.old u.new }
     ensures to_each { length to.new ≡ length to.old }
     ensures heads_each { length heads.new ≡ length heads.old }

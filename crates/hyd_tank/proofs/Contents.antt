@@ -10,8 +10,8 @@ use Rattle.hyd_num.specs.Rational.{Rational, floor, ceiling}
 use Rattle.hyd_spec.specs.Tank.{Bounds, is_at_maximum, is_at_minimum}
 use Rattle.hyd_spec_certificates.specs.Stocks.{end_of}
 use Rattle.hyd_lemmas.proofs.Integers.{floor_low, floor_greatest, ceiling_high, ceiling_least}
-use Rattle.hyd_theorems_on_definitions.proofs.Leading.{one-within}
-use Rattle.hyd_theorems_on_definitions.proofs.Placing.{above-yes, above-no, below-yes, below-no}
+use Rattle.hyd_theorems_on_definitions.proofs.ValuesAtTwoScales.{one-within}
+use Rattle.hyd_theorems_on_definitions.proofs.ValuesByContent.{above-yes, above-no, below-yes, below-no}
 use Rattle.hyd_theorems_on_definitions.proofs.Vessels.{some-area}
 use Rattle.hyd_net.specs.NumberRanges.{Lies}
 use Rattle.hyd_tank.specs.Contents.{bounds_of, in_ticks, held_in, IsBetween}

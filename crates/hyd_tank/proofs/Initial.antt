@@ -11,8 +11,8 @@ use Rattle.hyd_spec_certificates.specs.Interval.{exactly}
 use Rattle.hyd_num.proofs.Integers.{one_times}
 use Rattle.hyd_lemmas.proofs.Integers.{floor_low, floor_greatest}
 use Rattle.hyd_theorems_on_definitions.specs.TermsOfTheorems.{IsVessel, IsWithin, HoldWater}
-use Rattle.hyd_theorems_on_definitions.proofs.Leading.{above-too}
-use Rattle.hyd_theorems_on_definitions.proofs.Levelling.{pairs-tail}
+use Rattle.hyd_theorems_on_definitions.proofs.ValuesAtTwoScales.{above-too}
+use Rattle.hyd_theorems_on_definitions.proofs.StocksInIntervals.{pairs-tail}
 use Rattle.hyd_theorems_on_definitions.proofs.RisingLines.{AreClimbing, from-rises, some-den}
 use Rattle.hyd_tank.specs.StockIntervals.{initial_stocks, AreHeld}
 

@@ -2,7 +2,7 @@
 use Rattle.std.specs.Prelude.{ℕ, ◌*◌, ◌^◌, ◌≤◌, ◌⊎◌, ◌≡◌, ℤ, pos, ◌+ℤ◌, ◌*ℤ◌, ◌<ℤ◌, ◌≤ℤ◌, unsigned_abs}
 use Rattle.std.specs.Int.{int_max, int_min}
 use Rattle.hyd_num.specs.Rational.{Rational}
-use Rattle.hyd_net.specs.NumberRanges.{Lies}
+use Rattle.hyd_net.specs.NumberRanges.{Lies, volume_limit}
 use Rattle.hyd_spec.specs.Tank.{Bounds}
 use Rattle.hyd_spec.specs.PeriodLength.{IsLeast}
 use Rattle.hyd_tank.specs.declared.content.Bounds.{Bounds as Limits}
@@ -12,11 +12,11 @@ use Rattle.hyd_tank.specs.declared.content.Motion.{Motion}
 abbrev pub bounds_of : Limits → Bounds
 bounds_of limits = record { least = limits.least; most = limits.most }
 
--- bounds of levels or volumes from 0 to 10^18 ticks
+-- bounds of levels or volumes, in ticks, from 0 to the limit of volumes (levels keep to a lesser one)
 pub record AreBounds (bounds : Limits) : Type 0 where
   pub from : pos 0 ≤ℤ bounds.least
   pub apart : bounds.least <ℤ bounds.most
-  pub up_to : bounds.most ≤ℤ pos (10 ^ 18)
+  pub up_to : bounds.most ≤ℤ pos volume_limit
 
 -- a motion whose products fit
 pub record IsMotion (motion : Motion) : Type 0 where

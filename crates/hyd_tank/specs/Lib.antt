@@ -1,4 +1,4 @@
 pub mod StockIntervals
 pub mod Contents
-pub mod Curve
+pub mod CurveByLevelOrVolume
 pub mod Targets

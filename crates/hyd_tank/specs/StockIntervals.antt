@@ -2,7 +2,7 @@
 use Rattle.std.specs.Prelude.{◌≡◌, ◌*◌, ◌^◌, ◌≤◌, ℤ, pos, ◌<ℤ◌, ◌≤ℤ◌, unsigned_abs, None, List, ◌<◌, length}
 use Rattle.std.specs.Prelude.{MatchOption}
 use Rattle.hyd_num.specs.declared.decimals.Span.{Span}
-use Rattle.hyd_net.specs.NumberRanges.{Lies}
+use Rattle.hyd_net.specs.NumberRanges.{Lies, head_limit}
 use Rattle.hyd_net.specs.NetworkRanges.{IsShapeOf}
 use Rattle.hyd_spec.specs.ProgramTypes.{Project, Tank, VolumePoint}
 use Rattle.hyd_spec.specs.Tank.{Stock as OneStock, Walls, Cylinder, Bounds, level_bounds, kept_volume, shape_points}
@@ -54,7 +54,7 @@ pub record IsInflow (inflow : Span) : Type 0 where
 pub record IsTankOfRange (tank : Tank) : Type 0 where
   pub lowest : pos 0 ≤ℤ tank.minimum
   pub apart : tank.minimum <ℤ tank.maximum
-  pub highest : tank.maximum ≤ℤ pos (2 * 10 ^ 17)
+  pub highest : tank.maximum ≤ℤ pos (2 * head_limit)
 
 -- a tank of a sound network that has no volume curve: its area is 10^-9 to 10^6 square metres
 pub record IsCylinder (tank : Tank) : Type 0 where

@@ -2,7 +2,7 @@
 #![tactic(auto)]
 
 ghost use Rattle.std.specs.Prelude.{◌≡◌, ◌*◌, ◌^◌, ◌<◌, ◌≤◌, ◌≤ℤ◌, pos, unsigned_abs, ℕ, ℤ, Bool};
-ghost use Rattle.hyd_net.specs.NumberRanges.{Lies};
+ghost use Rattle.hyd_net.specs.NumberRanges.{Lies, head_limit};
 ghost use Rattle.hyd_spec.specs.Scale.{missed_stock_ticks};
 ghost use Rattle.hyd_spec.specs.Tank.{level_bounds, has_reached, carried_level, IsNextStock};
 ghost use Rattle.hyd_spec_certificates.specs.Spans.{levels_of, flows_of};
@@ -91,7 +91,7 @@ fn levels_after(
 
 /// The levels with which the next period begins after so many seconds of an inflow (flow ticks): each end rounded and
 /// moved outward by ten ticks, but not beyond the tank's minimum and maximum; an end that is at or beyond one of these
-/// before it is moved is that one. The tank is one without a volume curve, of a sound project. (EPANET 2.2 User Manual,
+/// before it is moved is that one. The tank is one without a volume curve, of a sound network. (EPANET 2.2 User Manual,
 /// chapter 3, tanks.)
 pub fn next_level(tank: &Tank, level: LevelSpan, inflow: Span, seconds: u32) -> LevelSpan
     requires tank { IsCylinder tank.now }
@@ -143,7 +143,7 @@ fn first_from(tank: &Tank, level: i64, inflow: i128, target: i64, rising: bool, 
     requires tank { IsCylinder tank.now }
     requires level { Lies tank.now.minimum tank.now.maximum level }
     requires inflow { unsigned_abs inflow ≤ 10 ^ 27 }
-    requires target { unsigned_abs target ≤ 2 * 10 ^ 17 }
+    requires target { unsigned_abs target ≤ 2 * head_limit }
     ensures { IsFirstSecond (has_reached 1 (cylinder tank.now) tank.now (level_stock level) inflow rising target) cap
         result }
 {
@@ -175,7 +175,7 @@ fn first_seconds(
     requires tank { IsCylinder tank.now }
     requires level { IsWithin (level_bounds tank.now) (levels_of level) }
     requires inflow { IsInflow inflow }
-    requires target { unsigned_abs target ≤ 2 * 10 ^ 17 }
+    requires target { unsigned_abs target ≤ 2 * head_limit }
     ensures earliest { IsEarliestSecond (cylinder tank.now) tank.now (stocks_at level) (flows_of inflow) target
         rising cap result.0 }
     ensures latest { IsLatestSecond (cylinder tank.now) tank.now (stocks_at level) (flows_of inflow) target rising
@@ -188,7 +188,7 @@ fn first_seconds(
 
 /// The earliest and the latest first second, from 1 on, at which a level of the interval has reached a target (head
 /// ticks): risen to it or fallen to it. Each is the cap where it is reached at no second up to the cap. The tank is one
-/// without a volume curve, of a sound project.
+/// without a volume curve, of a sound network.
 pub fn first_second(
     tank: &Tank,
     level: LevelSpan,
@@ -200,7 +200,7 @@ pub fn first_second(
     requires tank { IsCylinder tank.now }
     requires level { IsWithin (level_bounds tank.now) (levels_of level) }
     requires inflow { IsInflow inflow }
-    requires target { unsigned_abs target ≤ 2 * 10 ^ 17 }
+    requires target { unsigned_abs target ≤ 2 * head_limit }
     ensures earliest { IsEarliestSecond (cylinder tank.now) tank.now (stocks_at level) (flows_of inflow) target
         rising cap result.0 }
     ensures latest { IsLatestSecond (cylinder tank.now) tank.now (stocks_at level) (flows_of inflow) target rising

@@ -1,4 +1,5 @@
-//! What becomes of a tank's stock of water under a constant inflow, and when its level reaches a target.
+//! What becomes of a tank's stock of water under a constant inflow, when its level reaches a target, how full it is,
+//! and the stock with which a run begins.
 #![tactic(auto)]
 
 mod content;

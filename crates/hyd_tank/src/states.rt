@@ -11,11 +11,8 @@ ghost use Rattle.hyd_theorems_on_definitions.specs.TermsOfTheorems.{LiesIn, IsIn
 ghost use Rattle.hyd_tank.specs.StockIntervals.{IsTankOfRange};
 
 use hyd_net::Tank;
-use hyd_spec::TankState;
+use hyd_spec::{STATE_BAND, TankState};
 use hyd_spec_certificates::LevelSpan;
-
-/// How far below its maximum a tank counts as full, and above its minimum as empty, in head ticks: 0.0005 foot.
-const STATE_BAND: i64 = 1_524_000_000;
 
 fn state_at(tank: &Tank, level: i64) -> TankState
     requires { IsTankOfRange tank.now }

@@ -3,8 +3,8 @@
 #![tactic(auto)]
 
 ghost use Rattle.std.specs.Prelude.{◌≡◌, ◌*◌, ◌^◌, ◌<◌, ◌≤◌, unsigned_abs, ℕ, ℤ, length, slice_get, Some};
-ghost use Rattle.hyd_net.specs.NumberRanges.{Lies};
-ghost use Rattle.hyd_net.specs.Sound.{Sound};
+ghost use Rattle.hyd_net.specs.NumberRanges.{Lies, head_limit};
+ghost use Rattle.hyd_net.specs.Sound.{IsSound};
 ghost use Rattle.hyd_spec.specs.ProgramTypes.{Tank};
 ghost use Rattle.hyd_spec.specs.Tank.{Stock as OneStock, shape_points, walls_of, has_reached, carried_level};
 ghost use Rattle.hyd_spec.specs.Tank.{IsNextStock};
@@ -27,7 +27,7 @@ use hyd_spec_certificates::LevelSpan;
 /// The volume that is kept of a tank without a volume curve.
 const NO_VOLUME: VolumeSpan = VolumeSpan { lo: 0, hi: 0 };
 
-/// A tank of a project, counted from 0.
+/// A tank of a network, counted from 0.
 pub fn tank_at(project: &Project, tank: u32) -> Tank
     requires { tank < length project.now.tanks.list }
     ensures { slice_get project.now.tanks.list tank ≡ Some result }
@@ -112,7 +112,7 @@ fn first_of(
     requires tank { IsTankOf project.now tank.now }
     requires held { AreHeld (walls_of project.now tank.now) tank.now (stocks_of stock) }
     requires inflow { IsInflow inflow }
-    requires target { unsigned_abs target ≤ 2 * 10 ^ 17 }
+    requires target { unsigned_abs target ≤ 2 * head_limit }
     ensures earliest { IsEarliestSecond (walls_of project.now tank.now) tank.now (stocks_of stock) (flows_of inflow)
         target rising cap result.0 }
     ensures latest { IsLatestSecond (walls_of project.now tank.now) tank.now (stocks_of stock) (flows_of inflow)
@@ -133,9 +133,9 @@ fn first_of(
 }
 
 /// The stock with which a run begins: exactly the tank's initial level and, with a volume curve, exactly the volume at
-/// it, cut to whole volume ticks. The project is sound.
+/// it, cut to whole volume ticks. The network is sound.
 pub fn initial_stock(project: &Project, tank: u32) -> Stock
-    requires sound { Sound project.now }
+    requires sound { IsSound project.now }
     requires tank { tank < length project.now.tanks.list }
     ensures value { (each : Tank) → slice_get project.now.tanks.list tank ≡ Some each
         → stocks_of result ≡ initial_stocks (walls_of project.now each) each }
@@ -149,10 +149,10 @@ pub fn initial_stock(project: &Project, tank: u32) -> Stock
 /// of a tank without a volume curve, and of the volume of one with a curve, is rounded and moved outward by ten ticks,
 /// but not beyond its bounds; an end that is at or beyond a bound before it is moved is the bound. With a curve the
 /// levels go with the volumes: where the volume's end is a bound the level's is the minimum or the maximum, any other
-/// end is the level at that volume, rounded and moved outward by ten ticks within minimum and maximum. The project is
+/// end is the level at that volume, rounded and moved outward by ten ticks within minimum and maximum. The network is
 /// sound.
 pub fn next_stock(project: &Project, tank: u32, stock: Stock, inflow: Span, seconds: u32) -> Stock
-    requires sound { Sound project.now }
+    requires sound { IsSound project.now }
     requires tank { tank < length project.now.tanks.list }
     requires held { (each : Tank) → slice_get project.now.tanks.list tank ≡ Some each
         → AreHeld (walls_of project.now each) each (stocks_of stock) }
@@ -180,9 +180,9 @@ pub fn next_stock(project: &Project, tank: u32, stock: Stock, inflow: Span, seco
 }
 
 /// The stock carried to so many seconds after the start, not moved outward: the levels' ends are the carried levels of
-/// the two ends, rounded outward. The project is sound.
+/// the two ends, rounded outward. The network is sound.
 pub fn stock_at(project: &Project, tank: u32, stock: Stock, inflow: Span, seconds: u32) -> Stock
-    requires sound { Sound project.now }
+    requires sound { IsSound project.now }
     requires tank { tank < length project.now.tanks.list }
     requires held { (each : Tank) → slice_get project.now.tanks.list tank ≡ Some each
         → AreHeld (walls_of project.now each) each (stocks_of stock) }
@@ -211,7 +211,7 @@ pub fn stock_at(project: &Project, tank: u32, stock: Stock, inflow: Span, second
 /// The earliest and the latest first second, from 1 on, at which a stock has reached a target level (head ticks above
 /// the tank's bottom): risen to it or fallen to it. Each is the cap where it is reached at no second up to the cap. A
 /// tank with a volume curve has reached a bound of its levels where its exact volume has reached that of the bound. The
-/// project is sound.
+/// network is sound.
 pub fn first_stock(
     project: &Project,
     tank: u32,
@@ -221,12 +221,12 @@ pub fn first_stock(
     rising: bool,
     cap: u32,
 ) -> (u32, u32)
-    requires sound { Sound project.now }
+    requires sound { IsSound project.now }
     requires tank { tank < length project.now.tanks.list }
     requires held { (each : Tank) → slice_get project.now.tanks.list tank ≡ Some each
         → AreHeld (walls_of project.now each) each (stocks_of stock) }
     requires inflow { IsInflow inflow }
-    requires target { unsigned_abs target ≤ 2 * 10 ^ 17 }
+    requires target { unsigned_abs target ≤ 2 * head_limit }
     ensures earliest { (each : Tank) → slice_get project.now.tanks.list tank ≡ Some each
         → IsEarliestSecond (walls_of project.now each) each (stocks_of stock) (flows_of inflow) target rising cap
         result.0 }

@@ -5,8 +5,9 @@ ghost use Rattle.std.specs.Prelude.{◌≡◌, ℕ, ◌*◌, ◌-◌, ◌^◌, �
 ghost use Rattle.std.specs.List.{HoldsAt};
 ghost use Rattle.hyd_num.specs.Rational.{floor, ceiling};
 ghost use Rattle.hyd_net.specs.Curves.{IsVolumeCurve};
-ghost use Rattle.hyd_tank.specs.Curve.{place_of, knot_by, knots_by, value_of, times_value, value_in, line_in, IsMixed};
-ghost use Rattle.hyd_tank.specs.Curve.{IsAtLeast, IsAtMost, AreNeighbours, IsFrom, IsUpTo, IsOnCurve};
+ghost use Rattle.hyd_tank.specs.CurveByLevelOrVolume.{place_of, knot_by, knots_by, value_of, times_value, value_in};
+ghost use Rattle.hyd_tank.specs.CurveByLevelOrVolume.{line_in, IsMixed};
+ghost use Rattle.hyd_tank.specs.CurveByLevelOrVolume.{IsAtLeast, IsAtMost, AreNeighbours, IsFrom, IsUpTo, IsOnCurve};
 
 use crate::content::in_parts;
 use hyd_net::VolumePoint;

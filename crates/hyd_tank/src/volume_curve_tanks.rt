@@ -5,7 +5,7 @@ ghost use Rattle.std.specs.Prelude.{◌≡◌, ◌*◌, ◌^◌, ◌<◌, ◌≤
 ghost use Rattle.std.specs.Prelude.{false};
 ghost use Rattle.std.specs.List.{HoldsAt};
 ghost use Rattle.hyd_spec.specs.ProgramTypes.{VolumePoint};
-ghost use Rattle.hyd_net.specs.NumberRanges.{Lies};
+ghost use Rattle.hyd_net.specs.NumberRanges.{Lies, volume_limit};
 ghost use Rattle.hyd_net.specs.Curves.{volume_knots, value_at, IsVolumeCurve};
 ghost use Rattle.hyd_net.specs.NetworkRanges.{IsShapeOf};
 ghost use Rattle.hyd_spec.specs.Scale.{missed_stock_ticks};
@@ -17,7 +17,7 @@ ghost use Rattle.hyd_spec_certificates.specs.Stocks.{next_stocks, carried_stocks
 ghost use Rattle.hyd_spec_certificates.specs.FirstSeconds.{IsFirstSecond, IsEarliestSecond, IsLatestSecond};
 ghost use Rattle.hyd_theorems_on_definitions.specs.TermsOfTheorems.{IsWithin};
 ghost use Rattle.hyd_tank.specs.Contents.{bounds_of, AreBounds, in_ticks, held_in, moved};
-ghost use Rattle.hyd_tank.specs.Curve.{value_of, IsMixed, IsAtLeast, IsAtMost};
+ghost use Rattle.hyd_tank.specs.CurveByLevelOrVolume.{value_of, IsMixed, IsAtLeast, IsAtMost};
 ghost use Rattle.hyd_tank.specs.StockIntervals.{volumes_of, stocks_of, IsInflow, IsBasin};
 ghost use Rattle.hyd_tank.specs.Targets.{AreVolumes, IsSmall, IsFirstMet, StandsFor};
 
@@ -230,7 +230,7 @@ fn fallen_target(tank: &Tank, points: &[VolumePoint], volumes: Bounds, level: i6
 
 // The first second at which one volume under one inflow has met a target.
 fn first_of(volume: i64, inflow: i128, target: Target, rising: bool, cap: u32) -> u32
-    requires volume { Lies (pos 0) (pos (10 ^ 18)) volume }
+    requires volume { Lies (pos 0) (pos volume_limit) volume }
     requires inflow { unsigned_abs inflow ≤ 10 ^ 27 }
     requires target { IsSmall target }
     ensures { IsFirstMet volume inflow target rising cap result }

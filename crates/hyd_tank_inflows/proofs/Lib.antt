@@ -1,2 +1,2 @@
-pub mod Numbered
-pub mod Placing
+pub mod ItemForEachNumber
+pub mod InflowsByNumber

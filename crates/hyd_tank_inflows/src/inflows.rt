@@ -2,7 +2,7 @@
 #![tactic(auto)]
 
 ghost use Rattle.std.specs.Prelude.{◌≡◌, ◌<◌, ◌≤◌, ◌+◌, ◌++◌, ◌∷◌, [], length, map, All};
-ghost use Rattle.hyd_net.specs.Sound.{Sound};
+ghost use Rattle.hyd_net.specs.Sound.{IsSound};
 ghost use Rattle.hyd_spec.specs.Lists.{map_from};
 ghost use Rattle.hyd_spec.specs.NodeNumbers.{tank_count};
 ghost use Rattle.hyd_spec_certificates.specs.Spans.{flows_of};
@@ -13,8 +13,9 @@ ghost use Rattle.hyd_spec_certificates.specs.RecordAndStanding.{vector_of};
 ghost use Rattle.hyd_spec_certificates.specs.Decided.{inflow_of_tank};
 ghost use Rattle.hyd_cert.specs.RecordView.{row_of};
 ghost use Rattle.hyd_period_network.specs.NetAsPeriodNetwork.{grid_of};
-ghost use Rattle.hyd_period_network.specs.Periods.{IsNetOf};
-ghost use Rattle.hyd_bounds.specs.VectorsInOrder.{IsSpan, TanksInOrder, tank_node_of};
+ghost use Rattle.hyd_period_network.specs.NetsSetToPeriods.{IsNetOf};
+ghost use Rattle.hyd_theorems_on_definitions.specs.TermsOfTheorems.{TanksInOrder};
+ghost use Rattle.hyd_bounds.specs.VectorsInOrder.{IsSpan, tank_node_of};
 ghost use Rattle.hyd_tank.specs.StockIntervals.{IsInflow};
 ghost use Rattle.hyd_tank_inflows.specs.Inflows.{ArePinned};
 
@@ -57,7 +58,7 @@ fn append(inflows: &mut List<Span>, inflow: Span)
 /// Puts what flows into each tank of a period, in flow ticks: the inflow interval by the vectors of the record that pin
 /// the tank. What the list held before goes. It has room for an item for each tank, so no memory is taken.
 pub fn put_inflows(project: &Project, net: &Net, row: &Record, inflows: &mut List<Span>)
-    requires sound { Sound project.now }
+    requires sound { IsSound project.now }
     requires of { IsNetOf project.now net.now }
     requires pinned { ArePinned (grid_of net.now) row.now }
     requires levels { TanksInOrder (grid_of net.now) }

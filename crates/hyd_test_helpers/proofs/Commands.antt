@@ -3,19 +3,19 @@ use Rattle.std.proofs.Common.{◌≡◌, ℕ, ◌<◌, List, length, map, inl, i
 use Rattle.std.proofs.Common.{arith}
 use Rattle.std.proofs.lemmas.List.{get_or-map, get_or-set_same, get_or-set_other, length-map, length-set}
 use Rattle.std.proofs.lemmas.List.Elements.{All-map, All-set}
-use Rattle.hyd_net.specs.Sound.{Sound}
+use Rattle.hyd_net.specs.Sound.{IsSound}
 use Rattle.hyd_net.specs.States.{CanHave}
 use Rattle.hyd_net.specs.RoundedFileNumbers.{IsStateMade}
 use Rattle.hyd_spec.specs.ProgramTypes.{Project, Link, LinkKind, PipeLink, CheckPipe, PumpLink, CurvePump, Tcv, Fcv}
 use Rattle.hyd_spec.specs.ProgramTypes.{Gpv, LinkState, Closed}
 use Rattle.hyd_period_network.specs.LawsInSettings.{AreStates}
 use Rattle.hyd_lemmas.proofs.ListsOptionsAndResults.{any_default}
-use Rattle.hyd_period_network.proofs.SettingOne.{same_or}
+use Rattle.hyd_period_network.proofs.OneLinkSet.{same_or}
 
 abbrev pub start_of : Link → LinkState
 start_of link = link.start
 
-pub starts_stand : (project : Project) (states : List LinkState) → Sound project
+pub starts_stand : (project : Project) (states : List LinkState) → IsSound project
     → states ≡ map start_of project.links.list → AreStates project states
 starts_stand project states sound e =
     let n = length-map project.links.list start_of in

@@ -2,12 +2,12 @@
 #![tactic(auto)]
 
 ghost use Rattle.std.specs.Prelude.{IfOk, IfSome, IsTrue, OnOk};
-ghost use Rattle.hyd_net.specs.Sound.{Sound};
+ghost use Rattle.hyd_net.specs.Sound.{IsSound};
 ghost use Rattle.hyd_period_network.specs.NetAsPeriodNetwork.{grid_of};
 ghost use Rattle.hyd_period_network.specs.NetInvariant.{HasProblem};
-ghost use Rattle.hyd_period_network.specs.Periods.{AreLevels, IsNetOf, IsSpanOf};
+ghost use Rattle.hyd_period_network.specs.NetsSetToPeriods.{AreLevels, IsNetOf, IsSpanOf};
 ghost use Rattle.hyd_period_network.specs.LawsInSettings.{AreStates};
-ghost use Rattle.hyd_bounds.specs.VectorsInOrder.{TanksInOrder};
+ghost use Rattle.hyd_theorems_on_definitions.specs.TermsOfTheorems.{TanksInOrder};
 
 use crate::states::starts;
 use hyd_net::{LinkState, OutOfMemory, Project, Tank};
@@ -56,7 +56,7 @@ pub fn set(
     levels: &[LevelSpan],
     tanks: &[TankState],
 ) -> Option<Result<(), PeriodDemand>>
-    requires sound { Sound project.now }
+    requires sound { IsSound project.now }
     requires of { IsNetOf project.now net.old }
     requires states { AreStates project.now states.now }
     ensures stays { IsNetOf project.now net.new }
@@ -89,7 +89,7 @@ pub fn put_at(
     time: u32,
     levels: &[(i64, i64)],
 ) -> Result<bool, OutOfMemory>
-    requires sound { Sound project.now }
+    requires sound { IsSound project.now }
     requires of { IsNetOf project.now net.old }
     ensures { IfOk result (λ put. IsTrue put → TanksInOrder (grid_of net.new)) }
 {

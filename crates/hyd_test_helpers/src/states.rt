@@ -4,7 +4,7 @@
 ghost use Rattle.std.specs.Prelude.{IfOk, IfSome};
 ghost use Rattle.hyd_num.specs.declared.flow_units.FlowUnit.{FlowUnit};
 ghost use Rattle.hyd_net.specs.RoundedFileNumbers.{IsStateMade};
-ghost use Rattle.hyd_net.specs.Sound.{Sound};
+ghost use Rattle.hyd_net.specs.Sound.{IsSound};
 ghost use Rattle.hyd_net.specs.States.{CanHave};
 ghost use Rattle.hyd_period_network.specs.LawsInSettings.{AreStates};
 
@@ -13,7 +13,7 @@ use std::alloc::Global;
 
 /// The states of the links at first.
 pub fn starts(alloc: Global, project: &Project) -> Result<Vec<LinkState>, OutOfMemory>
-    requires { Sound project.now }
+    requires { IsSound project.now }
     ensures { IfOk result (λ states. AreStates project.now states.items) }
 {
     let links = project.links.as_slice();

@@ -6,7 +6,8 @@ ghost use Rattle.hyd_spec_certificates.specs.declared.Side.TheVariants.{Upper, L
 ghost use Rattle.hyd_spec_certificates.specs.Certificate.{IsCertificate};
 ghost use Rattle.hyd_period_network.specs.NetAsPeriodNetwork.{grid_of};
 ghost use Rattle.hyd_period_network.specs.NetInvariant.{HasProblem};
-ghost use Rattle.hyd_bounds.specs.VectorsInOrder.{IsVector, TanksInOrder};
+ghost use Rattle.hyd_theorems_on_definitions.specs.TermsOfTheorems.{TanksInOrder};
+ghost use Rattle.hyd_bounds.specs.VectorsInOrder.{IsVector};
 
 use crate::networks::{Flow, Network, Row};
 use hyd_bounds::{flow_box, out_box, pinned_in_order, status_of, tank_inflow};

@@ -1,9 +1,9 @@
 //! What small networks say: each is read, its net put into its period, and asked.
 #![tactic(auto)]
 
-ghost use Rattle.hyd_net.specs.Sound.{Sound};
+ghost use Rattle.hyd_net.specs.Sound.{IsSound};
 ghost use Rattle.hyd_period_network.specs.NetAsPeriodNetwork.{grid_of};
-ghost use Rattle.hyd_bounds.specs.VectorsInOrder.{TanksInOrder};
+ghost use Rattle.hyd_theorems_on_definitions.specs.TermsOfTheorems.{TanksInOrder};
 
 use crate::boxes::are_bounds;
 use crate::networks::{Network, generated, networks, two_junctions, without_source};
@@ -52,7 +52,7 @@ fn is_so_of(
     network: &Network,
     asked: Asked,
 ) -> Result<bool, OutOfMemory>
-    requires { Sound project.now }
+    requires { IsSound project.now }
 {
     let mut net = Net::open(alloc, project)?;
     if !put_at(alloc, &mut net, project, network.time, network.levels)? {

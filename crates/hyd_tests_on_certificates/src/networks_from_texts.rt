@@ -2,7 +2,7 @@
 #![tactic(auto)]
 
 ghost use Rattle.std.specs.Prelude.{IfOk};
-ghost use Rattle.hyd_net.specs.Sound.{Sound};
+ghost use Rattle.hyd_net.specs.Sound.{IsSound};
 
 use hyd_inp::read_project;
 use hyd_net::Project;
@@ -11,7 +11,7 @@ use std::test::Fail;
 
 /// The network of a text.
 pub(crate) fn read(alloc: Global, text: &str) -> Result<Project, Fail>
-    ensures { IfOk result (λ project. Sound project) }
+    ensures { IfOk result (λ project. IsSound project) }
 {
     Ok(read_project(alloc, text.as_bytes())?)
 }

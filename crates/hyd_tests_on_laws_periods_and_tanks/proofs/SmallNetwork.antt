@@ -10,7 +10,7 @@ use Rattle.std.proofs.lemmas.List.Kept.{AllPairs-cons}
 use Rattle.hyd_num.specs.CapacityPairs.{IsMade}
 use Rattle.hyd_net.specs.ListView.{ListView}
 use Rattle.hyd_net.specs.Ids.{AreDistinct, IsId}
-use Rattle.hyd_net.specs.Sound.{HasIds, HasEnds, IsPattern, IsWithinLimits, AreTimes, Sound, demand_rows, part_count}
+use Rattle.hyd_net.specs.Sound.{HasIds, HasEnds, IsPattern, IsWithinLimits, AreTimes, IsSound, demand_rows, part_count}
 use Rattle.hyd_net.specs.NetworkRanges.{IsJunction, IsDemand, IsReservoir, IsTank, HasSizes, HasQuantities}
 use Rattle.hyd_net.specs.States.{CanHave}
 use Rattle.hyd_net.specs.ControlsAndRules.{node_count, IsControl, IsRule}
@@ -189,7 +189,7 @@ made p j halves jumps is = record {
   diameters = λ number below. absurd (let n = ap length is.links in omega (arith, n, below));
 }
 
-pub sound_of : (p : Project) (j : Junction) (halves jumps : Pattern) → Parts p j halves jumps → Sound p
+pub sound_of : (p : Project) (j : Junction) (halves jumps : Pattern) → Parts p j halves jumps → IsSound p
 sound_of p j halves jumps is = record {
   ids = ids p j halves jumps is;
   counts = counts p j halves jumps is;

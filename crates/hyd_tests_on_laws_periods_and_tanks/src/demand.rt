@@ -3,9 +3,9 @@
 
 ghost use Rattle.std.specs.Prelude.{◌≡◌, [], ◌∷◌, pos, false, Some, length, IfOk, codes};
 ghost use Rattle.hyd_num.specs.declared.flow_units.FlowUnit.TheVariants.{Cmd};
-ghost use Rattle.hyd_net.specs.Sound.{Sound};
+ghost use Rattle.hyd_net.specs.Sound.{IsSound};
 
-use hyd_demand::{DemandRange, demand_at, head_at};
+use hyd_demands_and_reservoir_heads::{DemandRange, demand_at, head_at};
 use hyd_net::{
     Demand, Junction, List, Names, Options, OutOfMemory, Pattern, Project, Reservoir, Times,
 };
@@ -72,7 +72,7 @@ fn options() -> Options
 
 /// A junction of two categories, one of them by the default pattern, and a reservoir.
 pub(crate) fn network(alloc: Global) -> Result<Project, OutOfMemory>
-    ensures sound { IfOk result (λ project. Sound project) }
+    ensures sound { IfOk result (λ project. IsSound project) }
     ensures junctions { IfOk result (λ project. length project.junctions.list ≡ 1) }
     ensures reservoirs { IfOk result (λ project. length project.reservoirs.list ≡ 1) }
     ensures tanks { IfOk result (λ project. length project.tanks.list ≡ 0) }
@@ -138,7 +138,7 @@ const ROWS: [Row; 6] = [
 
 /// The first time at which demand or head is another.
 fn first_other(project: &Project) -> Option<u32>
-    requires sound { Sound project.now }
+    requires sound { IsSound project.now }
     requires junctions { length project.now.junctions.list ≡ 1 }
     requires reservoirs { length project.now.reservoirs.list ≡ 1 }
 {

@@ -2,7 +2,7 @@
 #![tactic(auto)]
 
 ghost use Rattle.std.specs.Prelude.{◌≡◌, ◌≤◌, ◌*◌, ◌^◌, ℤ, ◌≤ℤ◌, unsigned_abs, IfOk};
-ghost use Rattle.hyd_law.specs.Curves.{IsCurve};
+ghost use Rattle.hyd_law.specs.KnotsOfStraightLines.{IsCurve};
 ghost use Rattle.hyd_law.specs.LinkLaws.{IsSoundLink, LinkAccepts};
 ghost use Rattle.hyd_law.specs.DemandLaws.{IsSoundOut, OutAccepts};
 ghost use Rattle.hyd_theorems_on_definitions.specs.TermsOfTheorems.{IsSoundCapacity};

@@ -1,4 +1,4 @@
-//! Lists, tables of IDs and the comparison of projects, on small examples.
+//! Lists, tables of IDs and the comparison of networks, on small examples.
 #![tactic(auto)]
 
 use hyd_cert::version_of;

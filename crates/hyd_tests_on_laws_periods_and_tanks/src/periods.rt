@@ -2,8 +2,8 @@
 #![tactic(auto)]
 
 ghost use Rattle.std.specs.Prelude.{◌≡◌, ◌≤◌, ◌^◌, length};
-ghost use Rattle.hyd_net.specs.Sound.{Sound};
-ghost use Rattle.hyd_period_network.specs.Periods.{IsNetOf};
+ghost use Rattle.hyd_net.specs.Sound.{IsSound};
+ghost use Rattle.hyd_period_network.specs.NetsSetToPeriods.{IsNetOf};
 
 use crate::demand::network;
 use hyd_controls_and_rules::Changes;
@@ -17,7 +17,7 @@ use std::test::Fail;
 
 // Sets a network without links and tanks to a period.
 fn set(net: &mut Net, project: &Project, time: u32) -> Result<(), PeriodDemand>
-    requires sound { Sound project.now }
+    requires sound { IsSound project.now }
     requires of { IsNetOf project.now net.old }
     requires time { time ≤ 10 ^ 8 }
     requires links { length project.now.links.list ≡ 0 }
@@ -50,7 +50,7 @@ struct Said {
 
 /// What a net of the network says.
 fn said_by(project: &Project, net: &mut Net) -> Said
-    requires sound { Sound project.now }
+    requires sound { IsSound project.now }
     requires of { IsNetOf project.now net.old }
     requires links { length project.now.links.list ≡ 0 }
     requires tanks { length project.now.tanks.list ≡ 0 }
@@ -72,7 +72,7 @@ fn said_by(project: &Project, net: &mut Net) -> Said
 
 /// What checks of the head 0 answer in the first period, above and below, where the net has one junction.
 fn checked(project: &Project, net: &mut Net) -> Option<(Result<(), Fails>, Result<(), Fails>)>
-    requires sound { Sound project.now }
+    requires sound { IsSound project.now }
     requires of { IsNetOf project.now net.old }
     requires links { length project.now.links.list ≡ 0 }
     requires tanks { length project.now.tanks.list ≡ 0 }
@@ -90,7 +90,7 @@ fn of_net(
     alloc: Global,
     project: &Project,
 ) -> Result<(Said, Option<(Result<(), Fails>, Result<(), Fails>)>), OutOfMemory>
-    requires sound { Sound project.now }
+    requires sound { IsSound project.now }
     requires links { length project.now.links.list ≡ 0 }
     requires tanks { length project.now.tanks.list ≡ 0 }
 {
@@ -109,7 +109,7 @@ fn answers(
 
 /// How many links changed, by a list of changes that was just opened.
 fn changes_of(alloc: Global, project: &Project) -> Result<usize, OutOfMemory>
-    requires { Sound project.now }
+    requires { IsSound project.now }
 {
     let changes = Changes::open(alloc, project)?;
     Ok(changes.rows().len())

@@ -2,7 +2,7 @@
 //! prove.
 
 ghost use Rattle.std.specs.Prelude.{◌≡◌, None};
-ghost use Rattle.hyd_net.specs.Sound.{Sound};
+ghost use Rattle.hyd_net.specs.Sound.{IsSound};
 ghost use Rattle.hyd_spec_certificates.specs.RecordAndStanding.{initial_standing};
 ghost use Rattle.hyd_sim.specs.View.{standing_of};
 
@@ -21,7 +21,7 @@ pub(crate) trait Trial {
 
 /// Whether a trial passes with a run of a network.
 fn passes_in<T: Trial>(alloc: Global, project: Project, settings: Settings, trial: &mut T) -> bool
-    requires { Sound project }
+    requires { IsSound project }
 {
     match Sim::open(alloc, project, settings) {
         Ok(mut sim) => {

@@ -4,9 +4,9 @@
 ghost use Rattle.std.specs.Prelude.{IfSome};
 ghost use Rattle.std.specs.Option.{option_copied};
 ghost use Rattle.hyd_theorems_on_definitions.specs.TermsOfTheorems.{IsSoundCapacity};
-ghost use Rattle.hyd_net.specs.Sound.{Sound};
+ghost use Rattle.hyd_net.specs.Sound.{IsSound};
 ghost use Rattle.hyd_period_network.specs.NetAsPeriodNetwork.{capacity_of};
-ghost use Rattle.hyd_period_network.specs.Periods.{IsNetOf};
+ghost use Rattle.hyd_period_network.specs.NetsSetToPeriods.{IsNetOf};
 ghost use Rattle.hyd_period_network.specs.LawsInSettings.{AreStates};
 
 use crate::four_periods::{Part, Row, TEXT, emitters, parts};
@@ -177,7 +177,7 @@ fn put(
     part: &Part,
     time: u32,
 ) -> Option<Result<(), PeriodDemand>>
-    requires sound { Sound project.now }
+    requires sound { IsSound project.now }
     requires of { IsNetOf project.now net.old }
     requires states { AreStates project.now states.now }
     ensures { IsNetOf project.now net.new }
@@ -188,7 +188,7 @@ fn put(
 
 // Commands the links and puts the net into the period of a part, and says whether the net is as the part says.
 fn is_right(net: &mut Net, project: &Project, states: &mut [LinkState], part: &Part) -> bool
-    requires sound { Sound project.now }
+    requires sound { IsSound project.now }
     requires of { IsNetOf project.now net.old }
     requires states { AreStates project.now states.old }
     ensures stays { IsNetOf project.now net.new }
@@ -202,7 +202,7 @@ fn is_right(net: &mut Net, project: &Project, states: &mut [LinkState], part: &P
 
 // Whether a period whose demand is out of range is refused, and leaves the net as it is.
 fn is_left(net: &mut Net, project: &Project, states: &[LinkState], part: &Part) -> bool
-    requires sound { Sound project.now }
+    requires sound { IsSound project.now }
     requires of { IsNetOf project.now net.old }
     requires states { AreStates project.now states.now }
 {
@@ -221,7 +221,7 @@ fn wrong_period(
     states: &mut [LinkState],
     parts: &[Part],
 ) -> Option<u32>
-    requires sound { Sound project.now }
+    requires sound { IsSound project.now }
     requires of { IsNetOf project.now net.old }
     requires states { AreStates project.now states.old }
 {
@@ -241,7 +241,7 @@ fn wrong_period(
 
 // The same of a network.
 fn wrong_in(alloc: Global, project: &Project, parts: &[Part]) -> Result<Option<u32>, OutOfMemory>
-    requires { Sound project.now }
+    requires { IsSound project.now }
 {
     let mut net = Net::open(alloc, project)?;
     let mut states = starts(alloc, project)?;

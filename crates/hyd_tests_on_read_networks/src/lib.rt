@@ -2,12 +2,12 @@
 #![tactic(auto)]
 
 #[cfg(test)]
+mod most_kinds_of_rows;
+#[cfg(test)]
 mod sameness;
 #[cfg(test)]
 mod saved;
 #[cfg(test)]
 mod small;
-#[cfg(test)]
-mod town;
 #[cfg(test)]
 mod words_of_network;

@@ -1,7 +1,7 @@
 //! Texts that say the same, and texts that don't. An independent program judged each of them.
 #![tactic(auto)]
 
-use crate::town::TOWN;
+use crate::most_kinds_of_rows::TOWN;
 use hyd_inp::read_project;
 use hyd_net::{Project, same};
 use std::alloc::Global;

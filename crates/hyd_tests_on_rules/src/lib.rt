@@ -2,12 +2,12 @@
 #![tactic(auto)]
 
 #[cfg(test)]
-mod acting;
-#[cfg(test)]
-mod deciding;
+mod changes_by_rules;
 #[cfg(test)]
 mod networks_states_and_changes;
 #[cfg(test)]
 mod starts;
 #[cfg(test)]
 mod table_tests;
+#[cfg(test)]
+mod truths_at_instants;

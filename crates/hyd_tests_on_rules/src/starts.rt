@@ -1,7 +1,7 @@
 //! Pump patterns and simple controls at starts of periods, one after another.
 #![tactic(auto)]
 
-ghost use Rattle.hyd_net.specs.Sound.{Sound};
+ghost use Rattle.hyd_net.specs.Sound.{IsSound};
 
 use crate::networks_states_and_changes::{By, To, are_changes, are_states, levels, starts};
 use hyd_controls_and_rules::{Changes, LevelOpen, settle};
@@ -174,7 +174,7 @@ fn begins(
     states: &mut [LinkState],
     row: &Start,
 ) -> Result<bool, OutOfMemory>
-    requires { Sound project.now }
+    requires { IsSound project.now }
 {
     if project.tanks.len() != 1 || states.len() != project.links.len() {
         return Ok(false);
@@ -195,7 +195,7 @@ fn first_wrong(
     project: &Project,
     rows: &[Start],
 ) -> Result<Option<usize>, OutOfMemory>
-    requires { Sound project.now }
+    requires { IsSound project.now }
 {
     let mut states = starts(alloc, project)?;
     for (number, row) in rows.iter().enumerate() {
@@ -212,7 +212,7 @@ fn rows() -> &'static [Start] {
 
 /// The first row whose period begins otherwise.
 pub(crate) fn wrong_start(alloc: Global, project: &Project) -> Result<Option<usize>, OutOfMemory>
-    requires { Sound project.now }
+    requires { IsSound project.now }
 {
     first_wrong(alloc, project, rows())
 }

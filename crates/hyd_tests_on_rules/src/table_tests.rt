@@ -1,12 +1,12 @@
 //! Each network is read in one place, and asked for the first row of its table that it contradicts.
 #![tactic(auto)]
 
-ghost use Rattle.hyd_net.specs.Sound.{Sound};
+ghost use Rattle.hyd_net.specs.Sound.{IsSound};
 
-use crate::acting::{RANKS, wrong_offer};
-use crate::deciding::{CLAUSES, GROUPS, wrong_group, wrong_instant};
+use crate::changes_by_rules::{RANKS, wrong_offer};
 use crate::networks_states_and_changes::read;
 use crate::starts::{CONTROLS, wrong_start};
+use crate::truths_at_instants::{CLAUSES, GROUPS, wrong_group, wrong_instant};
 use hyd_net::{OutOfMemory, Project};
 use std::alloc::Global;
 use std::test::Fail;
@@ -26,7 +26,7 @@ fn first_wrong_of(
     project: &Project,
     table: Table,
 ) -> Result<Option<usize>, OutOfMemory>
-    requires { Sound project.now }
+    requires { IsSound project.now }
 {
     match table {
         Table::Instants => wrong_instant(alloc, project),

@@ -1,10 +1,10 @@
 //! A demand by the default pattern, over more than its length.
 #![tactic(auto)]
 
-ghost use Rattle.hyd_net.specs.Sound.{Sound};
+ghost use Rattle.hyd_net.specs.Sound.{IsSound};
 
 use crate::networks_from_texts::read;
-use hyd_demand::demand_at;
+use hyd_demands_and_reservoir_heads::demand_at;
 use hyd_net::Project;
 use std::alloc::Global;
 use std::test::Fail;
@@ -24,7 +24,7 @@ const ROWS: [(u32, i64); 4] = [
 
 /// The first time at which the demand of the one junction is another.
 fn first_other(project: &Project) -> Option<u32>
-    requires { Sound project.now }
+    requires { IsSound project.now }
 {
     if project.junctions.len() != 1 {
         return Some(0);

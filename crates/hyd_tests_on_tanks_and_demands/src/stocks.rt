@@ -2,7 +2,7 @@
 #![tactic(auto)]
 
 ghost use Rattle.std.specs.Prelude.{◌≡◌, pos, slice_get, Some, IfSome, IsTrue};
-ghost use Rattle.hyd_net.specs.Sound.{Sound};
+ghost use Rattle.hyd_net.specs.Sound.{IsSound};
 ghost use Rattle.hyd_spec.specs.ProgramTypes.{Tank};
 ghost use Rattle.hyd_spec.specs.Tank.{walls_of};
 ghost use Rattle.hyd_theorems_on_definitions.specs.TermsOfTheorems.{IsWithin};
@@ -583,7 +583,7 @@ fn moved(
     flow: (i128, i128),
     seconds: u32,
 ) -> Option<(Stock, Stock)>
-    requires { Sound project.now }
+    requires { IsSound project.now }
 {
     let before = stock(content);
     let inflow = inflow(flow)?;
@@ -616,7 +616,7 @@ fn met(
     rising: bool,
     cap: u32,
 ) -> Option<(u32, u32)>
-    requires { Sound project.now }
+    requires { IsSound project.now }
 {
     let before = stock(content);
     let inflow = inflow(flow)?;

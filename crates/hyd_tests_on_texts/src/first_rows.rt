@@ -4,7 +4,7 @@
 use hyd_judge_single_rows::first_by_itself;
 use hyd_lex::Lines;
 use hyd_net::Cause;
-use hyd_text_rows::{Found, gather, kept, least};
+use hyd_rows_and_tables::{Found, gather, kept, least};
 use std::alloc::Global;
 use std::test::Fail;
 

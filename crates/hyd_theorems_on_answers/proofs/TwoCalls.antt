@@ -13,7 +13,7 @@ use Rattle.hyd_run.specs.Runs.{sharpness_of}
 use Rattle.hyd_sim.specs.declared.settings.Settings.{Settings}
 use Rattle.hyd_cert_check.specs.declared.outcome.CheckEnd.TheVariants.{Accepted}
 use Rattle.hyd_theorems_on_checks.specs.CertificateOfRun.{IsCertificateOfRun}
-use Rattle.hyd_theorems_on_checks.proofs.OfRuns.{written_is}
+use Rattle.hyd_theorems_on_checks.proofs.WrittenAndAccepted.{written_is}
 use Rattle.hyd_theorems_on_rereading.proofs.OneNetwork.{one_network}
 use Rattle.hyd_theorems_on_checks_after_rereading.proofs.OtherReadings.{carried, readings_report}
 use Rattle.hyd_cli.specs.declared.status.Status.{Status}
@@ -23,7 +23,7 @@ use Rattle.hyd_cli.specs.declared.status.Status.TheVariants.{CertificateRefused,
 use Rattle.hyd_cli.specs.DeskContents.{Seen}
 use Rattle.hyd_cli.specs.RunAnswers.{Delivered, AnswersText}
 use Rattle.hyd_cli.specs.CheckAnswers.{AnswersCheck}
-use Rattle.hyd_theorems_on_answers.specs.Written.{HasWritten}
+use Rattle.hyd_theorems_on_answers.specs.StatusesThatWrote.{HasWritten}
 
 -- ---- what was written
 

@@ -10,7 +10,7 @@ ghost use Rattle.hyd_cli.specs.declared.status.Status.TheVariants.{Done, Certifi
 ghost use Rattle.hyd_cli.specs.DeskContents.{Seen};
 ghost use Rattle.hyd_cli.specs.RunAnswers.{AnswersText};
 ghost use Rattle.hyd_cli.specs.CheckAnswers.{AnswersCheck};
-ghost use Rattle.hyd_theorems_on_answers.specs.Written.{HasWritten};
+ghost use Rattle.hyd_theorems_on_answers.specs.StatusesThatWrote.{HasWritten};
 
 /// Where a run on a text of NET finished or was stopped by a cause, no check on that text refuses what the run wrote.
 pub fn never_refused()

@@ -2,9 +2,9 @@
 use Rattle.std.proofs.Common.{◌≡◌, ℕ, ◌⊎◌, inl, inr, List, [], ◌∷◌, ◌++◌, map, sym, ap, ◌∙◌, append_assoc}
 use Rattle.std.proofs.Common.{append-nil, Bool, codes}
 use Rattle.std.specs.Fmt.{decimal}
-use Rattle.hyd_net.specs.Sound.{Sound}
+use Rattle.hyd_net.specs.Sound.{IsSound}
 use Rattle.hyd_spec.specs.ProgramTypes.{Project}
-use Rattle.hyd_spec.specs.Lists.{joined}
+use Rattle.hyd_spec.specs.Lists.{joined, IsFrontOf}
 use Rattle.hyd_spec.specs.NodeNumbers.{junction_count, tank_count}
 use Rattle.hyd_spec_certificates.specs.RecordAndStanding.{Record, Standing, initial_standing}
 use Rattle.hyd_spec_reports.specs.CertificateText.{line, version_of}
@@ -19,15 +19,12 @@ use Rattle.hyd_cert_check.specs.Checks.{grammar, counts, record_refused, other_e
 use Rattle.hyd_cert_check.specs.Checks.{in_records}
 use Rattle.hyd_cert_check.specs.declared.outcome.CheckEnd.{CheckEnd}
 use Rattle.hyd_cert_check.specs.declared.outcome.CheckEnd.TheVariants.{Accepted, Refused}
-use Rattle.hyd_theorems_on_checks.proofs.Compared.{compared, other_header}
+use Rattle.hyd_theorems_on_checks.proofs.RecordsOfOneText.{compared, other_header}
 use Rattle.hyd_theorems_on_checks.proofs.FirstRecords.{first_rows}
-use Rattle.hyd_theorems_on_checks.proofs.Lists.{Begins, before_last, joined_append}
+use Rattle.hyd_theorems_on_checks.proofs.BeginningsOfLists.{Begins, before_last}
 use Rattle.hyd_theorems_on_checks.proofs.OneReason.{none_refused, found_first, same_report}
 use Rattle.hyd_theorems_on_checks.proofs.RunsByRecords.{begins_with}
-
--- what a text is a front of
-abbrev pub IsFrontOf : List ℕ → List ℕ → Type 0
-IsFrontOf front whole = (rest : List ℕ) × (front ++ rest ≡ whole)
+use Rattle.hyd_lemmas.proofs.ListsOptionsAndResults.{joined_append}
 
 module _ (project : Project) where
   -- a report of some periods is a front of one of more
@@ -46,7 +43,7 @@ module _ (project : Project) where
             ∙ ap (λ t. head ++ t) (sym (append_assoc a b last) ∙ ap (λ t. t ++ last) (sym both))),
       )
 
-  module _ (sound : Sound project) (text : List ℕ) where
+  module _ (sound : IsSound project) (text : List ℕ) where
     -- by the runs
     by_runs : (a b : List Found) (left other : Standing) (last whole : List ℕ) → IsRun project a left
         → IsRun project b other → Begins (rows_of a) (rows_of b) → whole ≡ report_text project (lines_of b) last

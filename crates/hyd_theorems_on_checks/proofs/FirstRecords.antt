@@ -13,8 +13,8 @@ use Rattle.hyd_cert.specs.TextsWithoutLine.{HasNo}
 use Rattle.hyd_cert.specs.Lines.{Header, header_words, header_text}
 use Rattle.hyd_cert.specs.PlacesOfLines.{Place, First, Between, Head, Over, CanStand, front_of, Goes, ends, goes}
 use Rattle.hyd_cert.specs.FaultyLine.{IsCertificate, IsLines}
-use Rattle.hyd_cert.proofs.GoesLemmas.{opened, stands_alone, goes_behind}
-use Rattle.hyd_cert.proofs.ReadingLemmas.{certificate_goes, goes_certificate, whole_reading}
+use Rattle.hyd_cert.proofs.TextsAtFault.{opened, stands_alone, goes_behind}
+use Rattle.hyd_cert.proofs.CertificatesLineByLine.{certificate_goes, goes_certificate, whole_reading}
 
 -- ---- whole lines
 

@@ -1,11 +1,11 @@
 pub mod BrokenOff
-pub mod ByEnd
-pub mod ByRecord
-pub mod Compared
+pub mod EndLineNotRefused
+pub mod RecordsNotRefused
+pub mod RecordsOfOneText
 pub mod FirstRecords
-pub mod Lists
+pub mod BeginningsOfLists
 pub mod NeverRefused
-pub mod OfRuns
+pub mod WrittenAndAccepted
 pub mod OneReason
 pub mod RunsByRecords
 pub mod ValidRuns

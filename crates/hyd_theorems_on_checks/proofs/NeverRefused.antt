@@ -4,15 +4,15 @@ use Rattle.hyd_spec.specs.ProgramTypes.{Project}
 use Rattle.hyd_spec_reports.specs.ReportLine.{report_text}
 use Rattle.hyd_spec_reports.specs.PromisesOfRunsAndChecks.{rows_of, lines_of, accepted_line}
 use Rattle.hyd_cert.specs.FaultyLine.{IsCertificate}
-use Rattle.hyd_cert.proofs.SentenceLemmas.{fault_no_certificate, no_certificate_of_others}
+use Rattle.hyd_cert.proofs.WholeTextLemmas.{fault_no_certificate, no_certificate_of_others}
 use Rattle.hyd_sim.specs.View.{header_for}
 use Rattle.hyd_cert_check.specs.Checks.{CheckRefusesGrammar, CheckRefusesCounts, CheckRefusal, CheckEnds}
 use Rattle.hyd_cert_check.specs.Checks.{grammar, counts, record_refused, other_end}
 use Rattle.hyd_cert_check.specs.declared.outcome.CheckEnd.{CheckEnd}
 use Rattle.hyd_cert_check.specs.declared.outcome.CheckEnd.TheVariants.{Accepted, Refused}
 use Rattle.hyd_theorems_on_checks.specs.CertificateOfRun.{IsCertificateOfRun}
-use Rattle.hyd_theorems_on_checks.proofs.ByRecord.{no_record_refused}
-use Rattle.hyd_theorems_on_checks.proofs.ByEnd.{no_other_end, one_report}
+use Rattle.hyd_theorems_on_checks.proofs.RecordsNotRefused.{no_record_refused}
+use Rattle.hyd_theorems_on_checks.proofs.EndLineNotRefused.{no_other_end, one_report}
 
 module _ (project : Project) (text printed : List ℕ) where
   -- it is one with the header of the network

@@ -2,7 +2,7 @@
 use Rattle.std.proofs.Common.{◌≡◌, ℕ, ◌⊎◌, inl, inr, List, [], ◌∷◌, ◌++◌, map, refl, sym, ap, ap₂}
 use Rattle.std.proofs.Common.{subst, ◌∙◌, append_assoc, append-nil}
 use Rattle.std.proofs.lemmas.List.Elements.{All-head, All-tail}
-use Rattle.hyd_net.specs.Sound.{Sound}
+use Rattle.hyd_net.specs.Sound.{IsSound}
 use Rattle.hyd_spec.specs.ProgramTypes.{Project}
 use Rattle.hyd_spec.specs.Lists.{joined}
 use Rattle.hyd_spec.specs.NodeNumbers.{junction_count, tank_count}
@@ -18,7 +18,7 @@ use Rattle.hyd_theorems_on_definitions.proofs.CertificateLines.{contents-same}
 use Rattle.hyd_theorems_on_definitions.proofs.OneRefusal.{refused_invalid, one_refusal}
 use Rattle.hyd_theorems_on_definitions.proofs.OneRun.{one_left}
 use Rattle.hyd_cert.specs.FaultyLine.{IsCertificate}
-use Rattle.hyd_cert.proofs.SentenceLemmas.{fault_no_certificate, no_certificate_of_others, one_fault, fault_or_header}
+use Rattle.hyd_cert.proofs.WholeTextLemmas.{fault_no_certificate, no_certificate_of_others, one_fault, fault_or_header}
 use Rattle.hyd_sim.specs.View.{header_for}
 use Rattle.hyd_cert_check.specs.Checks.{refused_grammar_line, printed_number, BeginsWithFound, CheckRefusesGrammar}
 use Rattle.hyd_cert_check.specs.Checks.{CheckRefusesCounts, CheckRefusal, CheckEnds}
@@ -26,15 +26,15 @@ use Rattle.hyd_cert_check.specs.Checks.{grammar, counts, record_refused, other_e
 use Rattle.hyd_cert_check.specs.declared.outcome.CheckEnd.{CheckEnd}
 use Rattle.hyd_cert_check.specs.declared.outcome.CheckEnd.TheVariants.{Accepted, Refused}
 use Rattle.hyd_theorems_on_checks.specs.SameEnding.{HaveOneReason}
-use Rattle.hyd_theorems_on_checks.proofs.ByEnd.{one_report}
-use Rattle.hyd_theorems_on_checks.proofs.Compared.{AreRows, BeginsWith, compared, other_header}
+use Rattle.hyd_theorems_on_checks.proofs.EndLineNotRefused.{one_report}
+use Rattle.hyd_theorems_on_checks.proofs.RecordsOfOneText.{AreRows, BeginsWith, compared, other_header}
 use Rattle.hyd_theorems_on_checks.proofs.FirstRecords.{first_rows, both_rows}
-use Rattle.hyd_theorems_on_checks.proofs.Lists.{Begins, both_ways, before_last, lasts}
+use Rattle.hyd_theorems_on_checks.proofs.BeginningsOfLists.{Begins, both_ways, before_last, lasts}
 use Rattle.hyd_theorems_on_checks.proofs.NeverRefused.{never_refused}
-use Rattle.hyd_theorems_on_checks.proofs.OfRuns.{accepted_is}
+use Rattle.hyd_theorems_on_checks.proofs.WrittenAndAccepted.{accepted_is}
 use Rattle.hyd_theorems_on_checks.proofs.RunsByRecords.{one_by_records, next_valid}
 
-module _ (project : Project) (sound : Sound project) (text : List ℕ) where
+module _ (project : Project) (sound : IsSound project) (text : List ℕ) where
   fits_at : (before : List Record) (row : Record) (more : List Record) → AreRows project (before ++ (row ∷ more))
       → IsRow (junction_count project) (tank_count project) row
   fits_at [] row more fit = All-head (IsRow (junction_count project) (tank_count project)) row more fit

@@ -5,11 +5,11 @@ use Rattle.hyd_spec_certificates.specs.PeriodNetwork.{Grid}
 use Rattle.hyd_spec_certificates.specs.RecordAndStanding.{Record, Standing}
 use Rattle.hyd_spec_certificates.specs.Valid.{IsValid}
 use Rattle.hyd_spec_reports.specs.Report.{IsReport}
-use Rattle.hyd_spec_reports.specs.PromisesOfRunsAndChecks.{Found, IsFound, IsRunFrom, none, more, rows_of}
+use Rattle.hyd_spec_reports.specs.PromisesOfRunsAndChecks.{Found, IsFound, IsRunFrom, more, rows_of}
 use Rattle.hyd_theorems_on_definitions.proofs.OneReport.{one_report}
-use Rattle.hyd_theorems_on_definitions.proofs.OneRun.{one_grid}
-use Rattle.hyd_theorems_on_definitions.proofs.OneStanding.{one_standing}
-use Rattle.hyd_theorems_on_checks.proofs.Lists.{Begins, begins_more}
+use Rattle.hyd_theorems_on_definitions.proofs.OneRun.{one_grid, steps, ends_here}
+use Rattle.hyd_theorems_on_definitions.proofs.OneStandingAndTightVector.{one_standing}
+use Rattle.hyd_theorems_on_checks.proofs.BeginningsOfLists.{Begins, begins_more}
 
 module _ (project : Project) where
   -- ---- one period
@@ -33,22 +33,6 @@ module _ (project : Project) where
 
   -- ---- from period to period
 
-  -- the first period of a run, and the rest
-  record Steps (start : Standing) (found : Found) (rest : List Found) (last : Standing) : Type 0 where
-    begins : found.standing ≡ start
-    is_found : IsFound project found
-    goes_on : IsRunFrom project found.next rest last
-
-  steps : (start : Standing) (found : Found) (rest : List Found) (last : Standing)
-      → IsRunFrom project start (found ∷ rest) last → Steps start found rest last
-  steps _ found rest last (more is on) = record { begins = refl; is_found = is; goes_on = on }
-
-  -- a run of no periods ends where it begins
-  stays : (start : Standing) (founds : List Found) (last : Standing) → IsRunFrom project start founds last
-      → founds ≡ [] → start ≡ last
-  stays _ _ last none e = refl
-  stays _ _ last (more is on) e = absurd (cc)
-
   -- two first periods with one record are the same, and the second run goes on from the first one's standing
   record OneFirst (a b : Found) (ys : List Found) (other : Standing) : Type 0 where
     same : a ≡ b
@@ -58,8 +42,8 @@ module _ (project : Project) where
       → IsRunFrom project start (a ∷ xs) last → IsRunFrom project start (b ∷ ys) other → a.row ≡ b.row
       → OneFirst a b ys other
   one_first start a b xs ys last other x y row =
-      let s = steps start a xs last x in
-      let t = steps start b ys other y in
+      let s = steps project start a xs last x in
+      let t = steps project start b ys other y in
       let first = one_found a b (s.begins ∙ sym t.begins) row s.is_found t.is_found in
       record {
         same = first;
@@ -77,7 +61,8 @@ module _ (project : Project) where
       let others : rows_of xs ≡ rows_of ys = cc in
       let first = one_first start a b xs ys last other x y row in
       let same = first.same in
-      let rest = one_by_records a.next xs ys last other (steps start a xs last x).goes_on first.goes_on others in
+      let rest = one_by_records a.next xs ys last other (steps project start a xs last x).goes_on first.goes_on others
+      in
       cc
 
   -- ---- a record behind a run
@@ -91,7 +76,7 @@ module _ (project : Project) where
   first_valid : (start : Standing) (found : Found) (rest : List Found) (last here : Standing) (row : Record)
       → IsRunFrom project start (found ∷ rest) last → start ≡ here → found.row ≡ row → IsValidAt here row
   first_valid start found rest last here row run at same =
-      let s = steps start found rest last run in
+      let s = steps project start found rest last run in
       record {
         grid = found.grid;
         next = found.next;
@@ -106,13 +91,13 @@ module _ (project : Project) where
   next_valid start [] [] row rows last other x y e = absurd (cc)
   next_valid start [] (b ∷ ys) row rows last other x y e =
       let same : b.row ≡ row = cc in
-      first_valid start b ys other last row y (stays start [] last x refl) same
+      first_valid start b ys other last row y (ends_here project start last x) same
   next_valid start (a ∷ xs) [] row rows last other x y e = absurd (cc)
   next_valid start (a ∷ xs) (b ∷ ys) row rows last other x y e =
       let same : a.row ≡ b.row = cc in
       let others : rows_of ys ≡ rows_of xs ++ (row ∷ rows) = cc in
       let first = one_first start a b xs ys last other x y same in
-      next_valid a.next xs ys row rows last other (steps start a xs last x).goes_on first.goes_on others
+      next_valid a.next xs ys row rows last other (steps project start a xs last x).goes_on first.goes_on others
 
   -- a run begins with the periods of another one whose records are the first of its own
   pub begins_with : (start : Standing) (xs ys : List Found) (rows : List Record) (last other : Standing)
@@ -125,4 +110,4 @@ module _ (project : Project) where
       let others : rows_of ys ≡ rows_of xs ++ rows = cc in
       let first = one_first start a b xs ys last other x y same in
       begins_more a b xs ys first.same
-      (begins_with a.next xs ys rows last other (steps start a xs last x).goes_on first.goes_on others)
+      (begins_with a.next xs ys rows last other (steps project start a xs last x).goes_on first.goes_on others)

@@ -1,7 +1,7 @@
 -- Records that are valid one after another are those of a run.
 use Rattle.std.proofs.Common.{◌≡◌, ℕ, suc, List, [], ◌∷◌, ◌++◌, length, refl, sym, ap, subst, ◌∙◌, append_assoc}
 use Rattle.std.proofs.Common.{append-nil}
-use Rattle.hyd_net.specs.Sound.{Sound}
+use Rattle.hyd_net.specs.Sound.{IsSound}
 use Rattle.hyd_spec.specs.ProgramTypes.{Project}
 use Rattle.hyd_spec.specs.NodeNumbers.{junction_count, tank_count}
 use Rattle.hyd_spec_certificates.specs.PeriodNetwork.{Grid}
@@ -9,12 +9,12 @@ use Rattle.hyd_spec_certificates.specs.RecordAndStanding.{Record, Standing}
 use Rattle.hyd_spec_certificates.specs.Valid.{IsValid, AreValidFrom, AreValid, none as no_record, more as more_records}
 use Rattle.hyd_spec_reports.specs.CertificateText.{IsCertificateText, version_of}
 use Rattle.hyd_spec_reports.specs.PromisesOfRunsAndChecks.{Found, IsRun, none as no_period, rows_of}
-use Rattle.hyd_theorems_on_definitions.proofs.Appending.{run_more}
-use Rattle.hyd_theorems_on_nesting.proofs.Extending.{run_keeps}
-use Rattle.hyd_theorems_on_nesting.proofs.Reporting.{report_is}
+use Rattle.hyd_theorems_on_definitions.proofs.OnePeriodMore.{run_more}
+use Rattle.hyd_theorems_on_nesting.proofs.RunsGoOnOrStop.{run_keeps}
+use Rattle.hyd_theorems_on_nesting.proofs.ReportsExist.{report_is}
 use Rattle.hyd_theorems_on_checks.specs.CertificateOfRun.{IsCertificateOfRun, IsRunOf}
 
-module _ (project : Project) (sound : Sound project) where
+module _ (project : Project) (sound : IsSound project) where
   -- what goes on behind a run
   record GoesOn (before : List Found) (rows : List Record) (last : Standing) : Type 0 where
     founds : List Found

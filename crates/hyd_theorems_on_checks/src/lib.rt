@@ -4,7 +4,7 @@
 #![tactic(auto)]
 
 ghost use Rattle.std.specs.Prelude.{◌≡◌, ℕ, Bool, List, ◌∷◌, ◌++◌, length, map, All};
-ghost use Rattle.hyd_net.specs.Sound.{Sound};
+ghost use Rattle.hyd_net.specs.Sound.{IsSound};
 ghost use Rattle.hyd_spec.specs.ProgramTypes.{Project};
 ghost use Rattle.hyd_spec.specs.Lists.{joined};
 ghost use Rattle.hyd_spec.specs.NodeNumbers.{junction_count, tank_count};
@@ -87,14 +87,14 @@ pub fn checks()
 /// Records of a sound network that are valid one after another are those of a run, each with a report. So the text of
 /// such records, with an END line that says what is so, is the certificate of a run, which no check refuses.
 pub fn valid_records()
-    ensures run { (project : Project) → Sound project → (rows : List Record) (last : Standing)
+    ensures run { (project : Project) → IsSound project → (rows : List Record) (last : Standing)
         → AreValid project rows last → IsRunOf project rows last }
-    ensures certificate { (project : Project) → Sound project → (text : List ℕ) (rows : List Record) (last : Standing)
+    ensures certificate { (project : Project) → IsSound project → (text : List ℕ) (rows : List Record) (last : Standing)
         → AreValid project rows last
         → IsCertificateText text (version_of project) (junction_count project) (tank_count project) rows (length rows)
         last.finished
         → IsCertificateOfRun project text }
-    ensures never_refused { (project : Project) → Sound project → (text printed : List ℕ) (rows : List Record)
+    ensures never_refused { (project : Project) → IsSound project → (text printed : List ℕ) (rows : List Record)
         (last : Standing) → AreValid project rows last
         → IsCertificateText text (version_of project) (junction_count project) (tank_count project) rows (length rows)
         last.finished
@@ -106,19 +106,19 @@ pub fn valid_records()
 /// Checks of one text by a sound network that come to their end end in one way: all of them accept it, or all refuse it
 /// for one reason, and they print one report.
 pub fn one_report()
-    ensures end { (project : Project) → Sound project → (text printed other : List ℕ) (a b : CheckEnd)
+    ensures end { (project : Project) → IsSound project → (text printed other : List ℕ) (a b : CheckEnd)
         → CheckEnds project text printed a → CheckEnds project text other b → a ≡ b }
-    ensures reason { (project : Project) → Sound project → (text printed other : List ℕ)
+    ensures reason { (project : Project) → IsSound project → (text printed other : List ℕ)
         (a : CheckRefusal project text printed) (b : CheckRefusal project text other)
         → HaveOneReason project text printed other a b }
-    ensures report { (project : Project) → Sound project → (text printed other : List ℕ) (a b : CheckEnd)
+    ensures report { (project : Project) → IsSound project → (text printed other : List ℕ) (a b : CheckEnd)
         → CheckEnds project text printed a → CheckEnds project text other b → printed ≡ other }
 {}
 
 /// What a check that was broken off has printed, in its last line or before, is a front of the report that each check
 /// of the text prints that comes to its end.
 pub fn broken_off()
-    ensures { (project : Project) → Sound project → (text printed report : List ℕ) (end : CheckEnd)
+    ensures { (project : Project) → IsSound project → (text printed report : List ℕ) (end : CheckEnd)
         → CheckBreaksOff project text printed → CheckEnds project text report end
         → (unprinted : List ℕ) × (printed ++ unprinted ≡ report) }
 {}

@@ -1,7 +1,7 @@
 -- The certificate of a run of one reading is that of a run of each other reading, with the same report, so no check by
 -- these refuses it.
 use Rattle.std.proofs.Common.{◌≡◌, ℕ, Bool, true, List, length, sym, ap, subst, ◌∙◌}
-use Rattle.hyd_net.specs.Sound.{Sound}
+use Rattle.hyd_net.specs.Sound.{IsSound}
 use Rattle.hyd_spec_lines.specs.Lines.{Row}
 use Rattle.hyd_spec_input.specs.Project.{IsProject}
 use Rattle.hyd_spec.specs.ProgramTypes.{Project}
@@ -17,12 +17,12 @@ use Rattle.hyd_cert_check.specs.Checks.{CheckRefusal, CheckEnds}
 use Rattle.hyd_cert_check.specs.declared.outcome.CheckEnd.{CheckEnd}
 use Rattle.hyd_cert_check.specs.declared.outcome.CheckEnd.TheVariants.{Accepted}
 use Rattle.hyd_theorems_on_checks.specs.CertificateOfRun.{IsCertificateOfRun}
-use Rattle.hyd_theorems_on_checks.proofs.OfRuns.{written_is}
+use Rattle.hyd_theorems_on_checks.proofs.WrittenAndAccepted.{written_is}
 use Rattle.hyd_theorems_on_checks.proofs.NeverRefused.{never_refused, ends_accepted, ends_with_report}
 use Rattle.hyd_theorems_on_checks.proofs.ValidRuns.{certificate_of}
 use Rattle.hyd_theorems_on_rereading.specs.WithoutSpare.{bare_project}
 use Rattle.hyd_theorems_on_rereading.proofs.Headers.{certificate_text}
-use Rattle.hyd_theorems_on_rereading.proofs.Running.{runs, reports}
+use Rattle.hyd_theorems_on_rereading.proofs.RunsWithoutSpare.{runs, reports}
 use Rattle.hyd_theorems_on_rereading.proofs.OneNetwork.{one_network}
 
 module _ (p q : Project) (same : bare_project p ≡ bare_project q) where
@@ -38,7 +38,7 @@ module _ (p q : Project) (same : bare_project p ≡ bare_project q) where
   pub of_runs : (text printed : List ℕ) → IsCertificateOfRun p text → CheckRefusal q text printed → ⊥
   of_runs text printed is refusal = never_refused q text printed (carried text is) refusal
 
-  pub of_records : Sound p → (text printed : List ℕ) (records : List Record) (last : Standing)
+  pub of_records : IsSound p → (text printed : List ℕ) (records : List Record) (last : Standing)
       → AreValid p records last
       → IsCertificateText text (version_of p) (junction_count p) (tank_count p) records (length records) last.finished
       → CheckRefusal q text printed → ⊥

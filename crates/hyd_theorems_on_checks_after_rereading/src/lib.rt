@@ -4,7 +4,7 @@
 #![tactic(auto)]
 
 ghost use Rattle.std.specs.Prelude.{◌≡◌, ℕ, List, length};
-ghost use Rattle.hyd_net.specs.Sound.{Sound};
+ghost use Rattle.hyd_net.specs.Sound.{IsSound};
 ghost use Rattle.hyd_spec_lines.specs.Lines.{Row};
 ghost use Rattle.hyd_spec_input.specs.Project.{IsProject};
 ghost use Rattle.hyd_spec.specs.ProgramTypes.{Project};
@@ -33,7 +33,7 @@ pub fn certificates()
 pub fn refusals()
     ensures of_runs { (p q : Project) → bare_project p ≡ bare_project q → (text printed : List ℕ)
         → IsCertificateOfRun p text → CheckRefusal q text printed → ⊥ }
-    ensures of_records { (p q : Project) → bare_project p ≡ bare_project q → Sound p → (text printed : List ℕ)
+    ensures of_records { (p q : Project) → bare_project p ≡ bare_project q → IsSound p → (text printed : List ℕ)
         (records : List Record) (last : Standing) → AreValid p records last
         → IsCertificateText text (version_of p) (junction_count p) (tank_count p) records (length records) last.finished
         → CheckRefusal q text printed → ⊥ }

@@ -25,11 +25,12 @@ use Rattle.hyd_spec_certificates.specs.PeriodNetwork.{fixed_heads}
 use Rattle.hyd_spec_certificates.specs.NetOutflow.{net, outflow_low, outflow_high, link_ends}
 use Rattle.hyd_spec_certificates.specs.Certificate.{IsCertificate}
 use Rattle.hyd_theorems_on_definitions.specs.TermsOfTheorems.{IsSoundLaw, IsSoundCapacity, LevelsLie, IsCompared}
-use Rattle.hyd_theorems_on_definitions.proofs.Nodes.{excess, lack, excess_after, lack_after, head_front, tanks_below}
-use Rattle.hyd_theorems_on_definitions.proofs.Nodes.{tanks_above}
-use Rattle.hyd_theorems_on_definitions.proofs.Nodes.{reservoirs_below, reservoirs_above, IsGreatestBelow}
-use Rattle.hyd_theorems_on_definitions.proofs.Nodes.{greatest_below}
-use Rattle.hyd_theorems_on_definitions.proofs.Sums.{IsPeak, IsDip, sum-upper, sum-lower}
+use Rattle.hyd_theorems_on_definitions.proofs.HeadsOfAllNodes.{excess, lack, excess_after, lack_after, head_front}
+use Rattle.hyd_theorems_on_definitions.proofs.HeadsOfAllNodes.{tanks_below}
+use Rattle.hyd_theorems_on_definitions.proofs.HeadsOfAllNodes.{tanks_above}
+use Rattle.hyd_theorems_on_definitions.proofs.HeadsOfAllNodes.{reservoirs_below, reservoirs_above, IsGreatestBelow}
+use Rattle.hyd_theorems_on_definitions.proofs.HeadsOfAllNodes.{greatest_below}
+use Rattle.hyd_theorems_on_definitions.proofs.FlowsAtOneNode.{IsPeak, IsDip, sum-upper, sum-lower}
 use Rattle.hyd_theorems_on_definitions.proofs.Outflows.{emitter-below, emitter-above, demand-below, demand-above}
 
 -- ---- one junction

@@ -11,7 +11,7 @@ use Rattle.hyd_net.specs.Curves.{Knot, on_line, between, value_from, volume_knot
 use Rattle.hyd_spec.specs.ProgramTypes.{VolumePoint}
 use Rattle.hyd_spec.specs.Tank.{level_knots}
 use Rattle.hyd_lemmas.proofs.Integers.{exchanged}
-use Rattle.hyd_lemmas.proofs.Trials.{lt-from, lt-no, lt-yes}
+use Rattle.hyd_lemmas.proofs.BooleanTests.{lt-from, lt-no, lt-yes}
 use Rattle.hyd_theorems_on_definitions.proofs.RisingLines.{Follows, AreClimbing, line, line-is, spread, difference-is}
 use Rattle.hyd_theorems_on_definitions.proofs.RisingLines.{from-first, some-den}
 

@@ -18,12 +18,12 @@ use Rattle.hyd_lemmas.proofs.Integers.{floor_low, ceiling_high, floor_greatest, 
 use Rattle.hyd_lemmas.proofs.Integers.{min_left, min_right, min_is}
 use Rattle.hyd_theorems_on_definitions.specs.TermsOfTheorems.{IsLaw, IsSoundCapacity}
 use Rattle.hyd_theorems_on_definitions.specs.PressureDrivenDemand.{steps_at_least, steps_at_most}
-use Rattle.hyd_lemmas.proofs.Trials.{le-yes, le-no}
+use Rattle.hyd_lemmas.proofs.BooleanTests.{le-yes, le-no}
 use Rattle.hyd_theorems_on_definitions.proofs.LinkLaws.{IsLaw-lifted}
 use Rattle.hyd_theorems_on_definitions.proofs.EachLaw.{IsLaw-quad}
 use Rattle.hyd_theorems_on_definitions.proofs.Outflows.{high-positive, under, over_it, not_under, not_over}
 use Rattle.hyd_theorems_on_definitions.proofs.Outflows.{twice_negated, begins_at, ends_at, pressure-above}
-use Rattle.hyd_theorems_on_definitions.proofs.Rising.{AreRising-demand}
+use Rattle.hyd_theorems_on_definitions.proofs.OutflowsRise.{AreRising-demand}
 
 matched : (b : Bool) (P Q : Type 0) → (b ≡ true → P) → (b ≡ false → Q) → MatchBool b P Q
 matched true P Q first second = first refl

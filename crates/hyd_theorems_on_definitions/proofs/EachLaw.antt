@@ -11,9 +11,9 @@ use Rattle.hyd_num.specs.FileQuantity.{billionths, feet, feet_across, is_us_unit
 use borrow.Author.Differences.{up}
 use Rattle.std.specs.Prelude.{Bool, true, false, unsigned_abs}
 use Rattle.hyd_net.specs.Curves.{Knot, value_at}
-use Rattle.hyd_num.proofs.Ends.{denominator_positive, numerator_positive}
-use Rattle.hyd_lemmas.proofs.Enclosures.{IsEnclosure-made}
-use Rattle.hyd_lemmas.proofs.SquaredFlows.{ratio-above}
+use Rattle.hyd_num.proofs.EndsInOrder.{denominator_positive, numerator_positive}
+use Rattle.hyd_lemmas.proofs.CapacitiesEnclose.{IsEnclosure-made}
+use Rattle.hyd_lemmas.proofs.PumpAndOutletPairs.{ratio-above}
 use Rattle.hyd_spec.specs.ProgramTypes.{Capacity, Origin, Pipe, Valve, Pump, Emitter, PressureDemand}
 use Rattle.hyd_spec_certificates.specs.EnclosingFunctions.{quadratic_low, quadratic_high, low, high}
 use Rattle.hyd_spec.specs.Law.{Law, Shut, QuadraticLaw, LinearLaw, Lifted, ForwardOnly, ReverseOnly, Capped, Bent, Held}
@@ -23,7 +23,7 @@ use Rattle.hyd_theorems_on_definitions.specs.TermsOfTheorems.{HasPositiveNumbers
 use Rattle.hyd_lemmas.proofs.Integers.{exchanged, floor_low, ceiling_high, floor_greatest, ceiling_least}
 use Rattle.hyd_lemmas.proofs.Integers.{floor_at_most_ceiling}
 use Rattle.hyd_theorems_on_definitions.proofs.LossLaws.{IsLossLaw-origin}
-use Rattle.hyd_theorems_on_definitions.proofs.Leading.{Leads, raised, lowered, above-too, below-too}
+use Rattle.hyd_theorems_on_definitions.proofs.ValuesAtTwoScales.{Leads, raised, lowered, above-too, below-too}
 use Rattle.hyd_theorems_on_definitions.proofs.RisingLines.{value-den, value-rises}
 use Rattle.hyd_theorems_on_definitions.proofs.LinkLaws.{IsLaw-shut, IsLaw-forward, IsLaw-reverse, IsLaw-capped}
 use Rattle.hyd_theorems_on_definitions.proofs.LinkLaws.{IsLaw-held, IsLaw-lifted, odd-consistent, odd-downward}

@@ -23,8 +23,8 @@ use Rattle.hyd_spec_certificates.specs.NetOutflow.{net, net_low, net_high, margi
 use Rattle.hyd_spec_certificates.specs.Certificate.{Passes, IsCertificateHolding}
 use Rattle.hyd_theorems_on_definitions.specs.TermsOfTheorems.{IsSoundLaw, IsComparedDrawing}
 use Rattle.hyd_theorems_on_definitions.specs.Sides.{along}
-use Rattle.hyd_theorems_on_definitions.proofs.Nodes.{lack, head_front, IsGreatestBelow, greatest_below}
-use Rattle.hyd_theorems_on_definitions.proofs.Sums.{IsDip, sum-upper, sum-lower}
+use Rattle.hyd_theorems_on_definitions.proofs.HeadsOfAllNodes.{lack, head_front, IsGreatestBelow, greatest_below}
+use Rattle.hyd_theorems_on_definitions.proofs.FlowsAtOneNode.{IsDip, sum-upper, sum-lower}
 use Rattle.hyd_theorems_on_definitions.proofs.Comparison.{outflow-follows-below, outflow-follows-above, IsPlace}
 use Rattle.hyd_theorems_on_definitions.proofs.Comparison.{place_at}
 use Rattle.hyd_theorems_on_definitions.proofs.Comparison.{emitter_at}

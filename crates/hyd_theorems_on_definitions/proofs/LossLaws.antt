@@ -17,7 +17,7 @@ use Rattle.hyd_spec.specs.Law.{loss_at_most, loss_at_least, pump_resistance, emi
 use Rattle.hyd_lemmas.proofs.Fractions.{AtMost-along, times-rises, power-rises, AtMost-itself}
 use Rattle.hyd_theorems_on_definitions.specs.TermsOfTheorems.{IsLossLaw, HasPositiveNumbers}
 use Rattle.hyd_lemmas.proofs.Losses.{difference_times}
-use Rattle.hyd_lemmas.proofs.FeetLost.{feet_above}
+use Rattle.hyd_lemmas.proofs.PipeAndValvePairs.{feet_above}
 use Rattle.hyd_lemmas.proofs.PressurePairs.{pressure-some}
 use Rattle.hyd_theorems_on_definitions.proofs.Roots.{square_reflects}
 use Rattle.hyd_spec.specs.Loss.{SquareLossAtMost, SquareLossAtLeast, ValveLossAtMost, ValveLossAtLeast, PipeLossAtMost}

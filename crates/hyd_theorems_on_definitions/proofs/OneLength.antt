@@ -9,7 +9,7 @@ use Rattle.hyd_spec_certificates.specs.Decided.{ByRules, WithoutRules, EndsBy, b
 use Rattle.hyd_spec_certificates.specs.Decided.{event_is_open}
 use Rattle.hyd_spec_certificates.specs.Valid.{LeavesLinks, by_rules as left_by_rules, by_clock as left_by_clock}
 use Rattle.hyd_spec_certificates.specs.Valid.{LeadsOn, continues, finishes}
-use Rattle.hyd_theorems_on_definitions.proofs.OneAnswer.{one_end}
+use Rattle.hyd_theorems_on_definitions.proofs.OneEndOfPeriod.{one_end}
 
 module _ (project : Project) (grid : Grid) (standing : Standing) where
   -- the same record with another length

@@ -4,7 +4,7 @@ use Rattle.std.proofs.Common.{subst, ◌∙◌, arith, inl, inr}
 use Rattle.std.specs.Prelude.{Option, Some, None, slice_index_or, Contains, position, is_none}
 use Rattle.std.proofs.lemmas.List.Quantifiers.{position-Some}
 use Rattle.std.proofs.lemmas.Bool.{cases_lt}
-use Rattle.hyd_spec.specs.ProgramTypes.{Project, LinkState, Control, When, AtLevel, AtTime, AtClock}
+use Rattle.hyd_spec.specs.ProgramTypes.{Project, Control, When, AtLevel, AtTime, AtClock}
 use Rattle.hyd_spec.specs.declared.TankState.{TankState}
 use Rattle.hyd_spec.specs.Lists.{map_from}
 use Rattle.hyd_spec_certificates.specs.declared.Problem.{Problem}
@@ -17,9 +17,7 @@ use Rattle.hyd_spec_certificates.specs.Certificate.{IsCertificate}
 use Rattle.hyd_spec_certificates.specs.RecordAndStanding.{Record, Standing, vector_of}
 use Rattle.hyd_spec_certificates.specs.ThreeValuedLogic.{is_unknown}
 use Rattle.hyd_spec_certificates.specs.Stocks.{state_of}
-use Rattle.hyd_spec_certificates.specs.Decided.{End, ByRules, WithoutRules, RuleIsOpen, EventIsOpen, EndsBy, OpenRule}
-use Rattle.hyd_spec_certificates.specs.Decided.{control_truth, nowhere, by_rules, rule_is_open, by_clock, event_is_open}
-use Rattle.hyd_spec_certificates.specs.Valid.{LeavesLinks, by_rules as left_by_rules, by_clock as left_by_clock}
+use Rattle.hyd_spec_certificates.specs.Decided.{RuleIsOpen, EventIsOpen, control_truth, nowhere}
 use Rattle.hyd_spec_certificates.specs.Valid.{levels_next, AreStates, ControlsAreDecided, Continues, LeadsOn, continues}
 use Rattle.hyd_spec_certificates.specs.Valid.{finishes, IsValid}
 use Rattle.hyd_spec_reports.specs.declared.CertRefused.{CertRefused}
@@ -30,8 +28,9 @@ use Rattle.hyd_spec_reports.specs.Stops.{turn, open_states, is_open_control}
 use Rattle.hyd_spec_reports.specs.RefusedRecords.{IsRefused, IsRefusedBy, IsDue, HasItsGrid, IsCertified, IsFirstToFail}
 use Rattle.hyd_spec_reports.specs.RefusedRecords.{LeavesOpen, rule, event, tank, control, HasOtherLength, at_end}
 use Rattle.hyd_spec_reports.specs.RefusedRecords.{before_end}
-use Rattle.hyd_theorems_on_definitions.proofs.OneAnswer.{one_end}
-use Rattle.hyd_theorems_on_definitions.proofs.Failing.{fails-no-certificate, one-failure}
+use Rattle.hyd_theorems_on_definitions.proofs.OneEndOfPeriod.{not-last, leaves-not-last, leaves-one, leaves-no-rule}
+use Rattle.hyd_theorems_on_definitions.proofs.OneEndOfPeriod.{leaves-no-event}
+use Rattle.hyd_theorems_on_definitions.proofs.OneFirstFailure.{fails-no-certificate, one-failure}
 use Rattle.hyd_theorems_on_definitions.proofs.OneRun.{one_grid}
 
 -- ---- lists
@@ -118,53 +117,9 @@ module _ (project : Project) (grid : Grid) (row : Record) where
 
 -- ---- matters
 
-module _ (project : Project) (grid : Grid) (standing : Standing) (row : Record) where
-  not-last : (e : End) → EndsBy project grid standing row e → standing.time ≢ project.times.duration
-  not-last _ (by_rules m f) = m.not_last
-  not-last _ (rule_is_open m is) = m.not_last
-  not-last _ (by_clock n l) = n.not_last
-  not-last _ (event_is_open n l ne) = n.not_last
-
-  leaves-not-last : (seconds : ℕ) (links : List LinkState) → LeavesLinks project grid standing row seconds links
-      → standing.time ≢ project.times.duration
-  leaves-not-last seconds _ (left_by_rules e) = not-last (ByRules seconds) e
-  leaves-not-last seconds _ (left_by_clock e) = not-last (WithoutRules seconds) e
-
-  open-not-last : LeavesOpen project grid standing row → standing.time ≢ project.times.duration
-  open-not-last (rule open_rule e) = not-last (RuleIsOpen open_rule) e
-  open-not-last (event earliest latest e) = not-last (EventIsOpen earliest latest) e
-  open-not-last (tank seconds links number leaves is) = leaves-not-last seconds links leaves
-  open-not-last (control seconds links number leaves is) = leaves-not-last seconds links leaves
-
-  -- a decided end is one, and isn't open
-  leaves-one : (s t : ℕ) (links others : List LinkState) → LeavesLinks project grid standing row s links
-      → LeavesLinks project grid standing row t others → s ≡ t
-  leaves-one s t _ _ (left_by_rules e) (left_by_rules f) = let same = one_end project grid standing row (ByRules s)
-      (ByRules t) e f in cc
-  leaves-one s t _ _ (left_by_rules e) (left_by_clock f) = absurd
-      (let same = one_end project grid standing row (ByRules s) (WithoutRules t) e f in cc)
-  leaves-one s t _ _ (left_by_clock e) (left_by_rules f) = absurd
-      (let same = one_end project grid standing row (WithoutRules s) (ByRules t) e f in cc)
-  leaves-one s t _ _ (left_by_clock e) (left_by_clock f) = let same = one_end project grid standing row
-      (WithoutRules s) (WithoutRules t) e f in cc
-
-  leaves-no-rule : (s : ℕ) (links : List LinkState) (open_rule : OpenRule)
-      → LeavesLinks project grid standing row s links
-      → EndsBy project grid standing row (RuleIsOpen open_rule) → ⊥
-  leaves-no-rule s _ open_rule (left_by_rules e) f = absurd (let same = one_end project grid standing row (ByRules s)
-      (RuleIsOpen open_rule) e f in cc)
-  leaves-no-rule s _ open_rule (left_by_clock e) f = absurd (let same = one_end project grid standing row
-      (WithoutRules s) (RuleIsOpen open_rule) e f in cc)
-
-  leaves-no-event : (s : ℕ) (links : List LinkState) (earliest latest : ℕ)
-      → LeavesLinks project grid standing row s links
-      → EndsBy project grid standing row (EventIsOpen earliest latest) → ⊥
-  leaves-no-event s _ earliest latest (left_by_rules e) f = absurd
-      (let same = one_end project grid standing row (ByRules s) (EventIsOpen earliest latest) e f in cc)
-  leaves-no-event s _ earliest latest (left_by_clock e) f = absurd
-      (let same = one_end project grid standing row (WithoutRules s) (EventIsOpen earliest latest) e f in cc)
-
-  states-decided : (levels : List Interval) (states : List TankState) (number : ℕ) → AreStates project levels states
+module _ (project : Project) where
+  -- where each tank's state is decided none is the first that is open
+  pub states-decided : (levels : List Interval) (states : List TankState) (number : ℕ) → AreStates project levels states
       → position (λ is_open. is_open) (open_states project levels) ≡ Some number → ⊥
   states-decided levels states number are e =
       let found = position-Some (λ (is_open : Bool). is_open) (open_states project levels) number false e in
@@ -172,7 +127,8 @@ module _ (project : Project) (grid : Grid) (standing : Standing) (row : Record) 
       (λ k tank. state_of tank
       (slice_index_or levels k nowhere)) 0 project.tanks.list states number false are found.0 found.1
 
-  controls-decided : (levels : List Interval) (number : ℕ) → ControlsAreDecided project levels
+  -- where each level control is decided none is the first that is open
+  pub controls-decided : (levels : List Interval) (number : ℕ) → ControlsAreDecided project levels
       → position (is_open_control levels) project.controls.list ≡ Some number → ⊥
   controls-decided levels number decided e =
       let found = passing-of (is_open_control levels) project.controls.list number e in
@@ -192,22 +148,34 @@ module _ (project : Project) (grid : Grid) (standing : Standing) (row : Record) 
           (record c { when = AtClock time }) ≡ true = subst (λ (w : When). is_open_control levels
           (record c { when = w }) ≡ true) at is in cc)
 
+module _ (project : Project) (grid : Grid) (standing : Standing) (row : Record) where
+  open-not-last : LeavesOpen project grid standing row → standing.time ≢ project.times.duration
+  open-not-last (rule open_rule e) = not-last project grid standing row (RuleIsOpen open_rule) e
+  open-not-last (event earliest latest e) = not-last project grid standing row (EventIsOpen earliest latest) e
+  open-not-last (tank seconds links number leaves is) =
+      leaves-not-last project grid standing row seconds links leaves
+  open-not-last (control seconds links number leaves is) =
+      leaves-not-last project grid standing row seconds links leaves
+
   -- where a record leads on, no matter is open
   continues-closed : (next : Standing) → Continues project grid standing row next
       → LeavesOpen project grid standing row → ⊥
-  continues-closed next on (rule open_rule e) = leaves-no-rule row.length next.commanded open_rule on.leaves_links e
+  continues-closed next on (rule open_rule e) =
+      leaves-no-rule project grid standing row row.length next.commanded open_rule on.leaves_links e
   continues-closed next on (event earliest latest e) =
-      leaves-no-event row.length next.commanded earliest latest on.leaves_links e
+      leaves-no-event project grid standing row row.length next.commanded earliest latest on.leaves_links e
   continues-closed next on (tank seconds links number leaves is) =
-      let same = leaves-one seconds row.length links next.commanded leaves on.leaves_links in
-      states-decided next.levels next.tanks number on.tanks
+      let same = leaves-one project grid standing row seconds row.length links next.commanded leaves
+      on.leaves_links in
+      states-decided project next.levels next.tanks number on.tanks
       (subst (λ (ls : List Interval). position (λ is_open. is_open) (open_states project ls) ≡ Some number)
       (sym on.levels)
       (subst (λ (n : ℕ). position (λ is_open. is_open) (open_states project
       (levels_next project grid standing row n)) ≡ Some number) same is))
   continues-closed next on (control seconds links number leaves is) =
-      let same = leaves-one seconds row.length links next.commanded leaves on.leaves_links in
-      controls-decided next.levels number on.controls
+      let same = leaves-one project grid standing row seconds row.length links next.commanded leaves
+      on.leaves_links in
+      controls-decided project next.levels number on.controls
       (subst (λ (ls : List Interval). position (is_open_control ls) project.controls.list ≡ Some number) (sym on.levels)
       (subst (λ (n : ℕ). position
       (is_open_control (levels_next project grid standing row n)) project.controls.list ≡ Some number) same is))
@@ -221,10 +189,10 @@ module _ (project : Project) (grid : Grid) (standing : Standing) (row : Record) 
       → ⊥
   same-length next (continues on) (at_end last other) = on.not_last last
   same-length next (continues on) (before_end seconds links leaves other) =
-      other (leaves-one row.length seconds next.commanded links on.leaves_links leaves)
+      other (leaves-one project grid standing row row.length seconds next.commanded links on.leaves_links leaves)
   same-length next (finishes on) (at_end last other) = other on.no_length
   same-length next (finishes on) (before_end seconds links leaves other) =
-      leaves-not-last seconds links leaves on.is_last
+      leaves-not-last project grid standing row seconds links leaves on.is_last
 
 -- ---- refusals
 

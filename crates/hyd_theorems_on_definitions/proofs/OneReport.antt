@@ -1,6 +1,6 @@
 -- A record has one report.
-use Rattle.std.proofs.Common.{◌≡◌, ◌≢◌, ℕ, suc, ℤ, ◌-ℤ◌, Bool, true, false, MatchBool, List, [], ◌∷◌, ◌++◌, refl, sym}
-use Rattle.std.proofs.Common.{ap, subst, ◌∙◌, ◌+◌, map}
+use Rattle.std.proofs.Common.{◌≡◌, ℕ, suc, ℤ, ◌-ℤ◌, Bool, true, false, MatchBool, List, [], ◌∷◌, ◌++◌, refl, sym, ap}
+use Rattle.std.proofs.Common.{subst, ◌∙◌, ◌+◌, map}
 use Rattle.hyd_num.specs.Rational.{Rational}
 use Rattle.hyd_num.specs.PrintedDecimals.{head_quantity, pressure_quantity, flow_quantity}
 use Rattle.hyd_num.proofs.Floors.{one_ceiling, one_floor}
@@ -11,8 +11,7 @@ use Rattle.hyd_spec.specs.Rules.{state_of_link}
 use Rattle.hyd_spec_certificates.specs.PeriodNetwork.{Grid, GridLink, GridJunction}
 use Rattle.hyd_spec_certificates.specs.FlowIntervals.{difference, out_box}
 use Rattle.hyd_spec_certificates.specs.RecordAndStanding.{Record, Standing}
-use Rattle.hyd_spec_certificates.specs.Decided.{heads_below, heads_above, links_at, End, EndsBy, ByRules, WithoutRules}
-use Rattle.hyd_spec_certificates.specs.Decided.{by_rules, rule_is_open, by_clock, event_is_open}
+use Rattle.hyd_spec_certificates.specs.Decided.{heads_below, heads_above, links_at, EndsBy, ByRules, WithoutRules}
 use Rattle.hyd_spec.specs.declared.Change.{Change}
 use Rattle.hyd_spec_reports.specs.declared.Event.{Event}
 use Rattle.hyd_spec_reports.specs.ReportLine.{ReportLine, TimeLine, JunctionLine, ReservoirLine, TankLine, LinkLine}
@@ -20,7 +19,7 @@ use Rattle.hyd_spec_reports.specs.Report.{Prints, LineEach, IsJunctionLine, IsRe
 use Rattle.hyd_spec_reports.specs.Report.{status_of, AreStateLines, is_report_time, control_lines, EndBrings, at_end}
 use Rattle.hyd_spec_reports.specs.Report.{by_rules as ended_by_rules, by_clock as ended_by_clock, AreEndLines}
 use Rattle.hyd_spec_reports.specs.Report.{event_line, change_line, IsReport}
-use Rattle.hyd_theorems_on_definitions.proofs.OneAnswer.{one_end}
+use Rattle.hyd_theorems_on_definitions.proofs.OneEndOfPeriod.{one_end, not-last}
 
 -- ---- printed numbers
 
@@ -111,12 +110,6 @@ module _ (project : Project) (grid : Grid) (standing : Standing) (row : Record) 
 
   -- ---- the end of the period
 
-  not_last : (e : End) → EndsBy project grid standing row e → standing.time ≢ project.times.duration
-  not_last _ (by_rules m f) = m.not_last
-  not_last _ (rule_is_open m is) = m.not_last
-  not_last _ (by_clock n l) = n.not_last
-  not_last _ (event_is_open n l ne) = n.not_last
-
   differ : (n : ℕ) → EndsBy project grid standing row (ByRules n) → EndsBy project grid standing row (WithoutRules n)
       → ⊥
   differ n e f = let same = one_end project grid standing row (ByRules n) (WithoutRules n) e f in cc
@@ -127,12 +120,16 @@ module _ (project : Project) (grid : Grid) (standing : Standing) (row : Record) 
   one_brings : (e f : List Event) (c d : List Change) → EndBrings project grid standing row e c
       → EndBrings project grid standing row f d → AreSame e f c d
   one_brings _ _ _ _ (at_end e) (at_end f) = (refl, refl)
-  one_brings _ _ _ _ (at_end e) (ended_by_rules f) = absurd (not_last (ByRules row.length) f e)
-  one_brings _ _ _ _ (at_end e) (ended_by_clock f) = absurd (not_last (WithoutRules row.length) f e)
-  one_brings _ _ _ _ (ended_by_rules f) (at_end e) = absurd (not_last (ByRules row.length) f e)
+  one_brings _ _ _ _ (at_end e) (ended_by_rules f) =
+      absurd (not-last project grid standing row (ByRules row.length) f e)
+  one_brings _ _ _ _ (at_end e) (ended_by_clock f) =
+      absurd (not-last project grid standing row (WithoutRules row.length) f e)
+  one_brings _ _ _ _ (ended_by_rules f) (at_end e) =
+      absurd (not-last project grid standing row (ByRules row.length) f e)
   one_brings _ _ _ _ (ended_by_rules e) (ended_by_rules f) = (refl, refl)
   one_brings _ _ _ _ (ended_by_rules e) (ended_by_clock f) = absurd (differ row.length e f)
-  one_brings _ _ _ _ (ended_by_clock f) (at_end e) = absurd (not_last (WithoutRules row.length) f e)
+  one_brings _ _ _ _ (ended_by_clock f) (at_end e) =
+      absurd (not-last project grid standing row (WithoutRules row.length) f e)
   one_brings _ _ _ _ (ended_by_clock e) (ended_by_rules f) = absurd (differ row.length f e)
   one_brings _ _ _ _ (ended_by_clock e) (ended_by_clock f) = (refl, refl)
 

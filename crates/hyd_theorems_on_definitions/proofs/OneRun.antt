@@ -3,23 +3,26 @@ use Rattle.std.proofs.Common.{◌≡◌, ℕ, suc, ◌<◌, ℤ, Bool, true, fal
 use Rattle.std.proofs.Common.{subst, ◌∙◌, arith}
 use Rattle.std.specs.Prelude.{slice_index_or}
 use Rattle.std.specs.List.{AllZip, AllByRecursion}
-use Rattle.hyd_spec.specs.ProgramTypes.{Project, Junction, Capacity}
+use Rattle.hyd_spec.specs.ProgramTypes.{Project, Junction, Capacity, LinkState}
 use Rattle.hyd_spec_certificates.specs.declared.Problem.{Problem}
 use Rattle.hyd_spec_certificates.specs.declared.Problem.TheVariants.{Main, Pinned}
 use Rattle.hyd_spec_certificates.specs.declared.Side.{Side}
 use Rattle.hyd_spec_certificates.specs.declared.Side.TheVariants.{Upper, Lower}
 use Rattle.hyd_spec.specs.DemandsReservoirHeadsAndCurves.{demand_of, minimum_pressure, required_pressure}
 use Rattle.hyd_spec.specs.Outflow.{is_pressure_driven}
+use Rattle.hyd_spec.specs.declared.TankState.{TankState}
 use Rattle.hyd_spec_certificates.specs.EnclosingFunctions.{DemandLaw, Fixed, Driven}
-use Rattle.hyd_spec_certificates.specs.PeriodNetwork.{Grid, GridJunction, IsDriven, IsDemandLaw, IsJunctionOf}
+use Rattle.hyd_spec_certificates.specs.PeriodNetwork.{Grid, GridJunction, IsDriven, IsDemandLaw, IsJunctionOf, IsGrid}
 use Rattle.hyd_spec_certificates.specs.Certificate.{IsTight}
 use Rattle.hyd_spec_certificates.specs.RecordAndStanding.{Record, Vectors, Standing, no_vectors, vector_of}
 use Rattle.hyd_spec_certificates.specs.Valid.{IsProblem, IsGridAt, LeadsOn, IsValid}
+use Rattle.hyd_spec_certificates.specs.Interval.{Interval}
+use Rattle.hyd_spec_certificates.specs.Decided.{links_at}
 use Rattle.hyd_spec_reports.specs.ReportLine.{ReportLine}
 use Rattle.hyd_spec_reports.specs.Report.{IsReport}
 use Rattle.hyd_spec_reports.specs.PromisesOfRunsAndChecks.{Found, IsFound, IsRunFrom, none, more, IsTightThroughout}
 use Rattle.hyd_theorems_on_definitions.proofs.OneLength.{one_length}
-use Rattle.hyd_theorems_on_definitions.proofs.OneStanding.{one_standing, one_vector}
+use Rattle.hyd_theorems_on_definitions.proofs.OneStandingAndTightVector.{one_standing, one_vector}
 use Rattle.hyd_theorems_on_definitions.proofs.OneReport.{one_report}
 use Rattle.hyd_theorems_on_definitions.proofs.OneCapacity.{one_capacity}
 
@@ -58,14 +61,18 @@ module _ (project : Project) where
   same_junctions time (j ∷ js) (a ∷ xs) (b ∷ ys) x y =
       let first = same_junction time j a b x.0 y.0 in let rest = same_junctions time js xs ys x.1 y.1 in cc
 
-  pub one_grid : (standing : Standing) (a b : Grid) → IsGridAt project standing a → IsGridAt project standing b → a ≡ b
-  one_grid standing a b x y =
-      let junctions = same_junctions standing.time project.junctions.list a.junctions b.junctions x.junctions
-      y.junctions in
+  pub same_grid : (time : ℕ) (levels : List Interval) (states : List TankState) (ways : List LinkState) (a b : Grid)
+      → IsGrid project time levels states ways a → IsGrid project time levels states ways b → a ≡ b
+  same_grid time levels states ways a b x y =
+      let junctions = same_junctions time project.junctions.list a.junctions b.junctions x.junctions y.junctions in
       let reservoirs = x.reservoirs ∙ sym y.reservoirs in
       let tanks = x.tank_heads ∙ sym y.tank_heads in
       let links = x.links_are ∙ sym y.links_are in
       λ i. record { junctions = junctions i; reservoirs = reservoirs i; tanks = tanks i; links = links i }
+
+  pub one_grid : (standing : Standing) (a b : Grid) → IsGridAt project standing a → IsGridAt project standing b → a ≡ b
+  one_grid standing a b x y =
+      same_grid standing.time standing.levels standing.tanks (links_at project standing) a b x y
 
   -- ---- records
 
@@ -158,12 +165,12 @@ module _ (project : Project) where
       λ i. record { standing = standing i; grid = grid i; row = row i; lines = lines i; next = next i }
 
   -- The first period of a run, and the rest.
-  record Steps (start : Standing) (found : Found) (rest : List Found) (last : Standing) : Type 0 where
-    begins : found.standing ≡ start
-    is_found : IsFound project found
-    goes_on : IsRunFrom project found.next rest last
+  pub record Steps (start : Standing) (found : Found) (rest : List Found) (last : Standing) : Type 0 where
+    pub begins : found.standing ≡ start
+    pub is_found : IsFound project found
+    pub goes_on : IsRunFrom project found.next rest last
 
-  steps : (start : Standing) (found : Found) (rest : List Found) (last : Standing)
+  pub steps : (start : Standing) (found : Found) (rest : List Found) (last : Standing)
       → IsRunFrom project start (found ∷ rest) last → Steps start found rest last
   steps _ found rest last (more is on) = record { begins = refl; is_found = is; goes_on = on }
 
@@ -183,14 +190,15 @@ module _ (project : Project) where
       let rest = one_run a.next xs ys last other s.goes_on on tight.1 too.1 (omega (arith, e)) in
       cc
 
-  -- and it leaves one standing
-  ends_here : (start last : Standing) → IsRunFrom project start [] last → start ≡ last
+  -- a run of no periods ends where it begins
+  pub ends_here : (start last : Standing) → IsRunFrom project start [] last → start ≡ last
   ends_here start last run = over start [] last run refl
     where
       over : (s : Standing) (fs : List Found) (l : Standing) → IsRunFrom project s fs l → fs ≡ [] → s ≡ l
       over _ _ l none e = refl
       over _ _ l (more is on) e = absurd (cc)
 
+  -- a run leaves one standing
   one_last : (start : Standing) (xs : List Found) (last other : Standing) → IsRunFrom project start xs last
       → IsRunFrom project start xs other → last ≡ other
   one_last start [] last other x y = sym (ends_here start last x) ∙ ends_here start other y

@@ -19,7 +19,7 @@ use Rattle.hyd_spec.specs.Outflow.{IsWithinTolerance, pressure_at, is_pressure_d
 use Rattle.hyd_spec.specs.Outflow.{FollowsEmitter, part_at_least, part_at_most}
 use Rattle.hyd_spec_certificates.specs.PeriodNetwork.{IsDriven, IsDemandLaw}
 use Rattle.hyd_theorems_on_definitions.specs.TermsOfTheorems.{IsLaw, IsSoundCapacity}
-use Rattle.hyd_lemmas.proofs.Trials.{le-yes, le-no}
+use Rattle.hyd_lemmas.proofs.BooleanTests.{le-yes, le-no}
 use Rattle.hyd_theorems_on_definitions.proofs.EachLaw.{IsLaw-quad}
 use Rattle.hyd_theorems_on_definitions.proofs.LinkLaws.{IsLaw-lifted, at_most_for, at_least_for}
 use Rattle.hyd_theorems_on_definitions.proofs.EachLaw.{IsSoundCapacity-made}
@@ -32,7 +32,7 @@ use Rattle.hyd_num.specs.Fraction.{Fraction}
 use Rattle.hyd_num.specs.FileQuantity.{head_ticks_in_billionth_of_metre, numerator_of_billionth_of_pound}
 use Rattle.hyd_num.specs.FileQuantity.{pressure_numerator, pressure_denominator, pressure_fraction}
 use Rattle.hyd_spec.specs.Loss.{SquareLossAtMost, SquareLossAtLeast}
-use Rattle.hyd_theorems_on_definitions.proofs.Sums.{flow-below, flow-above}
+use Rattle.hyd_theorems_on_definitions.proofs.FlowsAtOneNode.{flow-below, flow-above}
 
 -- ---- emitters
 

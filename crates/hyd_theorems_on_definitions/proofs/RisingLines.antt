@@ -12,8 +12,8 @@ use Rattle.hyd_num.specs.Rational.{Rational, whole}
 use Rattle.hyd_net.specs.Curves.{Knot, on_line, between, value_from, value_at}
 use Rattle.hyd_lemmas.proofs.Integers.{exchanged}
 use Rattle.hyd_theorems_on_definitions.specs.TermsOfTheorems.{AreInOrder}
-use Rattle.hyd_lemmas.proofs.Trials.{lt-no, lt-yes}
-use Rattle.hyd_theorems_on_definitions.proofs.Leading.{Leads, UpTo, From, through, one-within}
+use Rattle.hyd_lemmas.proofs.BooleanTests.{lt-no, lt-yes}
+use Rattle.hyd_theorems_on_definitions.proofs.ValuesAtTwoScales.{Leads, UpTo, From, through, one-within}
 
 -- ---- one line
 

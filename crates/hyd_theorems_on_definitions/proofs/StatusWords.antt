@@ -23,9 +23,9 @@ use Rattle.hyd_spec_reports.specs.Report.{by_drive, by_knots, by_setting, status
 use Rattle.hyd_spec_reports.specs.Claims.{DriveIs, drive_of, SettingIs, StatusHolds}
 use Rattle.hyd_lemmas.proofs.Integers.{exchanged, floor_low, ceiling_high}
 use Rattle.hyd_theorems_on_definitions.specs.TermsOfTheorems.{LiesIn, AreInOrder}
-use Rattle.hyd_lemmas.proofs.Trials.{le-yes, lt-yes}
+use Rattle.hyd_lemmas.proofs.BooleanTests.{le-yes, lt-yes}
 use Rattle.hyd_theorems_on_definitions.proofs.EachLaw.{IsLaw-each}
-use Rattle.hyd_theorems_on_definitions.proofs.Grids.{valve-sound, bend-sound, lift-above}
+use Rattle.hyd_theorems_on_definitions.proofs.LawsOfGrids.{valve-sound, bend-sound, lift-above}
 use Rattle.hyd_theorems_on_definitions.proofs.CurveKnots.{pump_knots-in_order}
 use Rattle.hyd_theorems_on_definitions.proofs.RisingLines.{value-positive, value-negative}
 

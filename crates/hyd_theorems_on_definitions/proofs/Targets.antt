@@ -16,9 +16,9 @@ use Rattle.hyd_lemmas.proofs.Integers.{exchanged, floor_low}
 use Rattle.hyd_theorems_on_definitions.proofs.RisingLines.{some-den}
 use Rattle.hyd_theorems_on_definitions.proofs.CurveLevels.{AreAlike, same, above, below, AreRisingPoints, at-level}
 use Rattle.hyd_theorems_on_definitions.proofs.CurveLevels.{levels_undo, over-level, over-volume}
-use Rattle.hyd_theorems_on_definitions.proofs.Placing.{above-yes, above-from, below-yes, below-from, placed-is}
-use Rattle.hyd_lemmas.proofs.Trials.{or-left, or-right, le-from, le-yes}
-use Rattle.hyd_theorems_on_definitions.proofs.Levelling.{pairs-tail, exact-some, curve-some}
+use Rattle.hyd_theorems_on_definitions.proofs.ValuesByContent.{above-yes, above-from, below-yes, below-from, placed-is}
+use Rattle.hyd_lemmas.proofs.BooleanTests.{or-left, or-right, le-from, le-yes}
+use Rattle.hyd_theorems_on_definitions.proofs.StocksInIntervals.{pairs-tail, exact-some, curve-some}
 
 -- tests that follow from each other are one
 pub one-test : (a b : Bool) → (a ≡ true → b ≡ true) → (b ≡ true → a ≡ true) → a ≡ b

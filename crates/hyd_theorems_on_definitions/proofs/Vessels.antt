@@ -12,19 +12,19 @@ use Rattle.hyd_net.specs.ListView.{ListView}
 use Rattle.hyd_net.specs.NumberRanges.{Numbers}
 use Rattle.hyd_net.specs.RoundedFileNumbers.{IsAreaMade}
 use Rattle.hyd_net.specs.NetworkRanges.{IsTank, IsShapeOf}
-use Rattle.hyd_net.specs.Sound.{Sound}
+use Rattle.hyd_net.specs.Sound.{IsSound}
 use Rattle.hyd_spec.specs.ProgramTypes.{Project, Tank, VolumePoint}
 use Rattle.hyd_spec.specs.Lists.{Each}
 use Rattle.hyd_spec.specs.Tank.{Cylinder, Curve, shape_points, walls_of}
 use Rattle.hyd_theorems_on_definitions.specs.TermsOfTheorems.{IsVessel}
-use Rattle.hyd_theorems_on_definitions.proofs.OneStanding.{there}
+use Rattle.hyd_theorems_on_definitions.proofs.OneStandingAndTightVector.{there}
 
 -- what is asked of each tank
 pub record IsSoundTank (project : Project) (tank : Tank) : Type 0 where
   pub ranges : IsTank project.shapes.list tank
   pub area : IsAreaMade project.options.unit tank
 
-pub sound_tank : (project : Project) → Sound project → Each project.tanks.list (λ k tank. IsSoundTank project tank)
+pub sound_tank : (project : Project) → IsSound project → Each project.tanks.list (λ k tank. IsSoundTank project tank)
 sound_tank project sound k tank at =
     let inside = slice_get_within project.tanks.list k tank at in
     let e = get_or_from_slice_get project.tanks.list k tank tank at in
@@ -103,6 +103,6 @@ by-shape : (project : Project) (tank : Tank) (shape : Option ℕ) → tank.shape
 by-shape project tank None e is = cylinder project tank e is
 by-shape project tank (Some n) e is = curve project tank n e is
 
-pub vessels : (project : Project) → Sound project → Each project.tanks.list
+pub vessels : (project : Project) → IsSound project → Each project.tanks.list
     (λ k tank. IsVessel (walls_of project tank) tank)
 vessels project sound k tank at = by-shape project tank tank.shape refl (sound_tank project sound k tank at)

@@ -10,14 +10,16 @@ use Rattle.hyd_spec_certificates.specs.RecordAndStanding.{Record, Standing}
 use Rattle.hyd_spec_certificates.specs.Decided.{SomeReaches, IsClockLength, stocks_of_tank, inflow_of_tank}
 use Rattle.hyd_theorems_on_definitions.specs.TermsOfTheorems.{SomeReachesFirst, NoneReachesBefore}
 
+-- the clock allows a period one length
+pub one-clock-length : (project : Project) (standing : Standing) (cap : ℕ) → IsClockLength project standing.time cap
+    → (k : ℕ) → IsClockLength project standing.time k → k ≡ cap
+one-clock-length project standing cap clock k other =
+    let a = clock.least (standing.time + k) other.holds in
+    let b = other.least (standing.time + cap) clock.holds in
+    omega (arith, a, b)
+
 module _ (test : Walls → Tank → Stocks → Interval → ℤ → Bool → ℕ → Bool) (project : Project) (grid : Grid)
     (standing : Standing) (row : Record) (cap : ℕ) (clock : IsClockLength project standing.time cap) where
-  one-cap : (k : ℕ) → IsClockLength project standing.time k → k ≡ cap
-  one-cap k other =
-      let a = clock.least (standing.time + k) other.holds in
-      let b = other.least (standing.time + cap) clock.holds in
-      omega (arith, a, b)
-
   pub ends_at_least : (second : ℕ) → NoneReachesBefore test project grid standing row cap second
       → (second ≡ cap) ⊎ SomeReachesFirst test project grid standing row cap second
       → IsLeast (λ s. IsClockLength project standing.time s ⊎
@@ -54,7 +56,10 @@ module _ (test : Walls → Tank → Stocks → Interval → ℤ → Bool → ℕ
 
       least : (k : ℕ) → IsClockLength project standing.time k ⊎
           ((1 ≤ k) × SomeReaches test project grid standing row k) → second ≤ k
-      least k (inl other) = let e = one-cap k other in let l = none.by_clock in omega (arith, e, l)
+      least k (inl other) =
+          let e = one-clock-length project standing cap clock k other in
+          let l = none.by_clock in
+          omega (arith, e, l)
       least k (inr reaches) =
           let some = reaches.1 in
           let first = none.each some.watch some.is_watched some.tank some.is_tank in

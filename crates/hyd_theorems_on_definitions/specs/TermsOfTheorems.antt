@@ -258,3 +258,7 @@ IsSoundDemand (Driven demand capacity minimum required) = (pos 0 ≤ℤ demand) 
 pub record IsSteady (grid : Grid) : Type 0 where
   pub sound : IsSoundGrid grid
   pub demands : AllByRecursion (λ junction. IsSoundDemand junction.demand) grid.junctions
+
+-- Each tank's interval is in order.
+abbrev pub TanksInOrder : Grid → Type 0
+TanksInOrder grid = (k : ℕ) (x : Interval) → slice_get grid.tanks k ≡ Some x → x.lo ≤ℤ x.hi

@@ -4,7 +4,7 @@
 ghost use Rattle.std.specs.Prelude.{◌≡◌, ◌<◌, ◌≤◌, ◌≤ℤ◌, ◌<ℤ◌, ◌||◌, ℕ, ℤ, Bool, true, false, List, Some};
 ghost use Rattle.hyd_num.specs.Rational.{Rational, is_at_most};
 ghost use Rattle.hyd_net.specs.Curves.{value_at, volume_at, volume_knots, IsVolumeCurve};
-ghost use Rattle.hyd_net.specs.Sound.{Sound};
+ghost use Rattle.hyd_net.specs.Sound.{IsSound};
 ghost use Rattle.hyd_spec.specs.ProgramTypes.{Project, Tank, VolumePoint};
 ghost use Rattle.hyd_spec.specs.declared.TankState.{TankState};
 ghost use Rattle.hyd_spec.specs.Lists.{Each};
@@ -21,7 +21,7 @@ ghost use Rattle.hyd_theorems_on_definitions.specs.TermsOfTheorems.{IsWithin, Ha
 
 /// The tanks of a sound network hold water, and their bounds are in order.
 pub fn vessels()
-    ensures { (project : Project) → Sound project → Each project.tanks.list
+    ensures { (project : Project) → IsSound project → Each project.tanks.list
         (λ k tank. IsVessel (walls_of project tank) tank) }
 {}
 

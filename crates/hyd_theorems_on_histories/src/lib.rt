@@ -7,7 +7,7 @@ ghost use Rattle.std.specs.Prelude.{◌≡◌, ◌≢◌, ◌<◌, ◌+◌, ℕ,
 ghost use Rattle.std.specs.List.{list_any, AllZip, AllByRecursion};
 ghost use Rattle.hyd_num.specs.PrintedDecimals.{head_quantity, pressure_quantity, flow_quantity};
 ghost use Rattle.hyd_num.specs.declared.flow_units.FlowUnit.{FlowUnit};
-ghost use Rattle.hyd_net.specs.Sound.{Sound};
+ghost use Rattle.hyd_net.specs.Sound.{IsSound};
 ghost use Rattle.hyd_net.specs.ControlsAndRules.{Compares};
 ghost use Rattle.hyd_spec.specs.ProgramTypes.{Project, Clause, LinkState};
 ghost use Rattle.hyd_spec.specs.PumpPatternsAndSimpleControls.{started};
@@ -60,7 +60,7 @@ pub fn readings()
 
 /// Where no rule is open, the rules change what the record decides.
 pub fn changes()
-    ensures { (project : Project) → Sound project → (S : ℕ) (period : Period) (grid : Grid) (standing : Standing)
+    ensures { (project : Project) → IsSound project → (S : ℕ) (period : Period) (grid : Grid) (standing : Standing)
         (row : Record)
         → IsUnder project S period grid standing row → (seconds instant : ℕ) → instant ≡ standing.time + seconds
         → list_any is_unknown (rule_truths project grid standing row seconds) ≡ false
@@ -81,7 +81,7 @@ pub fn levels()
 
 /// A period that isn't the last lasts as long as the record decides, and leaves the links commanded as it decides.
 pub fn lengths()
-    ensures { (project : Project) → Sound project → (S : ℕ) (period : Period) (grid : Grid) (standing : Standing)
+    ensures { (project : Project) → IsSound project → (S : ℕ) (period : Period) (grid : Grid) (standing : Standing)
         (row : Record)
         → IsUnder project S period grid standing row → standing.time ≢ project.times.duration
         → HasItsLength project S period
@@ -91,7 +91,8 @@ pub fn lengths()
 
 /// Each line that a record's end brings holds of the period.
 pub fn end_lines()
-    ensures { (project : Project) → Sound project → (S : ℕ) (commanded : List LinkState) (period : Period) (grid : Grid)
+    ensures { (project : Project) → IsSound project → (S : ℕ) (commanded : List LinkState) (period : Period)
+        (grid : Grid)
         (standing : Standing) (row : Record) → IsUnder project S period grid standing row → IsKept project standing
         → AllZip (IsOwnState project) project.links.list (links_at project standing) → commanded ≡ standing.commanded
         → period.length ≡ row.length → (lines : List ReportLine) → AreEndLines project grid standing row lines
@@ -102,11 +103,11 @@ pub fn end_lines()
 
 /// Pump patterns, controls and rules leave each link in a state of its own.
 pub fn commands()
-    ensures starts { (project : Project) → Sound project
+    ensures starts { (project : Project) → IsSound project
         → (time : ℕ) (acts : ℕ → Bool → ℤ → Bool) (states : List LinkState)
         → AllZip (IsOwnState project) project.links.list states
         → AllZip (IsOwnState project) project.links.list (started project time acts states) }
-    ensures acts { (project : Project) → Sound project → (values : List Bool) (states : List LinkState)
+    ensures acts { (project : Project) → IsSound project → (values : List Bool) (states : List LinkState)
         → AllZip (IsOwnState project) project.links.list states
         → AllZip (IsOwnState project) project.links.list (acted project values states) }
 {}
@@ -114,8 +115,8 @@ pub fn commands()
 /// The first standing of a run keeps what standings keep, and where a record leads on from one that does, so does the
 /// next.
 pub fn kept()
-    ensures start { (project : Project) → Sound project → IsKept project (initial_standing project) }
-    ensures next { (project : Project) → Sound project → (grid : Grid) (standing : Standing) (row : Record)
+    ensures start { (project : Project) → IsSound project → IsKept project (initial_standing project) }
+    ensures next { (project : Project) → IsSound project → (grid : Grid) (standing : Standing) (row : Record)
         (next : Standing)
         → IsKept project standing → Continues project grid standing row next → IsKept project next }
 {}
@@ -127,14 +128,14 @@ pub fn steps()
     ensures start { (project : Project) (S : ℕ) → 0 < S
         → AgreesWith project S (initial_standing project) 0 (initial_levels project S) (initial_volumes project S)
         (initial_links project) }
-    ensures under { (project : Project) → Sound project → (S : ℕ) → 0 < S
+    ensures under { (project : Project) → IsSound project → (S : ℕ) → 0 < S
         → (grid : Grid) (standing : Standing) (row : Record)
         (next : Standing) → IsKept project standing → IsValid project standing grid row next
         → (time : ℕ) (levels volumes : List ℤ) (commanded : List LinkState)
         → AgreesWith project S standing time levels volumes commanded
         → (period : Period) → Begins project S time levels volumes commanded period → IsPeriod project S period
         → IsUnder project S period grid standing row }
-    ensures agrees { (project : Project) → Sound project → (S : ℕ) → 0 < S
+    ensures agrees { (project : Project) → IsSound project → (S : ℕ) → 0 < S
         → (grid : Grid) (standing : Standing) (row : Record)
         (next : Standing) → IsKept project standing → IsValid project standing grid row next
         → (time : ℕ) (levels volumes : List ℤ) (commanded : List LinkState)
@@ -150,6 +151,7 @@ pub fn steps()
 
 /// Every history of a sound network agrees with every run of valid records.
 pub fn induction()
-    ensures { (project : Project) → Sound project → (founds : List Found) (last : Standing) → IsRun project founds last
+    ensures { (project : Project) → IsSound project → (founds : List Found) (last : Standing)
+        → IsRun project founds last
         → EveryHistoryAgrees project founds }
 {}

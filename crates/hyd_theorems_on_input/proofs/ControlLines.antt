@@ -29,13 +29,13 @@ use Rattle.hyd_spec_input.specs.RowsTogether as others
 use Rattle.hyd_spec_input.specs.RowsTogether.{head, is_check_valve, control_tank}
 use Rattle.hyd_spec_input.specs.Project as project
 use Rattle.hyd_spec_input.specs.Project.{IsProject, IsTank, IsKind, IsWhen}
-use Rattle.hyd_theorems_on_input.proofs.Places.{match_all, match_length, kept_stands, kept_passes, source}
+use Rattle.hyd_theorems_on_input.proofs.ListsByPlace.{match_all, match_length, kept_stands, kept_passes, source}
 use Rattle.hyd_theorems_on_input.proofs.Faultless.{AreRight, right_alone, right_among, or_none, all_none}
 use Rattle.hyd_theorems_on_input.proofs.Occurs.{number_inside}
 use Rattle.hyd_theorems_on_input.proofs.InForce.{keyword_same}
 use Rattle.hyd_theorems_on_input.proofs.Moments.{time_right, clock_right}
 use Rattle.hyd_theorems_on_input.proofs.Names.{tank_ids_are}
-use Rattle.hyd_theorems_on_input.proofs.Numbered.{numbers_from}
+use Rattle.hyd_theorems_on_input.proofs.PatternsAndCurvesByNumber.{numbers_from}
 use Rattle.hyd_theorems_on_input.proofs.NodeRanges.{head_right}
 use Rattle.hyd_theorems_on_input.proofs.LinkKinds.{where_true, where_false}
 use Rattle.hyd_theorems_on_input.proofs.LinkStates.{Command, command}

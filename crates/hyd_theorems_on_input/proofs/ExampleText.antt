@@ -1,4 +1,4 @@
--- The example text has no fault, and the example network is its project.
+-- The example text has no fault, and it describes the example network.
 use Rattle.std.proofs.Common.{◌≡◌, ℕ, ◌+◌, ◌*◌, ◌^◌, ◌<◌, zero, suc, Bool, true, List, [], ◌∷◌, codes, take, Option}
 use Rattle.std.proofs.Common.{Some, None, refl, sym, subst, arith, inl, inr, true≢false, lit≤}
 use Rattle.std.specs.Prelude.{slice_get, ◌&&◌, is_none, ℤ, pos, ◌<ℤ◌, ◌*ℤ◌}
@@ -377,7 +377,7 @@ no_fault = record {
   whole = subst (λ (rs : List Row). lack rs ≡ None) (sym rows_are) lacks_nothing;
 }
 
--- ---- its project
+-- ---- its network
 
 its_network : IsProject rows project
 unfolding rows items_of kind_of read_section is_passed_over heading_kind words_in is_keyword is_numeral magnitude_of

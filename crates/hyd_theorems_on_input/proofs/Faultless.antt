@@ -8,7 +8,7 @@ use Rattle.std.proofs.lemmas.List.Elements.{All-from_recursion}
 use lib.Signed.{le_z}
 use Rattle.hyd_num.specs.Numeral.{nano_of}
 use Rattle.hyd_spec_lines.specs.Lines.{Row, items_of, rows_in}
-use Rattle.hyd_lemmas.proofs.Trials.{le_z-yes}
+use Rattle.hyd_lemmas.proofs.BooleanTests.{le_z-yes}
 use Rattle.hyd_theorems_on_input.proofs.NoEmptyWords.{HasWords, not_empty}
 use Rattle.hyd_spec_lines.specs.declared.section.Section.{Section}
 use Rattle.hyd_spec_lines.specs.declared.section.Section.TheVariants.{Junctions, Reservoirs, Tanks, Pipes, Pumps}
@@ -22,7 +22,7 @@ use Rattle.hyd_spec_input.specs.Tables.{place, is_of, words_of}
 use Rattle.hyd_spec_input.specs.SingleRows as itself
 use Rattle.hyd_spec_input.specs.RowsTogether as others
 use Rattle.hyd_spec_input.specs.Faults.{HasNoFault}
-use Rattle.hyd_theorems_on_input.proofs.Places.{all_at}
+use Rattle.hyd_theorems_on_input.proofs.ListsByPlace.{all_at}
 
 -- ---- several faults, of which none is there
 

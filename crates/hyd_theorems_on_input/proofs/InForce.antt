@@ -7,13 +7,12 @@ use Rattle.std.specs.Str.{bytes_eq}
 use Rattle.std.proofs.lemmas.Bool.{cases_Bool}
 use Rattle.hyd_spec_lines.specs.Lines.{Row}
 use Rattle.hyd_spec_lines.specs.WordsOfLines.{is_keyword}
-use Rattle.hyd_spec_lines.specs.Headings.{is_one_of}
+use Rattle.hyd_spec_lines.specs.Headings.{is_one_of, first_named}
 use Rattle.hyd_spec_lines.specs.declared.section.Section.{Section}
 use Rattle.hyd_spec_input.specs.Columns.{is_option_keyword, word_is, word, or_empty}
-use Rattle.hyd_spec_input.specs.Keywords.{first_named}
 use Rattle.hyd_spec_input.specs.Tables.{is_of, rows_of}
 use Rattle.hyd_spec_input.specs.InForce.{or_earlier, where_passes, last_where, say}
-use Rattle.hyd_theorems_on_input.proofs.Places.{Stands, kept_stands, kept_passes}
+use Rattle.hyd_theorems_on_input.proofs.ListsByPlace.{Stands, kept_stands, kept_passes}
 use Rattle.hyd_theorems_on_input.proofs.Occurs.{same_name}
 
 -- ---- the last row that passes

@@ -47,14 +47,14 @@ use Rattle.hyd_spec_input.specs.Project as project
 use Rattle.hyd_spec_input.specs.Project.{Where, IsProject, IsLink, IsKind, IsPipeKind, IsPumpKind, IsValveKind}
 use Rattle.hyd_spec_input.specs.Project.{IsOpenValve, IsShutoffOf, pump_points, bend_points, numbered_links}
 use Rattle.hyd_lemmas.proofs.Each.{all_by}
-use Rattle.hyd_lemmas.proofs.Trials.{le_z-yes, lt_z-yes}
-use Rattle.hyd_theorems_on_input.proofs.Places.{match_all}
+use Rattle.hyd_lemmas.proofs.BooleanTests.{le_z-yes, lt_z-yes}
+use Rattle.hyd_theorems_on_input.proofs.ListsByPlace.{match_all}
 use Rattle.hyd_theorems_on_input.proofs.Faultless.{AreRight, right_alone, right_among, or_none, all_none, unless_none}
 use Rattle.hyd_theorems_on_input.proofs.Faultless.{needed_none, optional_none, lies, within, amount_or_is, section_is}
 use Rattle.hyd_theorems_on_input.proofs.Occurs.{number_inside, number_names, itself}
 use Rattle.hyd_theorems_on_input.proofs.Names.{First, Second, Third, one_of_three, link_stands, link_alone, node_length}
-use Rattle.hyd_theorems_on_input.proofs.Numbered.{may_have_pattern, has_bend}
-use Rattle.hyd_theorems_on_input.proofs.Points.{pump_curve_right, loss_curve_right}
+use Rattle.hyd_theorems_on_input.proofs.PatternsAndCurvesByNumber.{may_have_pattern, has_bend}
+use Rattle.hyd_theorems_on_input.proofs.CurvePoints.{pump_curve_right, loss_curve_right}
 
 -- ---- one of two facts
 

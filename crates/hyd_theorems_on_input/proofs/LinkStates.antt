@@ -45,8 +45,8 @@ use Rattle.hyd_spec_input.specs.RowsTogether.{set_link}
 use Rattle.hyd_spec_input.specs.Project.{Where, IsProject, IsLink, IsKind, IsPipeKind, IsPumpKind, IsValveKind}
 use Rattle.hyd_spec_input.specs.Project.{IsOpenValve, IsLaw, IsThrottle, IsNumberState, IsState, IsStateOf, IsOwnState}
 use Rattle.hyd_spec_input.specs.Project.{IsStart, speed_state, open_state, numbered_links}
-use Rattle.hyd_lemmas.proofs.Trials.{le_z-yes}
-use Rattle.hyd_theorems_on_input.proofs.Places.{match_all, item_at, partner}
+use Rattle.hyd_lemmas.proofs.BooleanTests.{le_z-yes}
+use Rattle.hyd_theorems_on_input.proofs.ListsByPlace.{match_all, item_at, partner}
 use Rattle.hyd_theorems_on_input.proofs.Faultless.{AreRight, right_alone, right_among, or_none, all_none, unless_none}
 use Rattle.hyd_theorems_on_input.proofs.Faultless.{needed_none, lies, in_range}
 use Rattle.hyd_theorems_on_input.proofs.Occurs.{number_names, number_inside, same_name}

@@ -20,7 +20,7 @@ use Rattle.hyd_spec_input.specs.OptionRows.{step_line, step_or_start_line, start
 use Rattle.hyd_spec_input.specs.InForce.{begins, begins_both, time_row, time_row_of, duration, seconds_of, written_step}
 use Rattle.hyd_spec_input.specs.InForce.{pattern_step, report_step, pattern_start, report_start, start_clock}
 use Rattle.hyd_spec_input.specs.Project.{IsTimes}
-use Rattle.hyd_lemmas.proofs.Trials.{lt_z-yes}
+use Rattle.hyd_lemmas.proofs.BooleanTests.{lt_z-yes}
 use Rattle.hyd_theorems_on_input.proofs.Faultless.{AreRight, right_alone, or_none, all_none, unless_none}
 use Rattle.hyd_theorems_on_input.proofs.InForce.{in_force, say_is, word_is_keyword, first_named_same}
 

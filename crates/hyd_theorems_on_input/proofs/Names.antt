@@ -1,7 +1,7 @@
 -- The IDs of nodes and links: the row of a name, names that occur once.
 use Rattle.std.proofs.Common.{◌≡◌, ℕ, ◌+◌, ◌≤◌, zero, suc, Bool, true, false, List, [], ◌∷◌, ◌++◌, map, length, take}
 use Rattle.std.proofs.Common.{drop, Some, None, refl, sym, ap, ◌∙◌, subst, arith, inl, inr, true≢false}
-use Rattle.std.specs.Prelude.{slice_get, filter, ◌||◌, ◌==◌, All}
+use Rattle.std.specs.Prelude.{slice_get, filter, ◌||◌, ◌==◌, All, if◌then◌else◌}
 use Rattle.std.specs.List.{list_any}
 use Rattle.std.specs.Str.{bytes_eq}
 use Rattle.std.proofs.lemmas.Bool.{cases_Bool, or_parts, or_left, or_right, not-true, leb-true}
@@ -19,15 +19,17 @@ use Rattle.hyd_spec_input.specs.Columns.{needed, id}
 use Rattle.hyd_spec_input.specs.NetworkRows as alone
 use Rattle.hyd_spec_input.specs.Tables.{is_of, rows_of, words_of_row, own_id, is_node, is_link, node_rows, link_rows}
 use Rattle.hyd_spec_input.specs.Tables.{row_with, has_id, place}
-use Rattle.hyd_spec_input.specs.MeaningsAcrossRows.{first_word, node_ids, tank_ids, link_ids, is_among}
+use Rattle.hyd_spec_input.specs.MeaningsAcrossRows.{first_word, node_ids, tank_ids, link_ids, is_among, new_names}
 use Rattle.hyd_spec_input.specs.RowsTogether as others
 use Rattle.hyd_spec_input.specs.RowsTogether.{passes, new_in}
 use Rattle.hyd_spec_input.specs.Project.{IsProject, IsJunction, IsReservoir, IsTank, IsLink, numbered_links}
-use Rattle.hyd_theorems_on_input.proofs.Places.{all_from, all_at, Stands, item_at, kept_stands, kept_passes, of_either}
-use Rattle.hyd_theorems_on_input.proofs.Places.{kept_more, kept_same, split_at, match_length, source}
+use Rattle.hyd_theorems_on_input.proofs.ListsByPlace.{all_from, all_at, Stands, item_at, kept_stands, kept_passes}
+use Rattle.hyd_theorems_on_input.proofs.ListsByPlace.{of_either}
+use Rattle.hyd_theorems_on_input.proofs.ListsByPlace.{kept_more, kept_same, split_at, match_length, source}
 use Rattle.hyd_theorems_on_input.proofs.Faultless.{AreRight, right_alone, right_among, or_none, all_none, unless_none}
 use Rattle.hyd_theorems_on_input.proofs.Faultless.{needed_none}
 use Rattle.hyd_theorems_on_input.proofs.Occurs.{same_name, itself, when, occurs, Once, occurs_append, distinct}
+use Rattle.hyd_lemmas.proofs.BooleanTests.{or-turned}
 
 -- ---- one row of a name
 
@@ -307,7 +309,7 @@ link_stands rows n row e = elim (of_either (rows_of Pipes rows ++ rows_of Pumps 
   )
 ]
 
--- ---- the IDs of the project
+-- ---- the IDs of the network
 
 pub nodes_once : (rows : List Row) → AreRight rows → Once (node_ids rows)
 nodes_once rows right name = subst (λ ids. occurs name ids ≤ 1) (sym (node_ids_are rows))
@@ -364,3 +366,29 @@ has_ids rows p right of = record {
 pub among_is : (name : List ℕ) (names : List (List ℕ)) → is_among name names ≡ list_any (bytes_eq name) names
 among_is name [] = refl
 among_is name (x ∷ names) = ap (λ (b : Bool). bytes_eq name x || b) (among_is name names)
+
+-- a name that isn't there is appended
+abbrev pub and_name : Bool → List (List ℕ) → List ℕ → List (List ℕ)
+and_name there names name = if there then names else names ++ name ∷ []
+
+cons_and : (there : Bool) (id name : List ℕ) (names : List (List ℕ))
+    → id ∷ and_name there names name ≡ and_name there (id ∷ names) name
+cons_and true id name names = refl
+cons_and false id name names = refl
+
+-- new names, one name more
+pub one_more : (name : List ℕ) (seen names : List (List ℕ))
+    → new_names seen (names ++ name ∷ []) ≡ and_name (is_among name seen || is_among name (new_names seen names))
+    (new_names seen names) name
+one_more name seen [] = elim (cases_Bool (is_among name seen)) [
+  | inl t ↦ rw t refl
+  | inr f ↦ rw f refl
+]
+one_more name seen (id ∷ ids) = elim (cases_Bool (is_among id seen)) [
+  | inl t ↦ rw t (one_more name seen ids)
+  | inr f ↦ rw f (ap (λ more. id ∷ more) (one_more name (id ∷ seen) ids)
+      ∙ cons_and (is_among name (id ∷ seen) || is_among name (new_names (id ∷ seen) ids)) id name (new_names
+      (id ∷ seen) ids)
+      ∙ ap (λ b. and_name b (id ∷ new_names (id ∷ seen) ids) name)
+      (or-turned (bytes_eq name id) (is_among name seen) (is_among name (new_names (id ∷ seen) ids))))
+]

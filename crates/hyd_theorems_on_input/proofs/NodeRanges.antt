@@ -16,7 +16,7 @@ use Rattle.hyd_num.specs.declared.link_capacities.Origin.{Origin}
 use Rattle.hyd_spec_lines.specs.Lines.{Row}
 use Rattle.hyd_spec_lines.specs.declared.section.Section.{Section}
 use Rattle.hyd_spec_lines.specs.declared.section.Section.TheVariants.{Junctions, Reservoirs, Tanks, Demands, Emitters}
-use Rattle.hyd_net.specs.NumberRanges.{Lies, LiesWithin, IsHead, IsFlow, IsUpTo, Numbers}
+use Rattle.hyd_net.specs.NumberRanges.{Lies, LiesWithin, least_level_difference, IsHead, IsFlow, IsUpTo, Numbers}
 use Rattle.hyd_net.specs.NetworkRanges as size
 use Rattle.hyd_net.specs.NetworkRanges.{HasPattern, IsDemand, IsShapeOf}
 use Rattle.hyd_net.specs.ListView.{ListView}
@@ -39,14 +39,14 @@ use Rattle.hyd_spec_input.specs.RowsTogether.{us, head, flow, multipliers_of, is
 use Rattle.hyd_spec_input.specs.Project as project
 use Rattle.hyd_spec_input.specs.Project.{IsProject, shape_number, shape_points}
 use Rattle.hyd_lemmas.proofs.Each.{all_by}
-use Rattle.hyd_lemmas.proofs.Trials.{le_z-yes}
-use Rattle.hyd_theorems_on_input.proofs.Places.{all_from, kept_stands, kept_passes, match_all}
+use Rattle.hyd_lemmas.proofs.BooleanTests.{le_z-yes}
+use Rattle.hyd_theorems_on_input.proofs.ListsByPlace.{all_from, kept_stands, kept_passes, match_all}
 use Rattle.hyd_theorems_on_input.proofs.Faultless.{AreRight, right_alone, right_among, all_none, unless_none}
 use Rattle.hyd_theorems_on_input.proofs.Faultless.{needed_none, lies, within, in_range}
 use Rattle.hyd_theorems_on_input.proofs.Occurs.{kept_once, has_number, itself}
 use Rattle.hyd_theorems_on_input.proofs.InForce.{in_force}
-use Rattle.hyd_theorems_on_input.proofs.Numbered.{may_have_pattern, numbers_from, found_by}
-use Rattle.hyd_theorems_on_input.proofs.Points.{volume_curve_right}
+use Rattle.hyd_theorems_on_input.proofs.PatternsAndCurvesByNumber.{may_have_pattern, numbers_from, found_by}
+use Rattle.hyd_theorems_on_input.proofs.CurvePoints.{volume_curve_right}
 
 -- ---- ranges
 
@@ -293,9 +293,9 @@ tank_right : (rows : List Row) (p : Project) (n k : ℕ) (row : Row) (t : Tank) 
 tank_right rows p n k row t right of at is section made =
     let each = all_none (others.tank_faults rows k row) (right_among rows Tanks k row right is section) in
     let own = tank_numbers row.words (right_alone rows Tanks k row right is section) in
-    let gap : pos 30480000000 ≤ℤ head_ticks (us rows) (amount 4 row.words -ℤ amount 3 row.words) =
+    let gap : pos least_level_difference ≤ℤ head_ticks (us rows) (amount 4 row.words -ℤ amount 3 row.words) =
     le_z-yes _ _ (unless_none _ _ each.1.1.1.1.0) in
-    let apart : pos 30480000000 ≤ℤ (head_ticks (us rows) (amount 4 row.words) -ℤ head_ticks (us rows)
+    let apart : pos least_level_difference ≤ℤ (head_ticks (us rows) (amount 4 row.words) -ℤ head_ticks (us rows)
     (amount 3 row.words)) =
     rw (head_difference (us rows) (amount 4 row.words) (amount 3 row.words)) at gap in
     let over : IsHead (head_ticks (us rows) (amount 1 row.words) +ℤ head_ticks (us rows) (amount 4 row.words)) =

@@ -10,7 +10,7 @@ use Rattle.hyd_spec_input.specs.SingleRows.{IsWrongByItself}
 use Rattle.hyd_spec_input.specs.RowsTogether as others
 use Rattle.hyd_spec_input.specs.Faults.{IsWrongWithOthers, NoneIs, IsFirst, line_cause, IsLineFault, lack, IsLater}
 use Rattle.hyd_spec_input.specs.Faults.{IsFaultOf, IsFault, HasNoFault}
-use Rattle.hyd_lemmas.proofs.Trials.{equal_by_order}
+use Rattle.hyd_lemmas.proofs.BooleanTests.{equal_by_order}
 
 -- two faults have the same line and cause
 pub record Same (line other : ℕ) (cause second : Cause) : Type 0 where

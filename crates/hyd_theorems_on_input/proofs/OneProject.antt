@@ -1,4 +1,4 @@
--- Rows describe one network: two projects of them are the same, apart from what the comparison of projects leaves
+-- Rows describe one network: any two of them are the same, apart from what the comparison of networks leaves
 -- aside.
 use Rattle.std.proofs.Common.{◌≡◌, ℕ, ◌+◌, ◌*◌, ◌^◌, ℤ, pos, Bool, true, false, List, [], ◌∷◌, Option, Some, None, refl}
 use Rattle.std.proofs.Common.{sym, ap, ◌∙◌, subst, arith, true≢false}
@@ -22,11 +22,9 @@ use Rattle.hyd_spec_lines.specs.declared.section.Section.TheVariants.{Junctions,
 use Rattle.hyd_spec_lines.specs.declared.section.Section.TheVariants.{Controls, Rules}
 use Rattle.hyd_net.proofs.Equal.{Decimal-equal, Span-equal}
 use Rattle.hyd_net.specs.RoundedFileNumbers.{IsRounded, IsExactly, IsSeconds, IsAmount, IsAreaMade, IsShutoffMade}
-use Rattle.hyd_net.specs.ProjectAsCompared.{no_number, no_head, bare_list, compared_capacity, compared_valve}
-use Rattle.hyd_net.specs.ProjectAsCompared.{compared_kind, compared_state, compared_link, compared_junction}
-use Rattle.hyd_net.specs.ProjectAsCompared.{compared_tank, compared_pattern, compared_control, compared_value}
-use Rattle.hyd_net.specs.ProjectAsCompared.{compared_rule_clause, compared_action, compared_rule}
-use Rattle.hyd_net.specs.ProjectAsCompared.{compared_project}
+use Rattle.hyd_net.specs.ProjectAsCompared.{bare_list, compared_capacity, compared_link, compared_junction}
+use Rattle.hyd_net.specs.ProjectAsCompared.{compared_tank, compared_pattern, compared_control, compared_rule_clause}
+use Rattle.hyd_net.specs.ProjectAsCompared.{compared_action, compared_rule, compared_project}
 use Rattle.hyd_net.specs.declared.options.Options.{Options}
 use Rattle.hyd_net.specs.declared.options.Times.{Times}
 use Rattle.hyd_net.specs.declared.nodes.Junction.{Junction}
@@ -71,9 +69,9 @@ use Rattle.hyd_spec_input.specs.Project.{IsProject}
 use Rattle.hyd_spec_input.specs.declared.Attribute.{Attribute}
 use Rattle.hyd_spec_input.specs.declared.Attribute.TheVariants as attribute
 use Rattle.hyd_lemmas.proofs.ListsOptionsAndResults.{same_some}
-use Rattle.hyd_theorems_on_input.proofs.OneCapacity.{one_capacity}
+use Rattle.hyd_theorems_on_definitions.proofs.OneCapacity.{one_capacity}
 use Rattle.hyd_theorems_on_input.proofs.ControlLines.{word_apart, at_not_if}
-use Rattle.hyd_theorems_on_input.proofs.Matching.{one_image, one_list}
+use Rattle.hyd_theorems_on_input.proofs.MatchedLists.{one_image, one_list}
 
 -- ---- the parts of a fact
 
@@ -138,8 +136,8 @@ one_times rows s t f g =
 
 -- ---- nodes
 
-one_emitter : (u : FlowUnit) (nano : ℤ) (a b : Option Capacity) → IsEmitter u nano a → IsEmitter u nano b
-    → option_map compared_capacity a ≡ option_map compared_capacity b
+pub one_emitter : (u : FlowUnit) (nano : ℤ) (a b : Option Capacity) → IsEmitter u nano a → IsEmitter u nano b
+    → a ≡ b
 one_emitter u nano None None f g = refl
 one_emitter u nano None (Some b) f g = absurd (not_above nano g.0 f)
 one_emitter u nano (Some a) None f g = absurd (not_above nano f.0 g)
@@ -155,7 +153,8 @@ one_junction : (rows : List Row) (row : Row) (j k : Junction) → project_of.IsJ
 one_junction rows row j k f g =
     let elevation = f.elevation ∙ sym g.elevation in
     let demands = f.demands ∙ sym g.demands in
-    let emitter = one_emitter (unit rows) (emitter_of rows row) j.emitter k.emitter f.emitter g.emitter in
+    let emitter = ap (option_map compared_capacity)
+    (one_emitter (unit rows) (emitter_of rows row) j.emitter k.emitter f.emitter g.emitter) in
     λ i. record { elevation = elevation i; demands = record { list = demands i; spare = 0 }; emitter = emitter i }
 
 pub one_reservoir : (rows : List Row) (row : Row) (r s : Reservoir) → project_of.IsReservoir rows row r
@@ -172,13 +171,14 @@ one_area u s t same f g =
     (pos 3141592654 *ℤ (head_ticks (is_us_unit u) d *ℤ head_ticks (is_us_unit u) d)) (pos (4 * 10 ^ 26)) s.area in
     one_floor _ _ s.area t.area (subst Area same f) g
 
-one_tank : (rows : List Row) (row : Row) (s t : Tank) → project_of.IsTank rows row s → project_of.IsTank rows row t
-    → compared_tank s ≡ compared_tank t
+pub one_tank : (rows : List Row) (row : Row) (s t : Tank) → project_of.IsTank rows row s → project_of.IsTank rows row t
+    → s ≡ t
 one_tank rows row s t f g =
     let bottom = f.bottom ∙ sym g.bottom in
     let initial = f.initial ∙ sym g.initial in
     let minimum = f.minimum ∙ sym g.minimum in
     let maximum = f.maximum ∙ sym g.maximum in
+    let diameter = Decimal-equal s.diameter t.diameter (f.diameter ∙ sym g.diameter) in
     let area = one_area (unit rows) s t (f.diameter ∙ sym g.diameter) f.area g.area in
     let shape = f.shape ∙ sym g.shape in
     let overflow = f.overflow ∙ sym g.overflow in
@@ -188,7 +188,7 @@ one_tank rows row s t f g =
       minimum = minimum i;
       maximum = maximum i;
       area = area i;
-      diameter = no_number;
+      diameter = diameter i;
       shape = shape i;
       overflow = overflow i;
     }
@@ -196,7 +196,7 @@ one_tank rows row s t f g =
 -- ---- what links are
 
 one_pipe : (u : Bool) (l d n k : ℤ) (a b : Capacity) → IsPipeOf u l d n k a → IsPipeOf u l d n k b
-    → compared_capacity a ≡ compared_capacity b
+    → a ≡ b
 one_pipe u l d n k a b f g =
     let long = Decimal-equal f.l g.l (f.l_is ∙ sym g.l_is) in
     let across = Decimal-equal f.d g.d (f.d_is ∙ sym g.d_is) in
@@ -207,7 +207,7 @@ one_pipe u l d n k a b f g =
     one_capacity a b (f.origin ∙ origins ∙ sym g.origin) f.made g.made
 
 one_valve : (u : Bool) (d k : ℤ) (a b : Capacity) → IsValveOf u d k a → IsValveOf u d k b
-    → compared_capacity a ≡ compared_capacity b
+    → a ≡ b
 one_valve u d k a b f g =
     let across = Decimal-equal f.d g.d (f.d_is ∙ sym g.d_is) in
     let minor = Decimal-equal f.k g.k (f.k_is ∙ sym g.k_is) in
@@ -215,7 +215,7 @@ one_valve u d k a b f g =
     one_capacity a b (f.origin ∙ origins ∙ sym g.origin) f.made g.made
 
 one_pump : (drop : Drop) (u : FlowUnit) (a b : Capacity) → IsPumpOf drop u a → IsPumpOf drop u b
-    → compared_capacity a ≡ compared_capacity b
+    → a ≡ b
 one_pump drop u a b f g =
     let flow = Decimal-equal f.q g.q (f.q_is ∙ sym g.q_is) in
     let head = Decimal-equal f.h g.h (f.h_is ∙ sym g.h_is) in
@@ -224,7 +224,7 @@ one_pump drop u a b f g =
     one_capacity a b (f.origin ∙ origins ∙ sym g.origin) f.made g.made
 
 one_law : (u : Bool) (d k : ℤ) (a b : OpenValve) → IsOpenValve u d k a → IsOpenValve u d k b
-    → compared_valve a ≡ compared_valve b
+    → a ≡ b
 one_law u d k (Quadratic a) (Quadratic b) f g = ap Quadratic (one_valve u d k a b f.1 g.1)
 one_law u d k (Quadratic a) Linear f g = absurd (not_above k f.0 g)
 one_law u d k Linear (Quadratic b) f g = absurd (not_above k g.0 f)
@@ -249,7 +249,7 @@ one_shutoff_head (a ∷ b ∷ points) (Given h) (FourThirds t) f g = absurd g
 one_shutoff_head (a ∷ b ∷ points) (Given h) (Given t) f g = ap Given (Decimal-equal h t (f ∙ sym g))
 
 one_pipe_kind : (rows : List Row) (row : Row) (a b : LinkKind) → IsPipeKind rows row a → IsPipeKind rows row b
-    → compared_kind a ≡ compared_kind b
+    → a ≡ b
 one_pipe_kind rows row (Pipe a) (Pipe b) f g = ap Pipe (one_pipe _ _ _ _ _ a b f.1 g.1)
 one_pipe_kind rows row (Pipe a) (CheckPipe b) f g = absurd (true≢false (sym g.0 ∙ f.0))
 one_pipe_kind rows row (CheckPipe a) (Pipe b) f g = absurd (true≢false (sym f.0 ∙ g.0))
@@ -259,13 +259,13 @@ one_pipe_kind rows row (CheckPipe a) _ f g = absurd g
 one_pipe_kind rows row _ _ f g = absurd f
 
 one_pump_kind : (rows : List Row) (row : Row) (a b : LinkKind) → IsPumpKind rows row a → IsPumpKind rows row b
-    → compared_kind a ≡ compared_kind b
+    → a ≡ b
 one_pump_kind rows row (Pump a s h p) (Pump b r t q) f g =
     let caps = one_pump (drop_of (pump_points rows row)) (unit rows) a b f.1 g.1 in
     let heads = one_shutoff_head (pump_points rows row) h t f.2 g.2 in
     let spans = shutoff_by (unit rows) (pos 0) h t s r heads f.3 g.3 in
     let patterns = f.4 ∙ sym g.4 in
-    λ i. Pump (caps i) (spans i) no_head (patterns i)
+    λ i. Pump (caps i) (spans i) (heads i) (patterns i)
 one_pump_kind rows row (Pump a s h p) (CurvePump m q) f g = absurd (true≢false (sym g.0 ∙ f.0))
 one_pump_kind rows row (CurvePump l p) (Pump b r t q) f g = absurd (true≢false (sym f.0 ∙ g.0))
 one_pump_kind rows row (CurvePump l p) (CurvePump m q) f g =
@@ -285,7 +285,7 @@ never_both words t g =
     true≢false (sym g ∙ word_apart (codes "TCV") (codes "GPV") (slice_get words 4) t general_not_throttle)
 
 one_valve_kind : (rows : List Row) (row : Row) (a b : LinkKind) → IsValveKind rows row a → IsValveKind rows row b
-    → compared_kind a ≡ compared_kind b
+    → a ≡ b
 one_valve_kind rows row (Tcv a) (Tcv b) f g =
     ap Tcv (one_law (us rows) (amount 3 row.words) (valve_minor row.words) a b f.1 g.1)
 one_valve_kind rows row (Tcv a) (Fcv b) f g = absurd (true≢false (sym f.0 ∙ g.0))
@@ -303,23 +303,22 @@ one_valve_kind rows row (Gpv l) _ f g = absurd g
 one_valve_kind rows row _ _ f g = absurd f
 
 one_kind : (rows : List Row) (row : Row) (a b : LinkKind) → IsKind rows row a → IsKind rows row b
-    → compared_kind a ≡ compared_kind b
+    → a ≡ b
 one_kind rows row a b =
     one_where (is_of Pipes row) (IsPipeKind rows row a)
     (Where (is_of Pumps row) (IsPumpKind rows row a) (IsValveKind rows row a)) (IsPipeKind rows row b)
-    (Where (is_of Pumps row) (IsPumpKind rows row b) (IsValveKind rows row b)) (compared_kind a ≡ compared_kind b)
+    (Where (is_of Pumps row) (IsPumpKind rows row b) (IsValveKind rows row b)) (a ≡ b)
     (one_pipe_kind rows row a b)
     (one_where (is_of Pumps row) (IsPumpKind rows row a) (IsValveKind rows row a) (IsPumpKind rows row b)
-    (IsValveKind rows row b) (compared_kind a ≡ compared_kind b) (one_pump_kind rows row a b) (one_valve_kind rows row a
-    b))
+    (IsValveKind rows row b) (a ≡ b) (one_pump_kind rows row a b) (one_valve_kind rows row a b))
 
 -- ---- states
 
-as_said : (x a b : LinkState) → a ≡ x → b ≡ x → compared_state a ≡ compared_state b
-as_said x a b f g = ap compared_state (f ∙ sym g)
+as_said : (x a b : LinkState) → a ≡ x → b ≡ x → a ≡ b
+as_said x a b f g = f ∙ sym g
 
 one_throttle : (rows : List Row) (row : Row) (nano : ℤ) (a b : LinkState) → IsThrottle rows row nano a
-    → IsThrottle rows row nano b → compared_state a ≡ compared_state b
+    → IsThrottle rows row nano b → a ≡ b
 one_throttle rows row nano (Throttle c a) (Throttle d b) f g =
     let coefficients = f.0 ∙ sym g.0 in
     let laws = one_law (us rows) (amount 3 row.words) nano a b f.1 g.1 in
@@ -328,36 +327,36 @@ one_throttle rows row nano (Throttle c a) _ f g = absurd g
 one_throttle rows row nano _ _ f g = absurd f
 
 one_number_state : (rows : List Row) (row : Row) (nano : ℤ) (a b : LinkState) → IsNumberState rows row nano a
-    → IsNumberState rows row nano b → compared_state a ≡ compared_state b
+    → IsNumberState rows row nano b → a ≡ b
 one_number_state rows row nano a b =
     let limit = Limit nano (flow_ticks (unit rows) nano) in
     one_where (is_of Pumps row) (a ≡ speed_state nano)
     (Where (is_throttle row.words) (IsThrottle rows row nano a) (a ≡ limit)) (b ≡ speed_state nano)
-    (Where (is_throttle row.words) (IsThrottle rows row nano b) (b ≡ limit)) (compared_state a ≡ compared_state b)
+    (Where (is_throttle row.words) (IsThrottle rows row nano b) (b ≡ limit)) (a ≡ b)
     (as_said (speed_state nano) a b)
     (one_where (is_throttle row.words) (IsThrottle rows row nano a) (a ≡ limit) (IsThrottle rows row nano b)
-    (b ≡ limit) (compared_state a ≡ compared_state b) (one_throttle rows row nano a b) (as_said limit a b))
+    (b ≡ limit) (a ≡ b) (one_throttle rows row nano a b) (as_said limit a b))
 
 one_state : (rows : List Row) (row : Row) (asked : List ℕ) (a b : LinkState) → IsState rows row asked a
-    → IsState rows row asked b → compared_state a ≡ compared_state b
+    → IsState rows row asked b → a ≡ b
 one_state rows row asked a b =
     let nano = nano_of asked in
     one_where (is_keyword (codes "OPEN") asked) (a ≡ open_state row)
     (Where (is_keyword (codes "CLOSED") asked) (a ≡ Closed) (IsNumberState rows row nano a)) (b ≡ open_state row)
     (Where (is_keyword (codes "CLOSED") asked) (b ≡ Closed) (IsNumberState rows row nano b))
-    (compared_state a ≡ compared_state b)
+    (a ≡ b)
     (as_said (open_state row) a b)
     (one_where (is_keyword (codes "CLOSED") asked) (a ≡ Closed) (IsNumberState rows row nano a) (b ≡ Closed)
-    (IsNumberState rows row nano b) (compared_state a ≡ compared_state b) (as_said Closed a b)
+    (IsNumberState rows row nano b) (a ≡ b) (as_said Closed a b)
     (one_number_state rows row nano a b))
 
 one_state_of : (rows : List Row) (o : Option Row) (asked : List ℕ) (a b : LinkState) → IsStateOf rows o asked a
-    → IsStateOf rows o asked b → compared_state a ≡ compared_state b
+    → IsStateOf rows o asked b → a ≡ b
 one_state_of rows None asked a b f g = absurd f
 one_state_of rows (Some row) asked a b f g = one_state rows row asked a b f g
 
 one_own_state : (rows : List Row) (row : Row) (a b : LinkState) → IsOwnState rows row a → IsOwnState rows row b
-    → compared_state a ≡ compared_state b
+    → a ≡ b
 one_own_state rows row a b =
     let status = if is_closed_pipe row.words then Closed else Open in
     let speed = speed_state (pump_speed row.words) in
@@ -367,22 +366,22 @@ one_own_state rows row a b =
     (Where (is_general row.words) (a ≡ Open) (IsNumberState rows row setting a))) (b ≡ status)
     (Where (is_of Pumps row) (b ≡ speed)
     (Where (is_general row.words) (b ≡ Open) (IsNumberState rows row setting b)))
-    (compared_state a ≡ compared_state b) (as_said status a b)
+    (a ≡ b) (as_said status a b)
     (one_where (is_of Pumps row) (a ≡ speed)
     (Where (is_general row.words) (a ≡ Open) (IsNumberState rows row setting a)) (b ≡ speed)
     (Where (is_general row.words) (b ≡ Open) (IsNumberState rows row setting b))
-    (compared_state a ≡ compared_state b) (as_said speed a b)
+    (a ≡ b) (as_said speed a b)
     (one_where (is_general row.words) (a ≡ Open) (IsNumberState rows row setting a) (b ≡ Open)
-    (IsNumberState rows row setting b) (compared_state a ≡ compared_state b) (as_said Open a b)
+    (IsNumberState rows row setting b) (a ≡ b) (as_said Open a b)
     (one_number_state rows row setting a b)))
 
 one_start : (rows : List Row) (row : Row) (o : Option Row) (a b : LinkState) → IsStart rows row o a
-    → IsStart rows row o b → compared_state a ≡ compared_state b
+    → IsStart rows row o b → a ≡ b
 one_start rows row None a b f g = one_own_state rows row a b f g
 one_start rows row (Some status) a b f g = one_state rows row (word 1 status.words) a b f g
 
-one_link : (rows : List Row) (row : Row) (l m : Link) → IsLink rows row l → IsLink rows row m
-    → compared_link l ≡ compared_link m
+pub one_link : (rows : List Row) (row : Row) (l m : Link) → IsLink rows row l → IsLink rows row m
+    → l ≡ m
 one_link rows row l m f g =
     let from = same_some _ l.from m.from f.ends.from g.ends.from in
     let to = same_some _ l.to m.to f.ends.to g.ends.to in
@@ -426,8 +425,8 @@ one_when rows words (ClockAt s) (TimeAt t) f g =
     let off = not-true _ (and_parts (word_is 3 (codes "AT") words) _ g.0).1 in
     absurd (true≢false (sym (and_parts (word_is 3 (codes "AT") words) _ f.0).1 ∙ off))
 
-one_control : (rows : List Row) (words : List (List ℕ)) (c d : Control) → project_of.IsControl rows words c
-    → project_of.IsControl rows words d → compared_control c ≡ compared_control d
+pub one_control : (rows : List Row) (words : List (List ℕ)) (c d : Control) → project_of.IsControl rows words c
+    → project_of.IsControl rows words d → c ≡ d
 one_control rows words c d f g =
     let link = same_some _ c.link d.link f.link g.link in
     let to = one_state_of rows (link_named rows (word 1 words)) (word 2 words) c.to d.to f.to g.to in
@@ -469,15 +468,17 @@ one_amount u Clock nano s t f g = one_seconds nano s t f g
 
 amounts : (u : FlowUnit) (what : What) (nano : ℤ) (s t : Span) (m n : Decimal)
     → (m.nano ≡ nano) × IsAmount u what m.nano s → (n.nano ≡ nano) × IsAmount u what n.nano t
-    → compared_value (Amount s m) ≡ compared_value (Amount t n)
+    → Amount s m ≡ Amount t n
 amounts u what nano s t m n f g =
     let first : IsAmount u what nano s = subst (λ (z : ℤ). IsAmount u what z s) f.0 f.1 in
     let second : IsAmount u what nano t = subst (λ (z : ℤ). IsAmount u what z t) g.0 g.1 in
-    ap (λ (x : Span). Amount x no_number) (one_amount u what nano s t first second)
+    let spans = one_amount u what nano s t first second in
+    let numbers = Decimal-equal m n (f.0 ∙ sym g.0) in
+    λ i. Amount (spans i) (numbers i)
 
 one_value : (u : FlowUnit) (what : What) (k : ℕ) (words : List (List ℕ)) (a b : Value) → IsValue u what k words a
-    → IsValue u what k words b → compared_value a ≡ compared_value b
-one_value u (Status l) k words a b f g = ap compared_value (f ∙ sym g)
+    → IsValue u what k words b → a ≡ b
+one_value u (Status l) k words a b f g = f ∙ sym g
 one_value u (Head l) k words (Amount s m) (Amount t n) f g = amounts u (Head l) _ s t m n f g
 one_value u (Pressure l) k words (Amount s m) (Amount t n) f g = amounts u (Pressure l) _ s t m n f g
 one_value u (Level l) k words (Amount s m) (Amount t n) f g = amounts u (Level l) _ s t m n f g
@@ -494,8 +495,8 @@ one_value u Time k words (Amount s m) _ f g = absurd g
 one_value u Clock k words (Amount s m) _ f g = absurd g
 one_value u _ k words _ _ f g = absurd f
 
-one_clause_at : (rows : List Row) (k : ℕ) (words : List (List ℕ)) (c d : RuleClause) → IsClauseAt rows k words c
-    → IsClauseAt rows k words d → compared_rule_clause c ≡ compared_rule_clause d
+pub one_clause_at : (rows : List Row) (k : ℕ) (words : List (List ℕ)) (c d : RuleClause) → IsClauseAt rows k words c
+    → IsClauseAt rows k words d → c ≡ d
 one_clause_at rows k words c d f g =
     let joined = f.joined ∙ sym g.joined in
     let what = one_what rows words _ c.clause.what d.clause.what f.what g.what in
@@ -505,8 +506,8 @@ one_clause_at rows k words c d f g =
     let value = one_value (unit rows) c.clause.what (k + 2) words c.clause.value d.clause.value f.value_is other in
     λ i. record { joined = joined i; clause = record { what = what i; relation = relation i; value = value i } }
 
-one_action : (rows : List Row) (words : List (List ℕ)) (a b : Action) → IsAction rows words a → IsAction rows words b
-    → compared_action a ≡ compared_action b
+pub one_action : (rows : List Row) (words : List (List ℕ)) (a b : Action) → IsAction rows words a
+    → IsAction rows words b → a ≡ b
 one_action rows words a b f g =
     let link = same_some _ a.link b.link f.link g.link in
     let to = one_state_of rows (link_named rows (word 2 words)) (word 5 words) a.to b.to f.to g.to in
@@ -517,12 +518,11 @@ one_rule : (rows : List Row) (group : List (List (List ℕ))) (r s : Rule) → p
 one_rule rows group r s f g =
     let id = f.id ∙ sym g.id in
     let clauses = one_image (IsClause rows) compared_rule_clause (clause_lines group) r.clauses.list s.clauses.list
-    (λ words c d x y. one_clause_at rows _ words c d x y) f.clauses g.clauses in
-    let actions = one_image (IsAction rows) compared_action (then_lines group) r.yes.list s.yes.list (one_action rows)
-    f.yes
-    g.yes in
-    let otherwise = one_image (IsAction rows) compared_action (else_lines group) r.no.list s.no.list (one_action rows)
-    f.no g.no in
+    (λ words c d x y. ap compared_rule_clause (one_clause_at rows _ words c d x y)) f.clauses g.clauses in
+    let actions = one_image (IsAction rows) compared_action (then_lines group) r.yes.list s.yes.list
+    (λ words a b x y. ap compared_action (one_action rows words a b x y)) f.yes g.yes in
+    let otherwise = one_image (IsAction rows) compared_action (else_lines group) r.no.list s.no.list
+    (λ words a b x y. ap compared_action (one_action rows words a b x y)) f.no g.no in
     let priority = f.priority ∙ sym g.priority in
     λ i. record {
       id = record { list = id i; spare = 0 };
@@ -547,9 +547,9 @@ one_project rows p q f g =
     q.reservoirs.list
     (one_reservoir rows) f.reservoirs g.reservoirs in
     let tanks = one_image (project_of.IsTank rows) compared_tank (rows_of Tanks rows) p.tanks.list q.tanks.list
-    (one_tank rows) f.tanks g.tanks in
-    let links = one_image (IsLink rows) compared_link (numbered_links rows) p.links.list q.links.list (one_link rows)
-    f.links g.links in
+    (λ row s t x y. ap compared_tank (one_tank rows row s t x y)) f.tanks g.tanks in
+    let links = one_image (IsLink rows) compared_link (numbered_links rows) p.links.list q.links.list
+    (λ row l m x y. ap compared_link (one_link rows row l m x y)) f.links g.links in
     let patterns = one_image (project_of.IsPattern rows) compared_pattern (pattern_ids rows) p.patterns.list
     q.patterns.list (one_pattern rows) f.patterns g.patterns in
     let shapes = one_image (λ name list. list.list ≡ shape_points rows name) bare_list (shape_names rows)
@@ -558,7 +558,7 @@ one_project rows p q f g =
     let bends = one_image (λ name list. list.list ≡ bend_points rows name) bare_list (bend_names rows) p.bends.list
     q.bends.list (λ name a b x y. ap (λ xs. record { list = xs; spare = 0 }) (x ∙ sym y)) f.bends g.bends in
     let controls = one_image (project_of.IsControl rows) compared_control (words_of Controls rows) p.controls.list
-    q.controls.list (one_control rows) f.controls g.controls in
+    q.controls.list (λ words c d x y. ap compared_control (one_control rows words c d x y)) f.controls g.controls in
     let rules = one_image (project_of.IsRule rows) compared_rule (rule_groups (words_of Rules rows)) p.rules.list
     q.rules.list
     (one_rule rows) f.rules g.rules in

@@ -30,13 +30,13 @@ use Rattle.hyd_spec_input.specs.InForce.{pressure_line}
 use Rattle.hyd_spec_input.specs.RowsTogether.{us, pressure, pressures_apart}
 use Rattle.hyd_spec_input.specs.Tables.{pattern_named}
 use Rattle.hyd_spec_input.specs.Project.{IsOptions, IsProject}
-use Rattle.hyd_lemmas.proofs.Trials.{le_z-yes}
-use Rattle.hyd_theorems_on_input.proofs.Places.{all_from}
+use Rattle.hyd_lemmas.proofs.BooleanTests.{le_z-yes}
+use Rattle.hyd_theorems_on_input.proofs.ListsByPlace.{all_from}
 use Rattle.hyd_theorems_on_input.proofs.Faultless.{AreRight, right_alone, right_among, or_none, all_none, unless_none}
 use Rattle.hyd_theorems_on_input.proofs.Faultless.{needed_none, within, in_range}
 use Rattle.hyd_theorems_on_input.proofs.InForce.{IsInForce, in_force, say_is, word_is_keyword, first_named_same}
 use Rattle.hyd_theorems_on_input.proofs.InForce.{is_one_of_same}
-use Rattle.hyd_theorems_on_input.proofs.Numbered.{has_pattern}
+use Rattle.hyd_theorems_on_input.proofs.PatternsAndCurvesByNumber.{has_pattern}
 
 -- ---- lines
 

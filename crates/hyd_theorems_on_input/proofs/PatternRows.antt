@@ -22,7 +22,7 @@ use Rattle.hyd_spec_input.specs.Tables.{rows_of, rows_with, own_id, row_multipli
 use Rattle.hyd_spec_input.specs.MeaningsAcrossRows.{is_among, pattern_ids}
 use Rattle.hyd_spec_input.specs.Project as project
 use Rattle.hyd_spec_input.specs.Project.{IsProject}
-use Rattle.hyd_theorems_on_input.proofs.Places.{match_all}
+use Rattle.hyd_theorems_on_input.proofs.ListsByPlace.{match_all}
 use Rattle.hyd_theorems_on_input.proofs.Faultless.{AreRight, right_alone, or_none, all_none, needed_none, within}
 use Rattle.hyd_theorems_on_input.proofs.Occurs.{new_among}
 use Rattle.hyd_theorems_on_input.proofs.Names.{own_ids}

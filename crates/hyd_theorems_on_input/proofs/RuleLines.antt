@@ -22,7 +22,7 @@ use Rattle.hyd_spec_input.specs.Tables.{is_of, rows_of, words_of, words_of_row}
 use Rattle.hyd_spec_input.specs.MeaningsAcrossRows.{rule_groups, lines_at, is_asking, is_doing, is_otherwise}
 use Rattle.hyd_spec_input.specs.RowsTogether as others
 use Rattle.hyd_spec_input.specs.RowsTogether.{passes, is_part_word, is_action_word}
-use Rattle.hyd_theorems_on_input.proofs.Places.{source}
+use Rattle.hyd_theorems_on_input.proofs.ListsByPlace.{source}
 use Rattle.hyd_theorems_on_input.proofs.Faultless.{AreRight, right_alone, right_among, all_none}
 
 -- ---- one line

@@ -63,14 +63,14 @@ use Rattle.hyd_spec_input.specs.RowsTogether.{known_as, link_by_word, can_show, 
 use Rattle.hyd_spec_input.specs.Project as project
 use Rattle.hyd_spec_input.specs.Project.{IsProject, IsLink, IsPumpKind, IsValveKind, IsWhat, compared}
 use Rattle.hyd_spec_input.specs.Project.{status_value, IsValue, place_of, IsClauseAt, numbered_links}
-use Rattle.hyd_theorems_on_input.proofs.Places.{all_at, match_all, match_length, of_either, item_at, partner}
-use Rattle.hyd_theorems_on_input.proofs.Places.{kept_passes}
+use Rattle.hyd_theorems_on_input.proofs.ListsByPlace.{all_at, match_all, match_length, of_either, item_at, partner}
+use Rattle.hyd_theorems_on_input.proofs.ListsByPlace.{kept_passes}
 use Rattle.hyd_theorems_on_input.proofs.Faultless.{AreRight, or_none, all_none, unless_none, needed_none}
 use Rattle.hyd_theorems_on_input.proofs.Occurs.{number_inside, number_names}
 use Rattle.hyd_theorems_on_input.proofs.Moments.{time_right, clock_right}
 use Rattle.hyd_theorems_on_input.proofs.Names.{own_ids, numbered_nodes, node_stands, link_stands, node_new, link_new}
 use Rattle.hyd_theorems_on_input.proofs.Names.{row_named, node_ids_are, link_ids_are, node_length, link_length}
-use Rattle.hyd_theorems_on_input.proofs.Numbered.{numbers_from}
+use Rattle.hyd_theorems_on_input.proofs.PatternsAndCurvesByNumber.{numbers_from}
 use Rattle.hyd_theorems_on_input.proofs.LinkKinds.{as_pump, as_valve}
 use Rattle.hyd_theorems_on_input.proofs.LinkStates.{Command, command}
 use Rattle.hyd_theorems_on_input.proofs.ControlLines.{can_command, tank_inside}

@@ -44,7 +44,7 @@ use Rattle.hyd_spec_input.specs.RowsTogether.{us, passes, known_curve, multiplie
 use Rattle.hyd_spec_input.specs.RowsTogether.{is_part, rules_in, parts_in}
 use Rattle.hyd_spec_input.specs.Project as project
 use Rattle.hyd_spec_input.specs.Project.{Match, IsProject, IsLink, IsPattern, shape_points, bend_points, numbered_links}
-use Rattle.hyd_theorems_on_input.proofs.Places.{item_at, match_length, kept_more, kept_same}
+use Rattle.hyd_theorems_on_input.proofs.ListsByPlace.{item_at, match_length, kept_more, kept_same}
 use Rattle.hyd_theorems_on_input.proofs.Faultless.{AreRight, right_among, all_none, unless_none}
 use Rattle.hyd_theorems_on_input.proofs.Occurs.{same_name, when, occurs, Once, occurs_append, kept_once, names_once}
 use Rattle.hyd_theorems_on_input.proofs.Occurs.{fewer_names, total, total_is, total_at, grouped}

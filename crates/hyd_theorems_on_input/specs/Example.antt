@@ -1,9 +1,9 @@
--- A text that has most kinds of rows and no capacity, and its project, which an independent reader gives too: two
+-- A text that has most kinds of rows and no capacity, and its network, which an independent reader gives too: two
 -- junctions, a reservoir, two tanks, a pump and three valves, with a pattern, curves, controls and a rule.
 use Rattle.std.specs.Prelude.{ℕ, List, [], ◌∷◌, ◌++◌, codes, Some, None, true, false, pos}
 use Rattle.std.proofs.Common.{lit≤}
 use Rattle.hyd_num.specs.declared.flow_units.FlowUnit.TheVariants.{Cmd}
-use Rattle.hyd_net.specs.ListView.{ListView}
+use Rattle.hyd_net.specs.ListView.{listed}
 use Rattle.hyd_net.specs.declared.links.LinkKind.TheVariants.{CurvePump, Tcv, Fcv, Gpv}
 use Rattle.hyd_net.specs.declared.links.LinkState.TheVariants.{Open, Closed, Speed, Throttle, Limit}
 use Rattle.hyd_net.specs.declared.links.OpenValve.TheVariants.{Linear}
@@ -27,10 +27,6 @@ text =
     ++ codes "VALVE F 3 AT TIME 1\n[RULES]\nRULE 1\nIF TANK T LEVEL > 1\n"
     ++ codes "AND SYSTEM TIME >= 2\nOR NODE J PRESSURE BELOW 4\n"
     ++ codes "THEN VALVE V SETTING IS 0\nELSE PUMP U STATUS IS OPEN\nPRIORITY 3\n"
-
--- a list without room beside its items
-abbrev pub listed : {T : Type 0} → List T → ListView T
-listed items = record { list = items; spare = 0 }
 
 abbrev pub project : Project
 project = record {

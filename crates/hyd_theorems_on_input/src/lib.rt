@@ -1,4 +1,4 @@
-//! The project of a text without a fault is sound: whatever rows say, the network that they describe meets every range
+//! The network of a text without a fault is sound: whatever rows say, the network that they describe meets every range
 //! that the computation rests on. A text has one fault at most, and then it isn't one without; its rows describe one
 //! network at most. Each part is the contract of a small function, on the definitions alone.
 #![tactic(auto)]
@@ -11,7 +11,7 @@ ghost use Rattle.hyd_net.specs.ControlsAndRules.{node_count, IsControl, IsRule};
 ghost use Rattle.hyd_net.specs.NetworkRanges.{HasOptions, HasSizes, IsJunction, IsReservoir, IsTank};
 ghost use Rattle.hyd_net.specs.States.{CanHave};
 ghost use Rattle.hyd_net.specs.ProjectAsCompared.{compared_project};
-ghost use Rattle.hyd_net.specs.Sound.{HasIds, IsWithinLimits, HasEnds, AreTimes, IsPattern, Sound};
+ghost use Rattle.hyd_net.specs.Sound.{HasIds, IsWithinLimits, HasEnds, AreTimes, IsPattern, IsSound};
 ghost use Rattle.hyd_net.specs.RoundedFileNumbers.{IsAllMade};
 ghost use Rattle.hyd_spec_input.specs.Faults.{IsFault, HasNoFault};
 ghost use Rattle.hyd_spec_input.specs.Project.{IsProject};
@@ -72,7 +72,7 @@ pub fn rules()
         → All (IsRule p) p.rules.list }
 {}
 
-/// No table of the project is longer than its limit.
+/// No table of the network is longer than its limit.
 pub fn counts()
     ensures { (text : List ℕ) (p : Project) → HasNoFault text → IsProject (rows_in (items_of text)) p
         → IsWithinLimits p }
@@ -90,12 +90,12 @@ pub fn made()
     ensures { (text : List ℕ) (p : Project) → HasNoFault text → IsProject (rows_in (items_of text)) p → IsAllMade p }
 {}
 
-/// The project of a text without a fault is sound.
+/// The network of a text without a fault is sound.
 pub fn sound()
-    ensures { (text : List ℕ) (p : Project) → HasNoFault text → IsProject (rows_in (items_of text)) p → Sound p }
+    ensures { (text : List ℕ) (p : Project) → HasNoFault text → IsProject (rows_in (items_of text)) p → IsSound p }
 {}
 
-/// There are such texts and projects: a text with most kinds of rows has no fault, and this is its project.
+/// There are such texts and networks: a text with most kinds of rows has no fault, and this is its network.
 pub fn example()
     ensures fault { HasNoFault text }
     ensures project { IsProject (rows_in (items_of text)) project }
@@ -114,7 +114,7 @@ pub fn no_fault_beside()
     ensures { (text : List ℕ) (line : ℕ) (cause : Cause) → IsFault text line cause → HasNoFault text → ⊥ }
 {}
 
-/// Rows describe one network: two projects of the same rows are the same, as projects are compared (apart from the
+/// Rows describe one network: any two of the same rows are the same, as networks are compared (apart from the
 /// spare of their lists and from the numbers beside a rounded form, of which it is made).
 pub fn one_project()
     ensures { (rows : List Row) (p q : Project) → IsProject rows p → IsProject rows q

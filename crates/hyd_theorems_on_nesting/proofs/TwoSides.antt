@@ -9,9 +9,10 @@ use Rattle.hyd_spec_certificates.specs.PeriodNetwork.{Grid, all_heads, fixed_hea
 use Rattle.hyd_spec_certificates.specs.Certificate.{IsCertificate}
 use Rattle.hyd_theorems_on_definitions.specs.TermsOfTheorems.{IsSteady}
 use Rattle.hyd_num.proofs.Integers.{one_times}
-use Rattle.hyd_theorems_on_definitions.proofs.NetRising.{low-rises, high-rises, IsTop, net-rises, net-ordered}
-use Rattle.hyd_theorems_on_definitions.proofs.NetRising.{outflow-rises, demand-at}
-use Rattle.hyd_theorems_on_definitions.proofs.Nodes.{excess, excess_after, head_front, IsGreatestBelow, greatest_below}
+use Rattle.hyd_theorems_on_definitions.proofs.NetOutflowsRise.{low-rises, high-rises, IsTop, net-rises, net-ordered}
+use Rattle.hyd_theorems_on_definitions.proofs.NetOutflowsRise.{outflow-rises, demand-at}
+use Rattle.hyd_theorems_on_definitions.proofs.HeadsOfAllNodes.{excess, excess_after, head_front, IsGreatestBelow}
+use Rattle.hyd_theorems_on_definitions.proofs.HeadsOfAllNodes.{greatest_below}
 use Rattle.hyd_lemmas.proofs.ListsOptionsAndResults.{item_there}
 
 -- ---- the comparison

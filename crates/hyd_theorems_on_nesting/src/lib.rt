@@ -5,7 +5,7 @@
 
 ghost use Rattle.std.specs.Prelude.{◌⊎◌, false, ◌≡◌, ◌≢◌, ◌<◌, ◌≤◌, ◌%◌, ◌+◌, ◌-◌, ◌≤ℤ◌, ◌<ℤ◌, ◌+ℤ◌, ◌-ℤ◌, ℕ, ℤ, pos};
 ghost use Rattle.std.specs.Prelude.{List, [], length, slice_get, Some, ◌∷◌, min};
-ghost use Rattle.hyd_net.specs.Sound.{Sound};
+ghost use Rattle.hyd_net.specs.Sound.{IsSound};
 ghost use Rattle.hyd_spec.specs.ProgramTypes.{Project, Tank, LinkState};
 ghost use Rattle.hyd_spec.specs.Assignment.{head_at};
 ghost use Rattle.hyd_spec.specs.Tank.{walls_of};
@@ -61,7 +61,7 @@ pub fn boxes()
         → slice_get project.tanks.list k ≡ Some tank
         → IsInside (inflow_of_tank project grid inner k) (inflow_of_tank project grid outer k)
         × IsOrdered (inflow_of_tank project grid inner k) }
-    ensures stocks { (project : Project) → Sound project → (standing : Standing) (grid : Grid) (outer inner : Record)
+    ensures stocks { (project : Project) → IsSound project → (standing : Standing) (grid : Grid) (outer inner : Record)
         → AreNested project standing grid outer inner → (seconds k : ℕ) (tank : Tank)
         → slice_get project.tanks.list k ≡ Some tank
         → AreInside (stocks_next project grid standing inner seconds k tank)
@@ -72,7 +72,7 @@ pub fn boxes()
 /// An inner record leaves the links after the same seconds and commanded in the same way as the outer one, where that
 /// one decides it.
 pub fn decisions()
-    ensures { (project : Project) → Sound project → (standing : Standing) (grid : Grid) (outer inner : Record)
+    ensures { (project : Project) → IsSound project → (standing : Standing) (grid : Grid) (outer inner : Record)
         → AreNested project standing grid outer inner → (seconds : ℕ) (links : List LinkState)
         → LeavesLinks project grid standing outer seconds links
         → LeavesLinks project grid standing inner seconds links }
@@ -80,8 +80,8 @@ pub fn decisions()
 
 /// The first standing of a run is tidy, and where a valid record leads on from a tidy one, so is the next.
 pub fn tidied()
-    ensures start { (project : Project) → Sound project → IsTidy project (initial_standing project) }
-    ensures next { (project : Project) → Sound project → (standing : Standing) (grid : Grid) (row : Record)
+    ensures start { (project : Project) → IsSound project → IsTidy project (initial_standing project) }
+    ensures next { (project : Project) → IsSound project → (standing : Standing) (grid : Grid) (row : Record)
         (next : Standing)
         → IsKept project standing → IsTidy project standing → IsValid project standing grid row next
         → Continues project grid standing row next → IsTidy project next }
@@ -90,7 +90,8 @@ pub fn tidied()
 /// Where a valid record leads on, the same record with tight vectors is valid and leads on to the same standing but
 /// for its stocks, which lie inside.
 pub fn tightened()
-    ensures { (project : Project) → Sound project → (standing : Standing) (grid : Grid) (row : Record) (next : Standing)
+    ensures { (project : Project) → IsSound project → (standing : Standing) (grid : Grid) (row : Record)
+        (next : Standing)
         → IsKept project standing → IsTidy project standing → IsValid project standing grid row next
         → (tight : Record) → IsTightened project grid row tight → Continues project grid standing row next
         → IsValid project standing grid tight (record next {
@@ -102,7 +103,8 @@ pub fn tightened()
 
 /// At a standing with a valid record no cause of a stop holds but spent rounds.
 pub fn stops()
-    ensures { (project : Project) → Sound project → (standing : Standing) (grid : Grid) (row : Record) (next : Standing)
+    ensures { (project : Project) → IsSound project → (standing : Standing) (grid : Grid) (row : Record)
+        (next : Standing)
         → IsKept project standing → IsTidy project standing → IsValid project standing grid row next
         → (rounds : ℕ) (cause : StopCause) → IsReason cause → Stops project standing rounds cause → ⊥ }
 {}
@@ -153,25 +155,26 @@ pub fn multiples()
 
 /// A standing at which the demands are in range has a grid.
 pub fn grids()
-    ensures { (project : Project) → Sound project → (standing : Standing) → DemandsAreInRange project standing.time
+    ensures { (project : Project) → IsSound project → (standing : Standing) → DemandsAreInRange project standing.time
         → (grid : Grid) × IsGridAt project standing grid }
 {}
 
 /// Under each record a period that doesn't begin at the end of the run ends in some way: the clock allows it a
 /// length, it has an earliest and a latest end, and it is decided or open.
 pub fn ends()
-    ensures lengths { (project : Project) → Sound project → (time : ℕ) → (cap : ℕ) × IsClockLength project time cap }
-    ensures earliest { (project : Project) → Sound project → (grid : Grid) (standing : Standing) (row : Record)
+    ensures lengths { (project : Project) → IsSound project → (time : ℕ) → (cap : ℕ) × IsClockLength project time cap }
+    ensures earliest { (project : Project) → IsSound project → (grid : Grid) (standing : Standing) (row : Record)
         → (e : ℕ) × IsEarliestEnd project grid standing row e }
-    ensures latest { (project : Project) → Sound project → (grid : Grid) (standing : Standing) (row : Record)
+    ensures latest { (project : Project) → IsSound project → (grid : Grid) (standing : Standing) (row : Record)
         → (e : ℕ) × IsLatestEnd project grid standing row e }
-    ensures some { (project : Project) → Sound project → (grid : Grid) (standing : Standing) (row : Record)
+    ensures some { (project : Project) → IsSound project → (grid : Grid) (standing : Standing) (row : Record)
         → standing.time ≢ project.times.duration → (e : End) × EndsBy project grid standing row e }
 {}
 
 /// Each record that leads on has a report.
 pub fn reports()
-    ensures { (project : Project) → Sound project → (grid : Grid) (standing : Standing) (row : Record) (next : Standing)
+    ensures { (project : Project) → IsSound project → (grid : Grid) (standing : Standing) (row : Record)
+        (next : Standing)
         → IsKept project standing → IsTidy project standing → IsGridAt project standing grid
         → LeadsOn project grid standing row next
         → (lines : List ReportLine) × IsReport project grid standing row lines }
@@ -180,7 +183,7 @@ pub fn reports()
 /// At each unfinished standing of a run a valid record leads on, or a cause of a stop holds, whatever the number of
 /// rounds.
 pub fn onward()
-    ensures { (project : Project) → Sound project → (standing : Standing) → IsKept project standing
+    ensures { (project : Project) → IsSound project → (standing : Standing) → IsKept project standing
         → standing.finished ≡ false
         → (rounds : ℕ) → LeadsSomewhere project standing ⊎ IsStopped project standing rounds }
 {}
@@ -188,10 +191,10 @@ pub fn onward()
 /// Every standing that a run leaves keeps what standings keep. A run that isn't finished goes on by one more period,
 /// or a cause of a stop holds at the standing that it leaves, whatever the number of rounds.
 pub fn runs()
-    ensures keep { (project : Project) → Sound project → (founds : List Found) (last : Standing)
+    ensures keep { (project : Project) → IsSound project → (founds : List Found) (last : Standing)
         → IsRun project founds last
         → IsKept project last × IsTidy project last }
-    ensures go_on { (project : Project) → Sound project → (founds : List Found) (last : Standing)
+    ensures go_on { (project : Project) → IsSound project → (founds : List Found) (last : Standing)
         → IsRun project founds last
         → last.finished ≡ false → (rounds : ℕ) → IsLonger project founds ⊎ IsStopped project last rounds }
 {}

@@ -20,17 +20,18 @@ use Rattle.hyd_spec_reports.specs.Stops.{beginning}
 use Rattle.hyd_spec_certificates.specs.declared.HeldJunction.{HeldJunction}
 use Rattle.hyd_spec_certificates.specs.Certificate.{box_limit, IsInBox, Passes, Suits, IsBeyond, IsCertificate}
 use Rattle.hyd_spec_certificates.specs.Certificate.{IsCertificateHolding}
-use Rattle.hyd_theorems_on_definitions.proofs.Nodes.{head_front, IsGreatestBelow, greatest_below}
+use Rattle.hyd_theorems_on_definitions.proofs.HeadsOfAllNodes.{head_front, IsGreatestBelow, greatest_below}
 use Rattle.hyd_theorems_on_definitions.specs.TermsOfTheorems.{IsSteady}
-use Rattle.hyd_theorems_on_definitions.proofs.NetRising.{IsTop, net-rises, low-rises, high-rises, net-ordered}
-use Rattle.hyd_theorems_on_definitions.proofs.NetRising.{outflow-rises}
-use Rattle.hyd_theorems_on_definitions.proofs.NetRising.{demand-at}
+use Rattle.hyd_theorems_on_definitions.proofs.NetOutflowsRise.{IsTop, net-rises, low-rises, high-rises, net-ordered}
+use Rattle.hyd_theorems_on_definitions.proofs.NetOutflowsRise.{outflow-rises}
+use Rattle.hyd_theorems_on_definitions.proofs.NetOutflowsRise.{demand-at}
 use Rattle.hyd_spec_certificates.specs.SearchSteps.{LiesBeyond, IsStart, IsOrderedHolding}
 use Rattle.hyd_theorems_on_definitions.specs.Sides.{along, near_end}
-use Rattle.hyd_theorems_on_raises.proofs.Leading.{beyond-is, is-beyond, lead, suits-nearer}
-use Rattle.hyd_theorems_on_raises.proofs.Raising.{beyond-self, by-beyond, set-here, set-there, set-one, set-in-box}
-use Rattle.hyd_theorems_on_raises.proofs.Raising.{along-floor}
-use Rattle.hyd_theorems_on_raises.proofs.Sweeping.{vector-self}
+use Rattle.hyd_theorems_on_raises.proofs.GreatestLead.{beyond-is, is-beyond, lead, suits-nearer}
+use Rattle.hyd_theorems_on_raises.proofs.RaisesAndTightVector.{beyond-self, by-beyond, set-here, set-there, set-one}
+use Rattle.hyd_theorems_on_raises.proofs.RaisesAndTightVector.{set-in-box}
+use Rattle.hyd_theorems_on_raises.proofs.RaisesAndTightVector.{along-floor}
+use Rattle.hyd_theorems_on_raises.proofs.RaisesInAnyOrder.{vector-self}
 use Rattle.hyd_lemmas.proofs.ListsOptionsAndResults.{item_there}
 
 -- ---- the near end of the box

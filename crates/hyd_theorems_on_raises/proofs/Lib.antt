@@ -1,7 +1,7 @@
-pub mod Leading
-pub mod Searching
-pub mod Raising
-pub mod Sweeping
+pub mod GreatestLead
+pub mod FirstItemsAndChoices
+pub mod RaisesAndTightVector
+pub mod RaisesInAnyOrder
 pub mod Beginnings
-pub mod Apart
-pub mod Judging
+pub mod NoLinkBetweenJunctions
+pub mod CertificateOrFailure

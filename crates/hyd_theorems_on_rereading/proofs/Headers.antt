@@ -1,5 +1,5 @@
 -- What the header line of a certificate says of a network is the same of each that differs in spares alone, and so is
--- what the comparison of projects looks at.
+-- what the comparison of networks looks at.
 use Rattle.std.proofs.Common.{◌≡◌, ℕ, Bool, List, [], ◌∷◌, map, sym, ap, ap₂, refl, ◌∙◌, subst}
 use Rattle.std.proofs.lemmas.List.{length-map}
 use Rattle.hyd_net.specs.ProjectAsCompared.{compared_junction, compared_rule, compared_project}
@@ -35,7 +35,7 @@ certificate_text p q same text records periods finished is =
     (subst (λ (k : ℕ). IsCertificateText text (version_of p) (junction_count p) k records periods finished)
     (same_tanks p q same) is))
 
--- ---- the comparison of projects
+-- ---- the comparison of networks
 
 twice : {X : Type 0} (f g : X → X) → ((x : X) → f x ≡ f (g x)) → (xs : List X) → map f xs ≡ map f (map g xs)
 twice f g each [] = refl

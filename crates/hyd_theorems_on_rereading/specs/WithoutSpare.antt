@@ -1,4 +1,4 @@
--- A project without the spare of its lists. Two readings of one text differ in nothing else.
+-- A network without the spare of its lists. Two readings of one text differ in nothing else.
 -- Source: this program's.
 use Rattle.hyd_net.specs.ProjectAsCompared.{bare_list, compared_list, compared_pattern}
 use Rattle.hyd_spec.specs.ProgramTypes.{Project, Junction, Rule}
@@ -17,7 +17,7 @@ bare_rule r = record {
   priority = r.priority;
 }
 
--- a project whose lists, and the lists in them, have no spare; all its numbers stay
+-- a network whose lists, and the lists in them, have no spare; all its numbers stay
 abbrev pub bare_project : Project → Project
 bare_project p =
     record {

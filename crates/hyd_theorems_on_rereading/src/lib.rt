@@ -17,14 +17,14 @@ ghost use Rattle.hyd_spec_reports.specs.ReportLine.{ReportLine, report_text};
 ghost use Rattle.hyd_spec_reports.specs.PromisesOfRunsAndChecks.{Found, IsRun};
 ghost use Rattle.hyd_theorems_on_rereading.specs.WithoutSpare.{bare_project};
 
-/// Rows describe one network: two projects of the same rows have all their numbers in common, those of the file that
+/// Rows describe one network: any two of the same rows have all their numbers in common, those of the file that
 /// stand beside a rounded form too, and differ in the spare of their lists alone.
 pub fn one_network()
     ensures { (rows : List Row) (p q : Project) → IsProject rows p → IsProject rows q
         → bare_project p ≡ bare_project q }
 {}
 
-/// Networks that differ in the spare of lists alone are the same as projects are compared, and the header lines of
+/// Networks that differ in the spare of lists alone are the same as networks are compared, and the header lines of
 /// their certificates say the same.
 pub fn same()
     ensures compared { (p q : Project) → bare_project p ≡ bare_project q → compared_project p ≡ compared_project q }

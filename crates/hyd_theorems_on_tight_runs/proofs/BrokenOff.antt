@@ -2,14 +2,15 @@
 use Rattle.std.proofs.Common.{◌≡◌, ℕ, true, List, [], ◌++◌, Option, Some, None, MatchOption, sym, ap, refl, ◌∙◌}
 use Rattle.std.proofs.Common.{append_assoc, append-nil}
 use Rattle.std.specs.Prelude.{⊤}
-use Rattle.hyd_net.specs.Sound.{Sound}
+use Rattle.hyd_net.specs.Sound.{IsSound}
 use Rattle.hyd_spec.specs.ProgramTypes.{Project}
+use Rattle.hyd_spec.specs.Lists.{IsFrontOf}
 use Rattle.hyd_spec_reports.specs.declared.StopCause.{StopCause}
 use Rattle.hyd_spec_reports.specs.PromisesOfRunsAndChecks.{Found, Outcome, Finished, Stopped, EndsSo}
 use Rattle.hyd_spec_reports.specs.PromisesOfRunsAndChecks.{certificate_so_far}
 use Rattle.hyd_spec_reports.specs.PromisesOfRunsAndChecks.{report_so_far}
 use Rattle.hyd_theorems_on_nesting.specs.Nesting.{IsReason}
-use Rattle.hyd_theorems_on_tight_runs.specs.TightRuns.{IsFrontOf, IsTightRun, FinishesTight, BreaksOffTight}
+use Rattle.hyd_theorems_on_tight_runs.specs.TightRuns.{IsTightRun, FinishesTight, BreaksOffTight}
 use Rattle.hyd_theorems_on_tight_runs.proofs.TwoRuns.{whole}
 use Rattle.hyd_theorems_on_tight_runs.proofs.Texts.{all_tight, begins, never_stops, certificate_begins, report_begins}
 use Rattle.hyd_theorems_on_tight_runs.proofs.Texts.{whole_certificate, whole_report}
@@ -21,7 +22,7 @@ front_on front rest middle end e k = (
   sym (append_assoc front rest k.0) ∙ (ap (λ t. t ++ k.0) e ∙ k.1),
 )
 
-module _ (project : Project) (sound : Sound project) (text report written printed : List ℕ)
+module _ (project : Project) (sound : IsSound project) (text report written printed : List ℕ)
     (b : FinishesTight project text report) (k : BreaksOffTight project written printed) where
   tight_run : IsTightRun project k.breaks_off.founds k.breaks_off.left
   tight_run = record {

@@ -1,10 +1,10 @@
 -- The texts of tight runs that finish are one, and as far as any tight run goes its texts begin them.
 use Rattle.std.proofs.Common.{◌≡◌, ℕ, Bool, true, false, true≢false, ◌⊎◌, inl, inr, List, [], ◌∷◌, ◌++◌, length, map}
-use Rattle.std.proofs.Common.{None, refl, sym, ap, subst, ◌∙◌, append_assoc, append-nil, decimal, codes, MatchBool}
+use Rattle.std.proofs.Common.{None, sym, ap, subst, ◌∙◌, append_assoc, append-nil, decimal, codes, MatchBool}
 use Rattle.std.specs.List.{AllByRecursion}
-use Rattle.hyd_net.specs.Sound.{Sound}
+use Rattle.hyd_net.specs.Sound.{IsSound}
 use Rattle.hyd_spec.specs.ProgramTypes.{Project}
-use Rattle.hyd_spec.specs.Lists.{joined}
+use Rattle.hyd_spec.specs.Lists.{joined, IsFrontOf}
 use Rattle.hyd_spec.specs.NodeNumbers.{junction_count, tank_count}
 use Rattle.hyd_spec_certificates.specs.RecordAndStanding.{Record, Standing}
 use Rattle.hyd_spec_reports.specs.CertificateText.{line, version_of, header_line, record_text, end_line}
@@ -17,24 +17,13 @@ use Rattle.hyd_spec_reports.specs.PromisesOfRunsAndChecks.{IsTightThroughout}
 use Rattle.hyd_spec_reports.specs.PromisesOfRunsAndChecks.{certificate_so_far, report_so_far}
 use Rattle.hyd_spec_certificates.specs.Narrow.{IsNarrow}
 use Rattle.hyd_theorems_on_nesting.specs.Nesting.{IsReason}
-use Rattle.hyd_theorems_on_nesting.proofs.Excluding.{no_stop}
-use Rattle.hyd_theorems_on_nesting.proofs.Extending.{run_keeps}
-use Rattle.hyd_theorems_on_tight_runs.specs.TightRuns.{IsFrontOf, IsTightRun, FinishesTight}
+use Rattle.hyd_theorems_on_nesting.proofs.NoStopWhereValid.{no_stop}
+use Rattle.hyd_theorems_on_nesting.proofs.RunsGoOnOrStop.{run_keeps}
+use Rattle.hyd_theorems_on_tight_runs.specs.TightRuns.{IsTightRun, FinishesTight}
 use Rattle.hyd_theorems_on_tight_runs.proofs.TwoRuns.{records_append, fronts, whole, next_valid, one_standing}
+use Rattle.hyd_lemmas.proofs.ListsOptionsAndResults.{joined_append}
 
--- ---- joined pieces
-
-joined_append : {X : Type 0} (f : X → List ℕ) (xs ys : List X)
-    → joined (map f (xs ++ ys)) ≡ joined (map f xs) ++ joined (map f ys)
-joined_append f [] ys = refl
-joined_append f (x ∷ xs) ys =
-    ap (λ t. f x ++ t) (joined_append f xs ys) ∙ sym (append_assoc (f x) (joined (map f xs)) (joined (map f ys)))
-
-lines_append : (xs ys : List Found) → lines_of (xs ++ ys) ≡ lines_of xs ++ lines_of ys
-lines_append [] ys = refl
-lines_append (x ∷ xs) ys =
-    ap (λ (lines : List ReportLine). x.lines ++ lines) (lines_append xs ys)
-    ∙ sym (append_assoc x.lines (lines_of xs) (lines_of ys))
+-- ---- fronts
 
 -- a text between a head and an end begins a longer one with the same head
 within : (head text behind last : List ℕ) → IsFrontOf (head ++ (text ++ [])) (head ++ ((text ++ behind) ++ last))
@@ -118,7 +107,7 @@ module _ (project : Project) where
         )
 
     -- and so it doesn't stop but by spent rounds
-    pub never_stops : Sound project → left.finished ≡ false → (rounds : ℕ) (cause : StopCause) → IsReason cause
+    pub never_stops : IsSound project → left.finished ≡ false → (rounds : ℕ) (cause : StopCause) → IsReason cause
         → Stops project left rounds cause → ⊥
     never_stops sound unfinished rounds cause reason stops = over begins
       where
@@ -155,7 +144,8 @@ module _ (project : Project) where
         let text_of = λ (lines : List ReportLine). joined (map (line_text project) lines) in
         let end = done_line (length b.writes.founds) in
         let pieces : text_of (lines_of b.writes.founds) ≡ text_of (lines_of founds) ++ text_of (lines_of rest) =
-        ap (λ (fs : List Found). text_of (lines_of fs)) (sym begins.1) ∙ (ap text_of (lines_append founds rest)
+        ap (λ (fs : List Found). text_of (lines_of fs)) (sym begins.1)
+        ∙ (ap text_of (joined_append (λ (f : Found). f.lines) founds rest)
         ∙ joined_append (line_text project) (lines_of founds) (lines_of rest)) in
         let front = within head (text_of (lines_of founds)) (text_of (lines_of rest)) end in (
           front.0,

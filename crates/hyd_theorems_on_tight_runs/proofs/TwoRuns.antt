@@ -3,12 +3,13 @@ use Rattle.std.proofs.Common.{◌≡◌, true, true≢false, ◌⊎◌, inl, inr
 use Rattle.std.proofs.Common.{append-nil}
 use Rattle.std.specs.List.{AllByRecursion}
 use Rattle.hyd_spec.specs.ProgramTypes.{Project}
+use Rattle.hyd_spec.specs.Lists.{IsFrontOf}
 use Rattle.hyd_spec_certificates.specs.RecordAndStanding.{Record, Standing, initial_standing}
 use Rattle.hyd_spec_certificates.specs.Valid.{IsValid}
 use Rattle.hyd_spec_reports.specs.PromisesOfRunsAndChecks.{Found, IsRunFrom, IsRun, none, more, IsTightThroughout}
 use Rattle.hyd_spec_reports.specs.PromisesOfRunsAndChecks.{rows_of}
-use Rattle.hyd_theorems_on_definitions.proofs.OneRun.{one_run, one_left}
-use Rattle.hyd_theorems_on_tight_runs.specs.TightRuns.{IsFrontOf, IsTightRun}
+use Rattle.hyd_theorems_on_definitions.proofs.OneRun.{one_run, one_left, steps, ends_here}
+use Rattle.hyd_theorems_on_tight_runs.specs.TightRuns.{IsTightRun}
 
 -- ---- lists
 
@@ -31,19 +32,9 @@ module _ (project : Project) where
       → IsRunFrom project start (found ∷ rest) last → IsRunFrom project start (found ∷ []) found.next
   first_alone _ found rest last (more is on) = more is none
 
-  rest_of : (start : Standing) (found : Found) (rest : List Found) (last : Standing)
-      → IsRunFrom project start (found ∷ rest) last → IsRunFrom project found.next rest last
-  rest_of _ found rest last (more is on) = on
-
   valid_first : (start : Standing) (found : Found) (rest : List Found) (last : Standing)
       → IsRunFrom project start (found ∷ rest) last → IsValid project start found.grid found.row found.next
   valid_first _ found rest last (more is on) = is.valid
-
-  -- a run of no periods ends where it begins
-  stays : (start : Standing) (founds : List Found) (last : Standing) → IsRunFrom project start founds last
-      → founds ≡ [] → start ≡ last
-  stays _ _ last none e = refl
-  stays _ _ last (more is on) e = absurd (cc)
 
   same_first : (start : Standing) (a b : Found) (xs ys : List Found) (last other : Standing)
       → IsRunFrom project start (a ∷ xs) last → IsRunFrom project start (b ∷ ys) other → IsTightThroughout project a
@@ -62,8 +53,8 @@ module _ (project : Project) where
   fronts_from start (f ∷ a) (g ∷ b) last other x y tight too =
       let same = same_first start f g a b last other x y tight.0 too.0 in
       let on = subst (λ (s : Standing). IsRunFrom project s b other) (ap (λ (h : Found). h.next) (sym same))
-      (rest_of start g b other y) in
-      behind same (fronts_from f.next a b last other (rest_of start f a last x) on tight.1 too.1)
+      (steps project start g b other y).goes_on in
+      behind same (fronts_from f.next a b last other (steps project start f a last x).goes_on on tight.1 too.1)
     where
       behind : f ≡ g → IsFrontOf a b ⊎ IsFrontOf b a → IsFrontOf (f ∷ a) (g ∷ b) ⊎ IsFrontOf (g ∷ b) (f ∷ a)
       behind same (inl k) = inl (front_more f g a b same k)
@@ -88,11 +79,11 @@ module _ (project : Project) where
       → IsRunFrom project start a last → IsRunFrom project start (a ++ (found ∷ rest)) other
       → IsValid project last found.grid found.row found.next
   next_from start [] found rest last other x y =
-      subst (λ (s : Standing). IsValid project s found.grid found.row found.next) (stays start [] last x refl)
+      subst (λ (s : Standing). IsValid project s found.grid found.row found.next) (ends_here project start last x)
       (valid_first start found rest other y)
   next_from start (f ∷ a) found rest last other x y =
-      next_from f.next a found rest last other (rest_of start f a last x)
-      (rest_of start f (a ++ (found ∷ rest)) other y)
+      next_from f.next a found rest last other (steps project start f a last x).goes_on
+      (steps project start f (a ++ (found ∷ rest)) other y).goes_on
 
   pub next_valid : (a b : List Found) (found : Found) (rest : List Found) (last other : Standing)
       → IsRun project a last → IsRun project b other → a ++ (found ∷ rest) ≡ b

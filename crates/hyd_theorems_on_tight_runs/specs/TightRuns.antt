@@ -1,6 +1,6 @@
 -- Tight runs: every vector of theirs is the tight one of its problem and side.
 -- Source: this program's.
-use Rattle.std.specs.Prelude.{◌≡◌, ℕ, true, List, ◌++◌, Some}
+use Rattle.std.specs.Prelude.{◌≡◌, ℕ, true, List, Some}
 use Rattle.std.specs.List.{AllByRecursion}
 use Rattle.hyd_spec.specs.ProgramTypes.{Project}
 use Rattle.hyd_spec_certificates.specs.RecordAndStanding.{Standing}
@@ -10,10 +10,6 @@ use Rattle.hyd_spec_reports.specs.PromisesOfRunsAndChecks.{Stopped}
 use Rattle.hyd_spec_reports.specs.PromisesOfRunsAndChecks.{RunWrites}
 use Rattle.hyd_spec_reports.specs.PromisesOfRunsAndChecks.{RunBreaksOff}
 use Rattle.hyd_theorems_on_nesting.specs.Nesting.{IsReason}
-
--- A list or a text goes on with some more, or with nothing, to make the whole one.
-abbrev pub IsFrontOf : {X : Type 0} → List X → List X → Type 0
-IsFrontOf {X} front whole = (rest : List X) × (front ++ rest ≡ whole)
 
 -- A run of the network in which every vector of every record is the tight one, and the standing that it leaves.
 pub record IsTightRun (project : Project) (founds : List Found) (left : Standing) : Type 0 where

@@ -4,14 +4,15 @@
 #![tactic(auto)]
 
 ghost use Rattle.std.specs.Prelude.{◌≡◌, ◌⊎◌, ℕ, false, List, None};
-ghost use Rattle.hyd_net.specs.Sound.{Sound};
+ghost use Rattle.hyd_net.specs.Sound.{IsSound};
 ghost use Rattle.hyd_spec.specs.ProgramTypes.{Project};
+ghost use Rattle.hyd_spec.specs.Lists.{IsFrontOf};
 ghost use Rattle.hyd_spec_certificates.specs.RecordAndStanding.{Standing};
 ghost use Rattle.hyd_spec_reports.specs.declared.StopCause.{StopCause};
 ghost use Rattle.hyd_spec_reports.specs.Stops.{Stops};
 ghost use Rattle.hyd_spec_reports.specs.PromisesOfRunsAndChecks.{Found, rows_of, certificate_so_far, report_so_far};
 ghost use Rattle.hyd_theorems_on_nesting.specs.Nesting.{IsReason};
-ghost use Rattle.hyd_theorems_on_tight_runs.specs.TightRuns.{IsFrontOf, IsTightRun, FinishesTight, BreaksOffTight};
+ghost use Rattle.hyd_theorems_on_tight_runs.specs.TightRuns.{IsTightRun, FinishesTight, BreaksOffTight};
 
 // ---- two runs
 
@@ -35,7 +36,7 @@ pub fn one_text()
 /// Where a tight run of a sound network finishes, no cause of a stop but spent rounds holds where another tight run has
 /// come to and isn't finished.
 pub fn stops()
-    ensures { (project : Project) → Sound project → (text report : List ℕ) → FinishesTight project text report
+    ensures { (project : Project) → IsSound project → (text report : List ℕ) → FinishesTight project text report
         → (founds : List Found) (left : Standing) → IsTightRun project founds left → left.finished ≡ false
         → (rounds : ℕ) (cause : StopCause) → IsReason cause → Stops project left rounds cause → ⊥ }
 {}
@@ -57,8 +58,8 @@ pub fn so_far()
 /// tight run of the sound network that finishes. Nothing is claimed of the last lines of one that had spent its rounds:
 /// with more rounds another run goes on there.
 pub fn broken_off()
-    ensures certificate { (project : Project) → Sound project → (text report written printed : List ℕ)
+    ensures certificate { (project : Project) → IsSound project → (text report written printed : List ℕ)
         → FinishesTight project text report → BreaksOffTight project written printed → IsFrontOf written text }
-    ensures report { (project : Project) → Sound project → (text report written printed : List ℕ)
+    ensures report { (project : Project) → IsSound project → (text report written printed : List ℕ)
         → FinishesTight project text report → BreaksOffTight project written printed → IsFrontOf printed report }
 {}

@@ -1,6 +1,6 @@
 mod Digits
 pub mod DecimalLaws
 mod Examples
-mod Rounding
-pub mod Wholes
+mod RoundedFlows
+pub mod FloorsAndCeilings
 mod WritingLemmas

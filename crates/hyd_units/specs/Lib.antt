@@ -1,2 +1,2 @@
 pub mod PrintedText
-pub mod Writing
+pub mod WrittenText

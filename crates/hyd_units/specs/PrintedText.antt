@@ -2,8 +2,8 @@
 use Rattle.std.specs.Prelude.{◌≡◌, List, ℕ, ℤ}
 use Rattle.hyd_num.specs.Rational.{Rational}
 use Rattle.hyd_num.specs.QuotientsAndRoots.{IsFloor, IsCeiling}
-use Rattle.hyd_units.specs.declared.printing.Way.{Way}
-use Rattle.hyd_units.specs.declared.printing.Way.TheVariants.{Down, Up}
+use Rattle.hyd_units.specs.declared.printed_quantities.Way.{Way}
+use Rattle.hyd_units.specs.declared.printed_quantities.Way.TheVariants.{Down, Up}
 use Rattle.hyd_num.specs.PrintedDecimals.{IsRoundedDown, IsRoundedUp, decimal_text}
 
 -- k is the whole number next to n / d in this direction, or n / d itself

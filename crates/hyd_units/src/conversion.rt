@@ -1,4 +1,4 @@
-// From the numbers of a file to ticks.
+//! From the numbers of a file to ticks.
 ghost use Rattle.hyd_num.specs.FileQuantity as quantity;
 ghost use Rattle.hyd_num.specs.FileQuantity.{pressure_denominator, pressure_numerator};
 ghost use Rattle.hyd_num.specs.QuotientsAndRoots.{IsCeiling, IsFloor};

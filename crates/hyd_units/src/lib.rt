@@ -6,9 +6,9 @@
 #![tactic(auto)]
 
 mod conversion;
-mod printing;
-mod writing;
+mod decimal_texts;
+mod printed_quantities;
 
 pub use conversion::{flow_ticks, head_ticks, pressure_ticks};
-pub use printing::{Way, print_flow, print_head, print_pressure};
-pub use writing::BUFFER_SIZE;
+pub use decimal_texts::BUFFER_SIZE;
+pub use printed_quantities::{Way, print_flow, print_head, print_pressure};

@@ -1,5 +1,5 @@
-pub mod Lookups
-pub mod Shares
-pub mod Draws
+pub mod HeadsWithOneReplaced
+pub mod FlowsOfLinkEnds
+pub mod OutflowsBySide
 pub mod Surpluses
-pub mod Comparing
+pub mod CertificateComparisons

@@ -1,5 +1,6 @@
 //! Certificates decided: whether a vector of heads lies above, or below, the heads of every assignment, and if it isn't
-//! a certificate of that, where it fails first.
+//! a certificate of that, where it fails first; and what this rests on: heads in the box, flows and net outflows of a
+//! junction, and by how much it passes.
 #![tactic(auto)]
 
 mod checks;

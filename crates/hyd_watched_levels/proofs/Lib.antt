@@ -1,2 +1,2 @@
-pub mod Reaching
-pub mod Adding
+pub mod FirstSecondsByFacts
+pub mod WatchedLevelsSoFar

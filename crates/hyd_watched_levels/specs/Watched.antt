@@ -1,6 +1,7 @@
 -- Watched levels of the program, and the ends that they bring.
 -- Source: EPANET 2.2 User Manual, chapter 3 (tanks, controls).
-use Rattle.std.specs.Prelude.{ℕ, ◌<◌, ◌≤◌, ◌*◌, ◌^◌, true, false, List, [], ◌∷◌, length, unsigned_abs, if◌then◌else◌}
+use Rattle.std.specs.Prelude.{ℕ, ◌<◌, ◌≤◌, ◌*◌, true, false, List, [], ◌∷◌, length, unsigned_abs, if◌then◌else◌}
+use Rattle.hyd_net.specs.NumberRanges.{head_limit}
 use Rattle.hyd_spec.specs.ProgramTypes.{Project, Tank}
 use Rattle.hyd_spec.specs.declared.TankState.{TankState}
 use Rattle.hyd_spec.specs.LinkLaw.{is_full, is_empty}
@@ -22,7 +23,7 @@ watch_for watch = record { tank = watch.tank; target = watch.target; rising = wa
 -- the tank is there, and the level in range
 pub record IsWatch (project : Project) (watch : Here) : Type 0 where
   pub tank : watch.tank < length project.tanks.list
-  pub target : unsigned_abs watch.target ≤ 2 * 10 ^ 17
+  pub target : unsigned_abs watch.target ≤ 2 * head_limit
 
 -- whatever standing and record the facts are of, this is the first second at which a watched level passes a test
 abbrev pub IsReachedFirst : ReachTest → Project → Facts → ℕ → Watch → ℕ → Type 0

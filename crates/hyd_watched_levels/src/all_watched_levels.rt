@@ -2,7 +2,7 @@
 #![tactic(auto)]
 
 ghost use Rattle.std.specs.Prelude.{◌<◌, ◌≤◌};
-ghost use Rattle.hyd_net.specs.Sound.{Sound};
+ghost use Rattle.hyd_net.specs.Sound.{IsSound};
 ghost use Rattle.hyd_spec_certificates.specs.PeriodNetwork.{Grid};
 ghost use Rattle.hyd_spec_certificates.specs.RecordAndStanding.{Record, Standing};
 ghost use Rattle.hyd_spec_certificates.specs.Decided.{IsClockLength, IsEarliestEnd, IsLatestEnd};
@@ -21,7 +21,7 @@ use hyd_period_facts::Facts;
 ///
 /// The facts hold what is known at the start of the period and what flows into its tanks.
 pub fn level_ends(project: &Project, facts: &Facts, cap: u32) -> Ends
-    requires sound { Sound project.now }
+    requires sound { IsSound project.now }
     requires tanks { HaveTanks project.now facts.now }
     ensures earliest { (grid : Grid) (standing : Standing) (row : Record)
         → AreStarted project.now grid standing row facts.now

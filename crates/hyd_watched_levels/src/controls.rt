@@ -3,7 +3,7 @@
 
 ghost use Rattle.std.specs.Prelude.{◌≡◌, ◌<◌, ◌++◌, ◌∷◌, [], List, length, map, IfSome};
 ghost use Rattle.std.specs.Option.{option_map};
-ghost use Rattle.hyd_net.specs.Sound.{Sound};
+ghost use Rattle.hyd_net.specs.Sound.{IsSound};
 ghost use Rattle.hyd_net.specs.ControlsAndRules.{IsControl};
 ghost use Rattle.hyd_spec.specs.Lists.{present};
 ghost use Rattle.hyd_spec_certificates.specs.Spans.{levels_of};
@@ -48,7 +48,7 @@ fn watch_of(project: &Project, facts: &Facts, control: &Control) -> Option<Watch
 
 // The ends where the level of a control is watched besides, where it doesn't hold at the start.
 fn with_control(project: &Project, facts: &Facts, control: &Control, cap: u32, ends: Ends) -> Ends
-    requires sound { Sound project.now }
+    requires sound { IsSound project.now }
     requires tanks { HaveTanks project.now facts.now }
     requires control { IsControl project.now control.now }
     ensures { (watched : List decided.Watch) → AreEnds project.now facts.now cap watched ends
@@ -63,7 +63,7 @@ fn with_control(project: &Project, facts: &Facts, control: &Control, cap: u32, e
 
 /// The ends where the levels of controls that don't hold at the start are watched besides.
 pub(crate) fn with_controls(project: &Project, facts: &Facts, cap: u32, ends: Ends) -> Ends
-    requires sound { Sound project.now }
+    requires sound { IsSound project.now }
     requires tanks { HaveTanks project.now facts.now }
     ensures { (watched : List decided.Watch) → AreEnds project.now facts.now cap watched ends
         → AreEnds project.now facts.now cap

@@ -1,4 +1,5 @@
-//! Levels that are watched during a period, and the ends that they bring.
+//! Levels that are watched during a period, and the ends that they bring; and a tank's stock and inflow by the facts of
+//! a period.
 #![tactic(auto)]
 
 mod all_watched_levels;

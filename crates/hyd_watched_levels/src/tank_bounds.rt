@@ -2,7 +2,7 @@
 #![tactic(auto)]
 
 ghost use Rattle.std.specs.Prelude.{◌≡◌, ◌<◌, ◌++◌, List, Some, length, slice_get};
-ghost use Rattle.hyd_net.specs.Sound.{Sound};
+ghost use Rattle.hyd_net.specs.Sound.{IsSound};
 ghost use Rattle.hyd_spec.specs.ProgramTypes.{Tank};
 ghost use Rattle.hyd_spec.specs.declared.TankState.{TankState as State};
 ghost use Rattle.hyd_spec.specs.LinkLaw as states;
@@ -31,7 +31,7 @@ fn is_empty(facts: &Facts, tank: u32) -> bool
 
 // The ends where the maximum of a tank that isn't full is watched besides.
 fn with_most(project: &Project, facts: &Facts, tank: u32, cap: u32, ends: Ends) -> Ends
-    requires sound { Sound project.now }
+    requires sound { IsSound project.now }
     requires tanks { HaveTanks project.now facts.now }
     requires in_range { tank < length project.now.tanks.list }
     ensures { (watched : List Watched) (each : Tank) (state : State) → slice_get project.now.tanks.list tank ≡ Some each
@@ -51,7 +51,7 @@ fn with_most(project: &Project, facts: &Facts, tank: u32, cap: u32, ends: Ends) 
 
 // The ends where the minimum of a tank that isn't empty is watched besides.
 fn with_least(project: &Project, facts: &Facts, tank: u32, cap: u32, ends: Ends) -> Ends
-    requires sound { Sound project.now }
+    requires sound { IsSound project.now }
     requires tanks { HaveTanks project.now facts.now }
     requires in_range { tank < length project.now.tanks.list }
     ensures { (watched : List Watched) (each : Tank) (state : State) → slice_get project.now.tanks.list tank ≡ Some each
@@ -71,7 +71,7 @@ fn with_least(project: &Project, facts: &Facts, tank: u32, cap: u32, ends: Ends)
 
 /// The ends where the bounds of tanks are watched.
 pub(crate) fn bound_ends(project: &Project, facts: &Facts, cap: u32) -> Ends
-    requires sound { Sound project.now }
+    requires sound { IsSound project.now }
     requires tanks { HaveTanks project.now facts.now }
     ensures { AreEnds project.now facts.now cap (tank_watches 0 project.now.tanks.list facts.now.tanks.list) result }
 {

@@ -2,7 +2,7 @@
 #![tactic(auto)]
 
 ghost use Rattle.std.specs.Prelude.{◌<◌, ◌≤◌, ◌++◌, ◌∷◌, [], List};
-ghost use Rattle.hyd_net.specs.Sound.{Sound};
+ghost use Rattle.hyd_net.specs.Sound.{IsSound};
 ghost use Rattle.hyd_spec_certificates.specs.Stocks.{may_reach, must_reach};
 ghost use Rattle.hyd_spec_certificates.specs.Decided as decided;
 ghost use Rattle.hyd_watched_levels.specs.FactsBeforeEnd.{HaveTanks};
@@ -30,7 +30,7 @@ pub struct Ends {
 
 // The earliest and the latest first second at which a watched level is reached, each the cap where it isn't up to that.
 fn first_of(project: &Project, facts: &Facts, watch: Watch, cap: u32) -> Ends
-    requires sound { Sound project.now }
+    requires sound { IsSound project.now }
     requires tanks { HaveTanks project.now facts.now }
     requires watch { IsWatch project.now watch }
     ensures earliest { IsReachedFirst may_reach project.now facts.now cap (watch_for watch) result.earliest }
@@ -60,7 +60,7 @@ pub(crate) fn with_watch(
     cap: u32,
     ends: Ends,
 ) -> Ends
-    requires sound { Sound project.now }
+    requires sound { IsSound project.now }
     requires tanks { HaveTanks project.now facts.now }
     requires watch { IsWatch project.now watch }
     ensures { (watched : List decided.Watch) → AreEnds project.now facts.now cap watched ends

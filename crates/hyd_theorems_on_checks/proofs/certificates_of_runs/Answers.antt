@@ -1,4 +1,4 @@
-use Rattle.hyd_theorems_on_checks.proofs.OfRuns.{accepted_is, written_is}
+use Rattle.hyd_theorems_on_checks.proofs.WrittenAndAccepted.{accepted_is, written_is}
 use Rattle.hyd_theorems_on_checks.proofs.certificates_of_runs.Goals as goal
 
 pub returns-clause-written : goal.returns-clause-written

@@ -1,4 +1,4 @@
-use Rattle.hyd_theorems_on_checks.proofs.ByEnd.{no_other_end}
+use Rattle.hyd_theorems_on_checks.proofs.EndLineNotRefused.{no_other_end}
 use Rattle.hyd_theorems_on_checks.proofs.refused_ends.Goals as goal
 
 pub returns : goal.returns

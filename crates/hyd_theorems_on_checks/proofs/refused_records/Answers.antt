@@ -1,4 +1,4 @@
-use Rattle.hyd_theorems_on_checks.proofs.ByRecord.{no_record_refused}
+use Rattle.hyd_theorems_on_checks.proofs.RecordsNotRefused.{no_record_refused}
 use Rattle.hyd_theorems_on_checks.proofs.refused_records.Goals as goal
 
 pub returns : goal.returns

@@ -1,4 +1,4 @@
-use Rattle.hyd_theorems_on_histories.proofs.Judging.{changes_are}
+use Rattle.hyd_theorems_on_histories.proofs.TruthsAndRuleValues.{changes_are}
 use Rattle.hyd_theorems_on_histories.proofs.changes.Goals as goal
 
 pub returns : goal.returns

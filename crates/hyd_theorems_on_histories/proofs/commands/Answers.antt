@@ -1,4 +1,4 @@
-use Rattle.hyd_theorems_on_histories.proofs.Commanding.{started_own, acted_own}
+use Rattle.hyd_theorems_on_histories.proofs.CommandedLinkStates.{started_own, acted_own}
 use Rattle.hyd_theorems_on_histories.proofs.commands.Goals as goal
 
 pub returns-clause-starts : goal.returns-clause-starts

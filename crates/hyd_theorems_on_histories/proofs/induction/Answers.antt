@@ -1,4 +1,4 @@
-use Rattle.hyd_theorems_on_histories.proofs.Running.{every_history}
+use Rattle.hyd_theorems_on_histories.proofs.HistoriesAlongRuns.{every_history}
 use Rattle.hyd_theorems_on_histories.proofs.induction.Goals as goal
 
 pub returns : goal.returns

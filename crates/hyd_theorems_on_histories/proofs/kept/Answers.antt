@@ -1,4 +1,4 @@
-use Rattle.hyd_theorems_on_histories.proofs.Stepping.{kept_at_start, kept_next}
+use Rattle.hyd_theorems_on_histories.proofs.AgreementAfterPeriod.{kept_at_start, kept_next}
 use Rattle.hyd_theorems_on_histories.proofs.kept.Goals as goal
 
 pub returns-clause-start : goal.returns-clause-start

@@ -1,4 +1,4 @@
-use Rattle.hyd_theorems_on_histories.proofs.Watching.{level_may, must_level}
+use Rattle.hyd_theorems_on_histories.proofs.WatchedLevels.{level_may, must_level}
 use Rattle.hyd_theorems_on_histories.proofs.levels.Goals as goal
 
 pub returns-clause-may : goal.returns-clause-may

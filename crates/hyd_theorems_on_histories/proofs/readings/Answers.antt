@@ -1,5 +1,5 @@
 use Rattle.hyd_theorems_on_histories.proofs.Clauses.{clause_tells}
-use Rattle.hyd_theorems_on_histories.proofs.Looks.{readings_between}
+use Rattle.hyd_theorems_on_histories.proofs.RuleReadingsBetweenEnds.{readings_between}
 use Rattle.hyd_theorems_on_histories.proofs.readings.Goals as goal
 
 pub returns-clause-lie : goal.returns-clause-lie

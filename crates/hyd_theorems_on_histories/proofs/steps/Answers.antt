@@ -1,5 +1,5 @@
-use Rattle.hyd_theorems_on_histories.proofs.Beginning.{agrees_at_start}
-use Rattle.hyd_theorems_on_histories.proofs.Stepping.{is_under, agrees_next}
+use Rattle.hyd_theorems_on_histories.proofs.AgreementAtStart.{agrees_at_start}
+use Rattle.hyd_theorems_on_histories.proofs.AgreementAfterPeriod.{is_under, agrees_next}
 use Rattle.hyd_theorems_on_histories.proofs.steps.Goals as goal
 
 pub returns-clause-start : goal.returns-clause-start

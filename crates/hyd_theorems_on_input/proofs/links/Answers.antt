@@ -1,4 +1,4 @@
-use Rattle.hyd_theorems_on_input.proofs.Parts.{ends_right, sizes_right}
+use Rattle.hyd_theorems_on_input.proofs.RowsToProject.{ends_right, sizes_right}
 use Rattle.hyd_theorems_on_input.proofs.links.Goals as goal
 
 pub returns-clause-ends : goal.returns-clause-ends

@@ -1,4 +1,4 @@
-use Rattle.hyd_theorems_on_input.proofs.Parts.{junctions_right, reservoirs_right, tanks_right}
+use Rattle.hyd_theorems_on_input.proofs.RowsToProject.{junctions_right, reservoirs_right, tanks_right}
 use Rattle.hyd_theorems_on_input.proofs.nodes.Goals as goal
 
 pub returns-clause-junctions : goal.returns-clause-junctions

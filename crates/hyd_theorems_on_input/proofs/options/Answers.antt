@@ -1,4 +1,4 @@
-use Rattle.hyd_theorems_on_input.proofs.Parts.{options_right}
+use Rattle.hyd_theorems_on_input.proofs.RowsToProject.{options_right}
 use Rattle.hyd_theorems_on_input.proofs.options.Goals as goal
 
 pub returns : goal.returns

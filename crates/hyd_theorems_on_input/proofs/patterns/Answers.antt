@@ -1,4 +1,4 @@
-use Rattle.hyd_theorems_on_input.proofs.Parts.{patterns_right}
+use Rattle.hyd_theorems_on_input.proofs.RowsToProject.{patterns_right}
 use Rattle.hyd_theorems_on_input.proofs.patterns.Goals as goal
 
 pub returns : goal.returns

@@ -1,4 +1,4 @@
-use Rattle.hyd_theorems_on_input.proofs.Parts.{states_right}
+use Rattle.hyd_theorems_on_input.proofs.RowsToProject.{states_right}
 use Rattle.hyd_theorems_on_input.proofs.states.Goals as goal
 
 pub returns : goal.returns

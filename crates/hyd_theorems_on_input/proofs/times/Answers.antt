@@ -1,4 +1,4 @@
-use Rattle.hyd_theorems_on_input.proofs.Parts.{times_right}
+use Rattle.hyd_theorems_on_input.proofs.RowsToProject.{times_right}
 use Rattle.hyd_theorems_on_input.proofs.times.Goals as goal
 
 pub returns : goal.returns

@@ -1,5 +1,5 @@
-use Rattle.hyd_theorems_on_nesting.proofs.Boxing.{flow_inside, flow_ordered, inflow_inside, inflow_ordered}
-use Rattle.hyd_theorems_on_nesting.proofs.Refining.{stocks_within, stocks_there}
+use Rattle.hyd_theorems_on_nesting.proofs.NestedBoxes.{flow_inside, flow_ordered, inflow_inside, inflow_ordered}
+use Rattle.hyd_theorems_on_nesting.proofs.InnerRecordsDecide.{stocks_within, stocks_there}
 use Rattle.hyd_theorems_on_nesting.proofs.boxes.Goals as goal
 
 pub returns-clause-flows : goal.returns-clause-flows

@@ -1,5 +1,5 @@
-use Rattle.hyd_theorems_on_nesting.proofs.Existing.{earliest_is}
-use Rattle.hyd_theorems_on_nesting.proofs.Refining.{leaves_so}
+use Rattle.hyd_theorems_on_nesting.proofs.ClockLengthAndEndsExist.{earliest_is}
+use Rattle.hyd_theorems_on_nesting.proofs.InnerRecordsDecide.{leaves_so}
 use Rattle.hyd_theorems_on_nesting.proofs.decisions.Goals as goal
 
 pub returns : goal.returns

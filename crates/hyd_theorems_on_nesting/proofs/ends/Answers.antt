@@ -1,5 +1,5 @@
-use Rattle.hyd_theorems_on_nesting.proofs.Existing.{clock_length_is, earliest_is, latest_is}
-use Rattle.hyd_theorems_on_nesting.proofs.Ending.{some_end}
+use Rattle.hyd_theorems_on_nesting.proofs.ClockLengthAndEndsExist.{clock_length_is, earliest_is, latest_is}
+use Rattle.hyd_theorems_on_nesting.proofs.EveryPeriodEnds.{some_end}
 use Rattle.hyd_theorems_on_nesting.proofs.ends.Goals as goal
 
 pub returns-clause-lengths : goal.returns-clause-lengths

@@ -1,5 +1,5 @@
 use Rattle.hyd_spec_certificates.specs.Stocks.{may_reach, must_reach}
-use Rattle.hyd_theorems_on_nesting.proofs.Watched.{none_watched, one_watched, one_more, end_is}
+use Rattle.hyd_theorems_on_nesting.proofs.EndsByWatchedLevels.{none_watched, one_watched, one_more, end_is}
 use Rattle.hyd_theorems_on_nesting.proofs.firsts.Goals as goal
 
 pub returns-clause-none : goal.returns-clause-none

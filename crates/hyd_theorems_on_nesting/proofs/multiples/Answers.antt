@@ -1,4 +1,4 @@
-use Rattle.hyd_theorems_on_nesting.proofs.Walking.{walk_begins, walk_on, found}
+use Rattle.hyd_theorems_on_nesting.proofs.RuleInstants.{walk_begins, walk_on, found}
 use Rattle.hyd_theorems_on_nesting.proofs.multiples.Goals as goal
 
 pub returns-clause-start : goal.returns-clause-start

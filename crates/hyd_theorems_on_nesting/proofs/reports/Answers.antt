@@ -1,4 +1,4 @@
-use Rattle.hyd_theorems_on_nesting.proofs.Reporting.{report_is}
+use Rattle.hyd_theorems_on_nesting.proofs.ReportsExist.{report_is}
 use Rattle.hyd_theorems_on_nesting.proofs.reports.Goals as goal
 
 pub returns : goal.returns

@@ -1,4 +1,4 @@
-use Rattle.hyd_theorems_on_nesting.proofs.Extending.{run_keeps, run_goes_on}
+use Rattle.hyd_theorems_on_nesting.proofs.RunsGoOnOrStop.{run_keeps, run_goes_on}
 use Rattle.hyd_theorems_on_nesting.proofs.runs.Goals as goal
 
 pub returns-clause-keep : goal.returns-clause-keep

@@ -1,4 +1,4 @@
-use Rattle.hyd_theorems_on_nesting.proofs.Holding.{tidy_at_start, tidy_next}
+use Rattle.hyd_theorems_on_nesting.proofs.TightVectorsDecide.{tidy_at_start, tidy_next}
 use Rattle.hyd_theorems_on_nesting.proofs.tidied.Goals as goal
 
 pub returns-clause-start : goal.returns-clause-start

@@ -1,5 +1,5 @@
-use Rattle.hyd_theorems_on_definitions.proofs.Failing.{fails-no-certificate, one-failure}
-use Rattle.hyd_theorems_on_raises.proofs.Judging.{certificate-or-fails}
+use Rattle.hyd_theorems_on_definitions.proofs.OneFirstFailure.{fails-no-certificate, one-failure}
+use Rattle.hyd_theorems_on_raises.proofs.CertificateOrFailure.{certificate-or-fails}
 use Rattle.hyd_theorems_on_raises.proofs.failures.Goals as goal
 
 pub returns-clause-found : goal.returns-clause-found

@@ -1,4 +1,4 @@
-use Rattle.hyd_theorems_on_raises.proofs.Sweeping.{start-leapt}
+use Rattle.hyd_theorems_on_raises.proofs.RaisesInAnyOrder.{start-leapt}
 use Rattle.hyd_theorems_on_raises.proofs.leaps.Goals as goal
 
 pub returns : goal.returns

@@ -1,4 +1,4 @@
-use Rattle.hyd_theorems_on_raises.proofs.Sweeping.{climb-start, every-order, rounds-spent}
+use Rattle.hyd_theorems_on_raises.proofs.RaisesInAnyOrder.{climb-start, every-order, rounds-spent}
 use Rattle.hyd_theorems_on_raises.proofs.orders.Goals as goal
 
 pub returns-clause-start : goal.returns-clause-start

@@ -1,4 +1,5 @@
-use Rattle.hyd_theorems_on_raises.proofs.Raising.{raise-or-none, one-raise, start-raised, no-value, start-tight}
+use Rattle.hyd_theorems_on_raises.proofs.RaisesAndTightVector.{raise-or-none, one-raise, start-raised, no-value}
+use Rattle.hyd_theorems_on_raises.proofs.RaisesAndTightVector.{start-tight}
 use Rattle.hyd_theorems_on_raises.proofs.raises.Goals as goal
 
 pub returns-clause-found : goal.returns-clause-found

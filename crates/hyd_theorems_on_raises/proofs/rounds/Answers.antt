@@ -1,4 +1,4 @@
-use Rattle.hyd_theorems_on_raises.proofs.Sweeping.{one-reached, spent-nearer}
+use Rattle.hyd_theorems_on_raises.proofs.RaisesInAnyOrder.{one-reached, spent-nearer}
 use Rattle.hyd_theorems_on_raises.proofs.rounds.Goals as goal
 
 pub returns-clause-reached : goal.returns-clause-reached

@@ -1,5 +1,5 @@
-use Rattle.hyd_theorems_on_raises.proofs.Raising.{tight-or-none}
-use Rattle.hyd_theorems_on_raises.proofs.Sweeping.{nearer-of-two}
+use Rattle.hyd_theorems_on_raises.proofs.RaisesAndTightVector.{tight-or-none}
+use Rattle.hyd_theorems_on_raises.proofs.RaisesInAnyOrder.{nearer-of-two}
 use Rattle.hyd_theorems_on_raises.proofs.tight.Goals as goal
 
 pub returns-clause-found : goal.returns-clause-found

@@ -1,5 +1,5 @@
 use Rattle.hyd_theorems_on_rereading.proofs.OneNetwork.{one_network}
-use Rattle.hyd_theorems_on_rereading.proofs.Reading.{valid_records}
+use Rattle.hyd_theorems_on_rereading.proofs.ValidRecordsWithoutSpare.{valid_records}
 use Rattle.hyd_theorems_on_rereading.proofs.readings.Goals as goal
 
 pub returns : goal.returns

@@ -1,4 +1,4 @@
-use Rattle.hyd_theorems_on_rereading.proofs.Running.{runs, reports}
+use Rattle.hyd_theorems_on_rereading.proofs.RunsWithoutSpare.{runs, reports}
 use Rattle.hyd_theorems_on_rereading.proofs.runs.Goals as goal
 
 pub returns-clause-run : goal.returns-clause-run

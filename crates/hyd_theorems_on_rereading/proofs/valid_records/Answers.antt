@@ -1,4 +1,4 @@
-use Rattle.hyd_theorems_on_rereading.proofs.Reading.{valid_records}
+use Rattle.hyd_theorems_on_rereading.proofs.ValidRecordsWithoutSpare.{valid_records}
 use Rattle.hyd_theorems_on_rereading.proofs.valid_records.Goals as goal
 
 pub returns : goal.returns

@@ -5,9 +5,9 @@ use Rattle.hyd_spec_certificates.specs.declared.Problem.TheVariants.{Main}
 use Rattle.hyd_spec_certificates.specs.declared.Side.TheVariants.{Upper, Lower}
 use Rattle.hyd_spec_certificates.specs.PeriodNetwork.{all_heads}
 use Rattle.hyd_period_network.specs.NetAsPeriodNetwork.{grid_of}
-use Rattle.hyd_vector_check.proofs.Shares.{StandsFor, stands-for}
-use Rattle.hyd_bounds.proofs.Flowing.{flow-box-is}
-use Rattle.hyd_bounds.proofs.Holding.{holds-flow}
+use Rattle.hyd_vector_check.proofs.FlowsOfLinkEnds.{StandsFor, stands-for}
+use Rattle.hyd_bounds.proofs.FlowBoxes.{flow-box-is}
+use Rattle.hyd_bounds.proofs.FlowsInSpans.{holds-flow}
 use Rattle.hyd_bounds.proofs.flows.flow_box.Goals as goal
 
 there : (c : goal.After-law) → StandsFor (grid_of c.args.net.now).links c.args.link c.law.result.now

@@ -5,7 +5,7 @@ use Rattle.hyd_spec_certificates.specs.declared.Problem.TheVariants.{Pinned}
 use Rattle.hyd_spec_certificates.specs.PeriodNetwork.{all_heads}
 use Rattle.hyd_period_network.specs.NetAsPeriodNetwork.{grid_of}
 use Rattle.hyd_vector_check.specs.NetOutflowBySide.{flows_out}
-use Rattle.hyd_bounds.proofs.Flowing.{set-beyond}
+use Rattle.hyd_bounds.proofs.FlowBoxes.{set-beyond}
 use Rattle.hyd_bounds.proofs.inflows.tank_flows.Goals as goal
 
 pub returns-clause-value : goal.returns-clause-value

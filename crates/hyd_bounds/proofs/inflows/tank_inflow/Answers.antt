@@ -7,8 +7,8 @@ use Rattle.hyd_spec_certificates.specs.PeriodNetwork.{all_heads}
 use Rattle.hyd_spec_certificates.specs.NetOutflow.{net, link_ends}
 use Rattle.hyd_period_network.specs.NetAsPeriodNetwork.{grid_of}
 use Rattle.hyd_bounds.specs.VectorsInOrder.{tank_node_of}
-use Rattle.hyd_bounds.proofs.Holding.{holds-inflow}
-use Rattle.hyd_bounds.proofs.Inflowing.{flows-in-order}
+use Rattle.hyd_bounds.proofs.FlowsInSpans.{holds-inflow}
+use Rattle.hyd_bounds.proofs.InflowsInOrder.{flows-in-order}
 use Rattle.hyd_bounds.proofs.inflows.tank_inflow.Goals as goal
 
 pub invariant_of-result : goal.invariant_of-result

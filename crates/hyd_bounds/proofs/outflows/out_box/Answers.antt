@@ -4,8 +4,8 @@ use Rattle.std.specs.Option.{option_map, option_copied}
 use Rattle.std.proofs.lemmas.Int.{ints}
 use Rattle.hyd_spec_certificates.specs.NetOutflow.{outflow_low, outflow_high}
 use Rattle.hyd_period_network.specs.NetAsPeriodNetwork.{grid_of, capacity_of}
-use Rattle.hyd_bounds.proofs.Holding.{holds-outflow}
-use Rattle.hyd_bounds.proofs.Leaving.{out-box-at, outflows-in-order}
+use Rattle.hyd_bounds.proofs.FlowsInSpans.{holds-outflow}
+use Rattle.hyd_bounds.proofs.OutflowBoxes.{out-box-at, outflows-in-order}
 use Rattle.hyd_bounds.proofs.outflows.out_box.Goals as goal
 
 pub invariant_of-result : goal.invariant_of-result

@@ -4,9 +4,9 @@ use Rattle.std.proofs.lemmas.Int.{ints}
 use Rattle.hyd_num.specs.Rational.{ceiling}
 use Rattle.hyd_net.specs.Curves.{value_at}
 use Rattle.hyd_spec_reports.specs.Report.{by_drive}
-use Rattle.hyd_law.specs.Curves.{places}
+use Rattle.hyd_law.specs.KnotsOfStraightLines.{places}
 use Rattle.hyd_period_network.specs.ExactLaw.{is_nothing}
-use Rattle.hyd_bounds.proofs.Wording.{curve-word, some-most, some-least}
+use Rattle.hyd_bounds.proofs.StatusWordByOwnLaw.{curve-word, some-most, some-least}
 use Rattle.hyd_bounds.proofs.status.bent.Goals as goal
 use Rattle.hyd_bounds.proofs.status.bent.Goals.{else-held-eq0-via-then-held-eq0+else-held-eq0-2}
 use Rattle.hyd_bounds.proofs.status.bent.Goals.{else-held-eq0-via-else-held-eq0}

@@ -7,9 +7,9 @@ use Rattle.hyd_spec_certificates.specs.PeriodNetwork.{all_heads}
 use Rattle.hyd_spec_certificates.specs.FlowIntervals.{difference}
 use Rattle.hyd_period_network.specs.ExactLaw.{exact_law}
 use Rattle.hyd_period_network.specs.NetAsPeriodNetwork.{grid_of}
-use Rattle.hyd_bounds.proofs.Flowing.{placed-ends, some-same, law-at}
-use Rattle.hyd_bounds.proofs.Holding.{holds-status}
-use Rattle.hyd_bounds.proofs.Wording.{status-is}
+use Rattle.hyd_bounds.proofs.FlowBoxes.{placed-ends, some-same, law-at}
+use Rattle.hyd_bounds.proofs.FlowsInSpans.{holds-status}
+use Rattle.hyd_bounds.proofs.StatusWordByOwnLaw.{status-is}
 use Rattle.hyd_bounds.proofs.status.status_of.Goals as goal
 
 pub returns-clause-word : goal.returns-clause-word

@@ -3,8 +3,8 @@ use Rattle.hyd_spec_lines.specs.Lines.{Row}
 use Rattle.hyd_spec_lines.specs.declared.section.Section.TheVariants.{Controls}
 use Rattle.hyd_spec_input.specs.Project.{Match, IsControl}
 use Rattle.hyd_spec_input.specs.Tables.{words_of}
-use Rattle.hyd_text_rows.specs.FirstWrongRow.{rows_at}
-use Rattle.hyd_text_rows.proofs.SectionLemmas.{all_rows}
+use Rattle.hyd_rows_and_tables.specs.FirstWrongRow.{rows_at}
+use Rattle.hyd_rows_and_tables.proofs.SectionLemmas.{all_rows}
 use Rattle.hyd_build_controls.proofs.controls.build_controls.Goals as goal
 
 pub returns : goal.returns

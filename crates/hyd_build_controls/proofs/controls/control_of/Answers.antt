@@ -11,8 +11,8 @@ use Rattle.hyd_spec_input.specs.Tables.{link_rows, link_named}
 use Rattle.hyd_spec_input.specs.RowsTogether as others
 use Rattle.hyd_asked_link_states.proofs.RightLinks.{right_link}
 use Rattle.hyd_asked_link_states.proofs.StateLemmas.{settable}
-use Rattle.hyd_text_rows.specs.FirstWrongRow.{rows_at}
-use Rattle.hyd_text_rows.proofs.FoundLemmas.{row_at}
+use Rattle.hyd_rows_and_tables.specs.FirstWrongRow.{rows_at}
+use Rattle.hyd_rows_and_tables.proofs.FoundLemmas.{row_at}
 use Rattle.hyd_build_controls.proofs.ControlLemmas.{right_control, right_when}
 use Rattle.hyd_build_controls.proofs.NumberLemmas.{link_numbered}
 use Rattle.hyd_build_controls.proofs.controls.control_of.Goals as goal

@@ -5,8 +5,8 @@ use Rattle.hyd_spec_lines.specs.declared.line.Line.{Line}
 use Rattle.hyd_spec_lines.specs.declared.section.Section.TheVariants.{Junctions}
 use Rattle.hyd_spec_input.specs.Project.{IsAction}
 use Rattle.hyd_spec_input.specs.RuleRows.{begins_with, is_rule, stage_by}
-use Rattle.hyd_text_rows.specs.FirstWrongRow.{rows_at}
-use Rattle.hyd_text_rows.proofs.FoundLemmas.{row_at}
+use Rattle.hyd_rows_and_tables.specs.FirstWrongRow.{rows_at}
+use Rattle.hyd_rows_and_tables.proofs.FoundLemmas.{row_at}
 use Rattle.hyd_build_controls.specs.CheckedRows.{IsRightAction}
 use Rattle.hyd_build_controls.specs.Rules.{is_of_branch, stage_at}
 use Rattle.hyd_build_controls.proofs.RightParts.{right_branch}

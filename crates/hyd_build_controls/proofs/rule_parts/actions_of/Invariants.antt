@@ -1,5 +1,5 @@
 use Rattle.hyd_spec_input.specs.Project.{IsAction}
-use Rattle.hyd_text_rows.specs.FirstWrongRow.{rows_at}
+use Rattle.hyd_rows_and_tables.specs.FirstWrongRow.{rows_at}
 use Rattle.hyd_build_controls.specs.Rules.{AreParts, is_of_branch}
 use Rattle.hyd_build_controls.proofs.rule_parts.actions_of.Given as goal
 

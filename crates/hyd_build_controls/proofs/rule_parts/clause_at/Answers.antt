@@ -4,8 +4,8 @@ use Rattle.hyd_spec_lines.specs.declared.line.Line.{Line}
 use Rattle.hyd_spec_lines.specs.declared.section.Section.TheVariants.{Junctions}
 use Rattle.hyd_spec_input.specs.Project.{IsClause}
 use Rattle.hyd_spec_input.specs.RuleRows.{begins_with, words_of_rule_line}
-use Rattle.hyd_text_rows.specs.FirstWrongRow.{rows_at}
-use Rattle.hyd_text_rows.proofs.FoundLemmas.{row_at}
+use Rattle.hyd_rows_and_tables.specs.FirstWrongRow.{rows_at}
+use Rattle.hyd_rows_and_tables.proofs.FoundLemmas.{row_at}
 use Rattle.hyd_build_controls.proofs.RightParts.{names_numbered, read_as_clause}
 use Rattle.hyd_build_controls.proofs.rule_parts.clause_at.Goals as goal
 

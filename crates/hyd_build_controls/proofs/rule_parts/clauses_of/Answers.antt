@@ -6,8 +6,8 @@ use Rattle.hyd_spec_lines.specs.declared.section.Section.TheVariants.{Junctions}
 use Rattle.hyd_spec_input.specs.MeaningsAcrossRows.{is_asking}
 use Rattle.hyd_spec_input.specs.Project.{IsClause}
 use Rattle.hyd_spec_input.specs.RuleRows.{begins_with, is_rule, stage_by}
-use Rattle.hyd_text_rows.specs.FirstWrongRow.{rows_at}
-use Rattle.hyd_text_rows.proofs.FoundLemmas.{row_at}
+use Rattle.hyd_rows_and_tables.specs.FirstWrongRow.{rows_at}
+use Rattle.hyd_rows_and_tables.proofs.FoundLemmas.{row_at}
 use Rattle.hyd_build_controls.specs.Rules.{IsRightClause, stage_at}
 use Rattle.hyd_build_controls.proofs.RightParts.{right_clause}
 use Rattle.hyd_build_controls.proofs.RuleLists.{parts_skip, parts_less, parts_more, parts_before_rule, parts_at_end}

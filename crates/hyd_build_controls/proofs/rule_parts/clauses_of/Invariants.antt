@@ -1,6 +1,6 @@
 use Rattle.hyd_spec_input.specs.MeaningsAcrossRows.{is_asking}
 use Rattle.hyd_spec_input.specs.Project.{IsClause}
-use Rattle.hyd_text_rows.specs.FirstWrongRow.{rows_at}
+use Rattle.hyd_rows_and_tables.specs.FirstWrongRow.{rows_at}
 use Rattle.hyd_build_controls.specs.Rules.{AreParts}
 use Rattle.hyd_build_controls.proofs.rule_parts.clauses_of.Given as goal
 

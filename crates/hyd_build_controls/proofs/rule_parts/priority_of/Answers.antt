@@ -5,8 +5,8 @@ use Rattle.hyd_spec_lines.specs.declared.line.Line.{Line}
 use Rattle.hyd_spec_lines.specs.declared.section.Section.TheVariants.{Junctions}
 use Rattle.hyd_spec_input.specs.MeaningsAcrossRows.{is_priority}
 use Rattle.hyd_spec_input.specs.RuleRows.{is_rule}
-use Rattle.hyd_text_rows.specs.FirstWrongRow.{rows_at}
-use Rattle.hyd_text_rows.proofs.FoundLemmas.{row_at}
+use Rattle.hyd_rows_and_tables.specs.FirstWrongRow.{rows_at}
+use Rattle.hyd_rows_and_tables.proofs.FoundLemmas.{row_at}
 use Rattle.hyd_build_controls.proofs.RightParts.{right_priority}
 use Rattle.hyd_build_controls.proofs.RuleLists.{priority_skip, priority_less, priority_here, priority_before_rule}
 use Rattle.hyd_build_controls.proofs.RuleLists.{priority_at_end}

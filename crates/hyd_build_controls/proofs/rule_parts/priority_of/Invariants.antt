@@ -1,6 +1,6 @@
 use Rattle.std.proofs.Common.{◌≡◌}
 use Rattle.hyd_spec_input.specs.MeaningsAcrossRows.{priority_of}
-use Rattle.hyd_text_rows.specs.FirstWrongRow.{rows_at}
+use Rattle.hyd_rows_and_tables.specs.FirstWrongRow.{rows_at}
 use Rattle.hyd_build_controls.specs.Rules.{rest_of_rule}
 use Rattle.hyd_build_controls.proofs.rule_parts.priority_of.Given as goal
 

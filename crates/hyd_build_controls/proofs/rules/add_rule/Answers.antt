@@ -3,8 +3,8 @@ use Rattle.hyd_spec_lines.specs.Lines.{row_of}
 use Rattle.hyd_spec_lines.specs.declared.line.Line.{Line}
 use Rattle.hyd_spec_lines.specs.declared.section.Section.TheVariants.{Junctions}
 use Rattle.hyd_spec_input.specs.RuleRows.{is_rule}
-use Rattle.hyd_text_rows.specs.FirstWrongRow.{rows_at}
-use Rattle.hyd_text_rows.proofs.FoundLemmas.{row_at}
+use Rattle.hyd_rows_and_tables.specs.FirstWrongRow.{rows_at}
+use Rattle.hyd_rows_and_tables.proofs.FoundLemmas.{row_at}
 use Rattle.hyd_build_controls.specs.Rules.{NamesRule}
 use Rattle.hyd_build_controls.proofs.RuleLists.{rules_skip, rules_less, rules_more}
 use Rattle.hyd_build_controls.proofs.rules.add_rule.Goals as goal

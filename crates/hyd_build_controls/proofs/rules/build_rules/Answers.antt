@@ -1,7 +1,7 @@
 use Rattle.std.proofs.Common.{arith}
 use Rattle.std.proofs.lemmas.List.{length-map}
 use Rattle.hyd_spec_lines.specs.Lines.{row_of}
-use Rattle.hyd_text_rows.specs.FirstWrongRow.{rows_at}
+use Rattle.hyd_rows_and_tables.specs.FirstWrongRow.{rows_at}
 use Rattle.hyd_build_controls.proofs.RuleLists.{rules_end}
 use Rattle.hyd_build_controls.proofs.rules.build_rules.Goals as goal
 

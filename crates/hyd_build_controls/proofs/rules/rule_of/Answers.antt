@@ -5,8 +5,8 @@ use Rattle.hyd_spec_lines.specs.declared.section.Section.TheVariants.{Junctions}
 use Rattle.hyd_spec_input.specs.MeaningsAcrossRows.{is_asking, is_doing, is_otherwise, clause_lines, then_lines}
 use Rattle.hyd_spec_input.specs.MeaningsAcrossRows.{else_lines}
 use Rattle.hyd_spec_input.specs.Project.{Match, IsClause, IsAction, IsRule}
-use Rattle.hyd_text_rows.specs.FirstWrongRow.{rows_at}
-use Rattle.hyd_text_rows.proofs.FoundLemmas.{row_at}
+use Rattle.hyd_rows_and_tables.specs.FirstWrongRow.{rows_at}
+use Rattle.hyd_rows_and_tables.proofs.FoundLemmas.{row_at}
 use Rattle.hyd_build_controls.specs.Rules.{rest_of_rule}
 use Rattle.hyd_build_controls.proofs.RuleLists.{named_after, lines_behind, priority_behind}
 use Rattle.hyd_build_controls.proofs.rules.rule_of.Goals as goal

@@ -1,7 +1,7 @@
 use Rattle.std.proofs.Common.{◌≡◌, ◌+◌, ◌≤◌, ◌++◌, map, length, take}
 use Rattle.hyd_spec_input.specs.MeaningsAcrossRows.{new_names}
 use Rattle.hyd_spec_input.specs.Tables.{rows_of, own_id}
-use Rattle.hyd_text_rows.specs.FirstWrongRow.{rows_at}
+use Rattle.hyd_rows_and_tables.specs.FirstWrongRow.{rows_at}
 use Rattle.hyd_build_ids_and_options.proofs.ids.add_section.Given as goal
 
 abbrev pub invariant-loop-line : goal.invariant-loop-line

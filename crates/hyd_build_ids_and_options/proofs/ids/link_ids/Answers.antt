@@ -1,4 +1,4 @@
-use Rattle.hyd_text_rows.specs.FirstWrongRow.{rows_at}
+use Rattle.hyd_rows_and_tables.specs.FirstWrongRow.{rows_at}
 use Rattle.hyd_build_ids_and_options.proofs.NameLemmas.{are_link_ids}
 use Rattle.hyd_build_ids_and_options.proofs.RightRows.{right_rows}
 use Rattle.hyd_build_ids_and_options.proofs.ids.link_ids.Goals as goal

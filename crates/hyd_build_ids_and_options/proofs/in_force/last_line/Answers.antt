@@ -2,10 +2,10 @@ use Rattle.std.proofs.Common.{rules, sym, ◌∙◌}
 use Rattle.hyd_spec_lines.specs.WordsOfLines.{text_of}
 use Rattle.hyd_spec_lines.specs.declared.line.Line.{Line}
 use Rattle.hyd_spec_lines.specs.declared.section.Section.TheVariants.{Junctions}
-use Rattle.hyd_text_rows.specs.FirstWrongRow.{rows_at}
-use Rattle.hyd_text_rows.proofs.FoundLemmas.{row_at}
+use Rattle.hyd_rows_and_tables.specs.FirstWrongRow.{rows_at}
+use Rattle.hyd_rows_and_tables.proofs.FoundLemmas.{row_at}
 use Rattle.hyd_build_ids_and_options.specs.InForce.{begins_with}
-use Rattle.hyd_build_ids_and_options.proofs.LastLines.{last_here, last_before, last_elsewhere}
+use Rattle.hyd_rows_and_tables.proofs.LastLines.{last_here, last_before, last_elsewhere}
 use Rattle.hyd_build_ids_and_options.proofs.in_force.last_line.Goals as goal
 
 nothing : Line

@@ -3,7 +3,7 @@ use Rattle.hyd_spec_lines.specs.WordsOfLines.{text_of}
 use Rattle.hyd_spec_lines.specs.Lines.{LiesIn}
 use Rattle.hyd_spec_input.specs.Tables.{rows_of}
 use Rattle.hyd_spec_input.specs.InForce.{last_where}
-use Rattle.hyd_text_rows.specs.FirstWrongRow.{rows_at, row_in}
+use Rattle.hyd_rows_and_tables.specs.FirstWrongRow.{rows_at, row_in}
 use Rattle.hyd_build_ids_and_options.specs.InForce.{begins_with}
 use Rattle.hyd_build_ids_and_options.proofs.in_force.last_line.Given as goal
 

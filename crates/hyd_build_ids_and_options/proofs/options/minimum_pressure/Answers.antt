@@ -3,7 +3,7 @@ use Rattle.std.specs.Prelude.{codes}
 use Rattle.hyd_spec_lines.specs.declared.section.Section.TheVariants.{Options}
 use Rattle.hyd_spec_input.specs.Columns.{needed, number}
 use Rattle.hyd_spec_input.specs.InForce.{begins}
-use Rattle.hyd_text_rows.specs.FirstWrongRow.{rows_at}
+use Rattle.hyd_rows_and_tables.specs.FirstWrongRow.{rows_at}
 use Rattle.hyd_build_ids_and_options.proofs.LinesInForce.{of_line, minimum_right}
 use Rattle.hyd_build_ids_and_options.proofs.RightRows.{right_rows}
 use Rattle.hyd_build_ids_and_options.proofs.options.minimum_pressure.Goals as goal

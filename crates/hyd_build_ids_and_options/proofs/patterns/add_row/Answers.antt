@@ -2,8 +2,8 @@ use Rattle.std.proofs.Common.{sym, ◌∙◌, get_or}
 use Rattle.hyd_spec_lines.specs.Lines.{row_of}
 use Rattle.hyd_spec_lines.specs.declared.line.Line.{Line}
 use Rattle.hyd_spec_lines.specs.declared.section.Section.TheVariants.{Junctions}
-use Rattle.hyd_text_rows.specs.FirstWrongRow.{rows_at}
-use Rattle.hyd_text_rows.proofs.FoundLemmas.{row_at}
+use Rattle.hyd_rows_and_tables.specs.FirstWrongRow.{rows_at}
+use Rattle.hyd_rows_and_tables.proofs.FoundLemmas.{row_at}
 use Rattle.hyd_build_ids_and_options.specs.PatternsSoFar.{each}
 use Rattle.hyd_build_ids_and_options.proofs.PatternLemmas.{skip_row, add_pattern, inside_patterns, no_number, numbered}
 use Rattle.hyd_build_ids_and_options.proofs.PatternLemmas.{right_row}

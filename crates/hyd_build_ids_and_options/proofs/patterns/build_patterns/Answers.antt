@@ -1,7 +1,7 @@
 use Rattle.std.proofs.Common.{arith}
 use Rattle.std.proofs.lemmas.List.{length-map}
 use Rattle.hyd_spec_lines.specs.Lines.{row_of}
-use Rattle.hyd_text_rows.specs.FirstWrongRow.{rows_at}
+use Rattle.hyd_rows_and_tables.specs.FirstWrongRow.{rows_at}
 use Rattle.hyd_build_ids_and_options.proofs.PatternLemmas.{all_filled}
 use Rattle.hyd_build_ids_and_options.proofs.patterns.build_patterns.Goals as goal
 

@@ -1,4 +1,4 @@
-use Rattle.hyd_text_rows.specs.FirstWrongRow.{rows_at}
+use Rattle.hyd_rows_and_tables.specs.FirstWrongRow.{rows_at}
 use Rattle.hyd_build_ids_and_options.specs.PatternsSoFar.{AreFilled}
 use Rattle.hyd_build_ids_and_options.proofs.patterns.build_patterns.Given as goal
 

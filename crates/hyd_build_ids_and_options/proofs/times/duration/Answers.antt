@@ -3,7 +3,7 @@ use Rattle.std.specs.Prelude.{codes}
 use Rattle.hyd_spec_lines.specs.declared.section.Section.TheVariants.{Times}
 use Rattle.hyd_spec_input.specs.InForce.{begins}
 use Rattle.hyd_spec_input.specs.Moments.{time}
-use Rattle.hyd_text_rows.specs.FirstWrongRow.{rows_at}
+use Rattle.hyd_rows_and_tables.specs.FirstWrongRow.{rows_at}
 use Rattle.hyd_build_ids_and_options.proofs.LinesInForce.{of_line, duration_right}
 use Rattle.hyd_build_ids_and_options.proofs.RightRows.{right_rows}
 use Rattle.hyd_build_ids_and_options.proofs.times.duration.Goals as goal

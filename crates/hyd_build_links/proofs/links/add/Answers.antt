@@ -2,7 +2,7 @@ use Rattle.std.proofs.Common.{sym, ◌∙◌, get_or}
 use Rattle.hyd_spec_lines.specs.Lines.{row_of}
 use Rattle.hyd_spec_lines.specs.declared.line.Line.{Line}
 use Rattle.hyd_spec_lines.specs.declared.section.Section.TheVariants.{Junctions}
-use Rattle.hyd_text_rows.proofs.FoundLemmas.{row_at}
+use Rattle.hyd_rows_and_tables.proofs.FoundLemmas.{row_at}
 use Rattle.hyd_build_links.specs.CheckedRows.{rows_from}
 use Rattle.hyd_build_links.proofs.BuiltLemmas.{other_section, same_section, link_section, built_same, built_more}
 use Rattle.hyd_build_links.proofs.links.add.Goals as goal

@@ -6,7 +6,7 @@ use Rattle.hyd_build_links.proofs.NumberLemmas.{pump_bend}
 use Rattle.hyd_build_links.proofs.PumpLemmas.{pump_made}
 use Rattle.hyd_build_links.proofs.RowLemmas.{no_fault, pump_facts}
 use Rattle.hyd_build_links.proofs.pumps.pump_kind.Goals as goal
-use Rattle.hyd_curves.proofs.BendRowLemmas.{many_points}
+use Rattle.hyd_curves.proofs.StraightLineCurveRowLemmas.{many_points}
 
 pub unreachable-requires : goal.unreachable-requires
 unreachable-requires c =

@@ -7,10 +7,10 @@ use Rattle.hyd_spec_lines.specs.declared.section.Section.TheVariants.{Junctions,
 use Rattle.hyd_net.specs.ListView.{ListView}
 use Rattle.hyd_net.specs.declared.nodes.Demand.{Demand}
 use Rattle.hyd_theorems_on_input.proofs.Occurs.{number_inside}
-use Rattle.hyd_text_rows.specs.FirstWrongRow.{rows_at}
-use Rattle.hyd_text_rows.proofs.FoundLemmas.{row_at}
+use Rattle.hyd_rows_and_tables.specs.FirstWrongRow.{rows_at}
+use Rattle.hyd_rows_and_tables.proofs.FoundLemmas.{row_at}
 use Rattle.hyd_build_nodes.specs.DemandsAndEmitters.{each}
-use Rattle.hyd_build_nodes.proofs.RightLemmas.{alone}
+use Rattle.hyd_build_nodes.proofs.RowsWithoutFault.{alone}
 use Rattle.hyd_build_nodes.proofs.DemandLemmas.{skip_row, add_row, id_is, base_is_small, junction_there, demand_is}
 use Rattle.hyd_build_nodes.proofs.demands.add_row.Goals as goal
 

@@ -1,6 +1,7 @@
 use Rattle.std.proofs.Common.{ℕ, ap, length, subst}
-use Rattle.hyd_text_rows.specs.FirstWrongRow.{rows_at}
-use Rattle.hyd_build_nodes.specs.DemandsAndEmitters.{AreEmpty, each}
+use Rattle.hyd_rows_and_tables.specs.FirstWrongRow.{rows_at}
+use Rattle.hyd_rows_and_tables.specs.IdTables.{AreEmpty}
+use Rattle.hyd_build_nodes.specs.DemandsAndEmitters.{each}
 use Rattle.hyd_build_nodes.proofs.DemandLemmas.{before_rows, after_rows}
 use Rattle.hyd_build_nodes.proofs.demands.gather_demands.Goals as goal
 

@@ -4,9 +4,9 @@ use Rattle.hyd_spec_lines.specs.Lines.{row_of}
 use Rattle.hyd_spec_lines.specs.declared.line.Line.{Line}
 use Rattle.hyd_spec_lines.specs.declared.section.Section.TheVariants.{Junctions, Emitters}
 use Rattle.hyd_theorems_on_input.proofs.Occurs.{number_inside}
-use Rattle.hyd_text_rows.specs.FirstWrongRow.{rows_at}
-use Rattle.hyd_text_rows.proofs.FoundLemmas.{row_at}
-use Rattle.hyd_build_nodes.proofs.RightLemmas.{alone}
+use Rattle.hyd_rows_and_tables.specs.FirstWrongRow.{rows_at}
+use Rattle.hyd_rows_and_tables.proofs.FoundLemmas.{row_at}
+use Rattle.hyd_build_nodes.proofs.RowsWithoutFault.{alone}
 use Rattle.hyd_build_nodes.proofs.EmitterLemmas.{skip_row, add_row, id_is, junction_there, not_negative, at_most}
 use Rattle.hyd_build_nodes.proofs.EmitterLemmas.{accepted, emitter_is}
 use Rattle.hyd_build_nodes.proofs.emitters.add_row.Goals as goal

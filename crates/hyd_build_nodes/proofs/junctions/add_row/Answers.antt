@@ -6,10 +6,10 @@ use Rattle.hyd_spec_lines.specs.declared.line.Line.{Line}
 use Rattle.hyd_spec_lines.specs.declared.section.Section.TheVariants.{Junctions}
 use Rattle.hyd_spec_input.specs.Project.{IsJunction}
 use Rattle.hyd_theorems_on_input.proofs.Occurs.{number_inside}
-use Rattle.hyd_text_rows.specs.FirstWrongRow.{rows_at}
-use Rattle.hyd_text_rows.proofs.FoundLemmas.{row_at}
+use Rattle.hyd_rows_and_tables.specs.FirstWrongRow.{rows_at}
+use Rattle.hyd_rows_and_tables.proofs.FoundLemmas.{row_at}
 use Rattle.hyd_build_nodes.specs.WholeJunctions.{AreParts}
-use Rattle.hyd_build_nodes.proofs.RightLemmas.{alone, built_same}
+use Rattle.hyd_build_nodes.proofs.RowsWithoutFault.{alone, built_same}
 use Rattle.hyd_build_nodes.proofs.JunctionLemmas.{id_is, id_there, elevation_is_small, base_is_small, junction_more}
 use Rattle.hyd_build_nodes.proofs.junctions.add_row.Goals as goal
 

@@ -1,7 +1,7 @@
 use Rattle.std.proofs.Common.{refl}
-use Rattle.hyd_lemmas.proofs.Enclosures.{IsEnclosure-made}
+use Rattle.hyd_lemmas.proofs.CapacitiesEnclose.{IsEnclosure-made}
 use Rattle.hyd_lemmas.proofs.Sharpness.{pair-sharp}
-use Rattle.hyd_capacities.proofs.Refusals.{not_refused}
+use Rattle.hyd_capacities.proofs.CapacitiesNotRefused.{not_refused}
 use Rattle.hyd_capacities.proofs.range.capacity_inside.Goals as goal
 
 pub returns-clause-made : goal.returns-clause-made

@@ -5,7 +5,7 @@ use Rattle.hyd_spec_certificates.specs.Interval.{Interval}
 use Rattle.hyd_spec_certificates.specs.Stocks.{Stocks, carried_levels}
 use Rattle.hyd_tank.specs.StockIntervals.{stocks_of, AreHeld}
 use Rattle.hyd_watched_levels.specs.FactsBeforeEnd.{stocks_in}
-use Rattle.hyd_tank.proofs.Tanks.{carried_is}
+use Rattle.hyd_tank.proofs.TanksOfSoundNetworks.{carried_is}
 use Rattle.hyd_carried_levels.proofs.carried.carried_of.Goals as goal
 
 pub stock_at-carried-requires-clause-held : goal.stock_at-carried-requires-clause-held

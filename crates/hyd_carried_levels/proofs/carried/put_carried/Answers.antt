@@ -3,9 +3,9 @@ use Rattle.std.specs.Prelude.{map}
 use Rattle.std.proofs.lemmas.List.{length_push}
 use Rattle.hyd_spec_certificates.specs.Spans.{levels_of}
 use Rattle.hyd_spec_certificates.specs.declared.LevelSpan.{LevelSpan}
-use Rattle.hyd_tank_inflows.proofs.Numbered.{one_more, all_there}
+use Rattle.hyd_tank_inflows.proofs.ItemForEachNumber.{one_more, all_there}
 use Rattle.hyd_carried_levels.specs.Carried.{carried_in}
-use Rattle.hyd_carried_levels.proofs.Carrying.{carried_are}
+use Rattle.hyd_carried_levels.proofs.CarriedLevelsByFacts.{carried_are}
 use Rattle.hyd_carried_levels.proofs.carried.put_carried.Goals as goal
 
 pub loop-tank-preserved : goal.loop-tank-preserved

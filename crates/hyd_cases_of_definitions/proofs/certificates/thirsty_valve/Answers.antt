@@ -2,7 +2,7 @@ use Rattle.std.proofs.Common.{refl, ◌≡◌, ◌≤ℤ◌, ◌-ℤ◌, ℤ, po
 use Rattle.std.proofs.lemmas.Int.{ints}
 use Rattle.std.proofs.lemmas.List.Elements.{All-nil, All-cons, All-head}
 use Rattle.hyd_num.specs.BinaryNumbers.{numerator, denominator}
-use Rattle.hyd_num.proofs.Ends.{denominator_positive}
+use Rattle.hyd_num.proofs.EndsInOrder.{denominator_positive}
 use Rattle.hyd_lemmas.proofs.Each.{each_one}
 use Rattle.hyd_spec.specs.ProgramTypes.{Capacity}
 use Rattle.hyd_spec_certificates.specs.declared.Problem.TheVariants.{Main}

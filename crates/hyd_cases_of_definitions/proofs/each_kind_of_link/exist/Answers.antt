@@ -1,6 +1,6 @@
 use Rattle.std.proofs.Common.{refl, pos, neg_ℤ}
 use Rattle.hyd_cases_of_definitions.proofs.each_kind_of_link.exist.Goals as goal
-use Rattle.hyd_cases_of_definitions.proofs.Ends.{can_be, with_ends}
+use Rattle.hyd_cases_of_definitions.proofs.CapacitiesWithGivenEnds.{can_be, with_ends}
 
 pub returns : goal.returns
 unfolding can_be

@@ -1,6 +1,6 @@
 use Rattle.std.proofs.Common.{refl, pos, neg_ℤ}
 use Rattle.hyd_cases_of_definitions.proofs.exact_flows.exist.Goals as goal
-use Rattle.hyd_cases_of_definitions.proofs.Ends.{can_be, with_ends}
+use Rattle.hyd_cases_of_definitions.proofs.CapacitiesWithGivenEnds.{can_be, with_ends}
 
 pub returns-clause-valve : goal.returns-clause-valve
 unfolding can_be

@@ -1,5 +1,5 @@
 use Rattle.std.proofs.Common.{refl}
-use Rattle.hyd_lemmas.proofs.Trials.{le-yes}
+use Rattle.hyd_lemmas.proofs.BooleanTests.{le-yes}
 use Rattle.hyd_cases_of_histories.specs.OneLink.{link_of}
 use Rattle.hyd_cases_of_histories.specs.Spurs.{setting_spur, half_spur}
 use Rattle.hyd_cases_of_histories.proofs.Single.{greater}

@@ -1,7 +1,7 @@
 use Rattle.std.proofs.Common.{refl}
 use Rattle.hyd_cases_of_histories.specs.OneLink.{link_of}
 use Rattle.hyd_cases_of_histories.specs.Spurs.{pump_spur}
-use Rattle.hyd_lemmas.proofs.Trials.{lt-yes}
+use Rattle.hyd_lemmas.proofs.BooleanTests.{lt-yes}
 use Rattle.hyd_cases_of_histories.proofs.claims.running_pump.Goals as goal
 
 pub returns-clause-holds : goal.returns-clause-holds

@@ -1,5 +1,5 @@
 use Rattle.std.proofs.Common.{pos, ℕ, ◌+◌, ◌≢◌, [], arith, refl}
-use Rattle.hyd_lemmas.proofs.Trials.{le-yes}
+use Rattle.hyd_lemmas.proofs.BooleanTests.{le-yes}
 use Rattle.hyd_spec.specs.ProgramTypes.{LinkState, Open, Closed}
 use Rattle.hyd_spec.specs.PeriodLength.{HasItsLength, at_end}
 use Rattle.hyd_spec.specs.History.{IsPeriod, Begins, ComesAfter, commanded_after}

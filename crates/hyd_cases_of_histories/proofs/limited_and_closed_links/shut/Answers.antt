@@ -1,5 +1,5 @@
 use Rattle.std.proofs.Common.{refl, arith}
-use Rattle.hyd_lemmas.proofs.Trials.{le-yes}
+use Rattle.hyd_lemmas.proofs.BooleanTests.{le-yes}
 use Rattle.hyd_cases_of_histories.specs.Spurs.{shut_spur}
 use Rattle.hyd_cases_of_histories.proofs.Single.{history, link_follows, greater}
 use Rattle.hyd_cases_of_histories.proofs.limited_and_closed_links.shut.Goals as goal

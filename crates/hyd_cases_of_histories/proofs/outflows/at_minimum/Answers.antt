@@ -1,5 +1,5 @@
 use Rattle.std.proofs.Common.{refl, arith}
-use Rattle.hyd_lemmas.proofs.Trials.{le-yes}
+use Rattle.hyd_lemmas.proofs.BooleanTests.{le-yes}
 use Rattle.hyd_cases_of_histories.specs.Spurs.{minimum_spur}
 use Rattle.hyd_cases_of_histories.proofs.Single.{history, junction_obeys, greater}
 use Rattle.hyd_cases_of_histories.proofs.outflows.at_minimum.Goals as goal

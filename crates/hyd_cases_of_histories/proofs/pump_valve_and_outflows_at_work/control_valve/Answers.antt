@@ -1,5 +1,5 @@
 use Rattle.std.proofs.Common.{refl, inl, inr, arith}
-use Rattle.hyd_lemmas.proofs.Trials.{le-yes}
+use Rattle.hyd_lemmas.proofs.BooleanTests.{le-yes}
 use Rattle.hyd_cases_of_histories.specs.Spurs.{setting_spur}
 use Rattle.hyd_cases_of_histories.proofs.Single.{history, link_follows, greater}
 use Rattle.hyd_cases_of_histories.proofs.pump_valve_and_outflows_at_work.control_valve.Goals as goal

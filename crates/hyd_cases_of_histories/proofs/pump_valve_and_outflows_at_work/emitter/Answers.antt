@@ -1,6 +1,6 @@
 use Rattle.std.proofs.Common.{refl, arith}
 use Rattle.std.proofs.lemmas.Bool.{leb-true}
-use Rattle.hyd_lemmas.proofs.Trials.{le-yes}
+use Rattle.hyd_lemmas.proofs.BooleanTests.{le-yes}
 use Rattle.hyd_cases_of_histories.specs.Spurs.{emitter_spur}
 use Rattle.hyd_cases_of_histories.proofs.Single.{history, junction_obeys, more_than}
 use Rattle.hyd_cases_of_histories.proofs.pump_valve_and_outflows_at_work.emitter.Goals as goal

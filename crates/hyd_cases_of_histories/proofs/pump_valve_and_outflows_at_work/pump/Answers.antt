@@ -1,6 +1,6 @@
 use Rattle.std.proofs.Common.{refl, inl, inr, arith}
 use Rattle.std.proofs.lemmas.Bool.{leb-true}
-use Rattle.hyd_lemmas.proofs.Trials.{le-yes}
+use Rattle.hyd_lemmas.proofs.BooleanTests.{le-yes}
 use Rattle.hyd_cases_of_histories.specs.Spurs.{pump_spur}
 use Rattle.hyd_cases_of_histories.proofs.Single.{history, link_follows, more_than, greater}
 use Rattle.hyd_cases_of_histories.proofs.pump_valve_and_outflows_at_work.pump.Goals as goal

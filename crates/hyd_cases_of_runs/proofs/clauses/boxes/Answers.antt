@@ -1,6 +1,6 @@
 use Rattle.std.proofs.Common.{refl, ap}
 use Rattle.hyd_cases_of_runs.proofs.clauses.boxes.Goals as goal
-use Rattle.hyd_cases_of_runs.proofs.HamletIs.{hamlet_is}
+use Rattle.hyd_cases_of_runs.proofs.HamletAsOneValue.{hamlet_is}
 use Rattle.hyd_spec_certificates.specs.PeriodNetwork.{grid_links}
 use Rattle.hyd_spec_certificates.specs.Decided.{links_at, inflow_boxes}
 use Rattle.hyd_cases_of_runs.specs.Hamlet.{grid_at_start, row_at_start}

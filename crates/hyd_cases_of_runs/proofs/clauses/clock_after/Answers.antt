@@ -1,10 +1,10 @@
 use Rattle.std.proofs.Common.{ap}
 use Rattle.hyd_cases_of_runs.proofs.clauses.clock_after.Goals as goal
-use Rattle.hyd_cases_of_runs.proofs.TownIs.{town_is}
+use Rattle.hyd_cases_of_runs.proofs.TwoTankTownAsOneValue.{town_is}
 use Rattle.std.specs.Prelude.{pos, [], ◌∷◌, map}
 use Rattle.hyd_spec.specs.ProgramTypes.{Less, NotMore, More, NotLess, Equal, Unequal, Clock}
-use Rattle.hyd_cases_of_runs.specs.Town.{amount}
-use Rattle.hyd_cases_of_runs.specs.TownPeriods.{standing_at_start}
+use Rattle.hyd_cases_of_runs.specs.TwoTankTown.{amount}
+use Rattle.hyd_cases_of_runs.specs.TwoTankTownPeriods.{standing_at_start}
 use Rattle.hyd_cases_of_runs.specs.Clauses.{town_truth}
 
 pub returns-clause-less : goal.returns-clause-less

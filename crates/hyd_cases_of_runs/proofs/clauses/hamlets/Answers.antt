@@ -1,6 +1,6 @@
 use Rattle.std.proofs.Common.{refl}
 use Rattle.hyd_cases_of_runs.proofs.clauses.hamlets.Goals as goal
-use Rattle.hyd_cases_of_runs.specs.Town.{no_room}
+use Rattle.hyd_cases_of_runs.specs.TwoTankTown.{no_room}
 
 pub returns : goal.returns
 returns c = record {

@@ -1,9 +1,9 @@
 use Rattle.std.proofs.Common.{ap}
 use Rattle.hyd_cases_of_runs.proofs.clauses.metres.Goals as goal
-use Rattle.hyd_cases_of_runs.proofs.TownIs.{town_is}
+use Rattle.hyd_cases_of_runs.proofs.TwoTankTownAsOneValue.{town_is}
 use Rattle.std.specs.Prelude.{map}
 use Rattle.hyd_spec.specs.ProgramTypes.{Less, NotMore, More, NotLess, Pressure}
-use Rattle.hyd_cases_of_runs.specs.TownPeriods.{standing_at_two}
+use Rattle.hyd_cases_of_runs.specs.TwoTankTownPeriods.{standing_at_two}
 use Rattle.hyd_cases_of_runs.specs.Clauses.{truth_at_two, town_row, metres_34_9923185, heads_about_34_9923185}
 
 pub returns-clause-less : goal.returns-clause-less

@@ -1,6 +1,6 @@
 use Rattle.std.proofs.Common.{ap}
 use Rattle.hyd_cases_of_runs.proofs.clauses.rules.Goals as goal
-use Rattle.hyd_cases_of_runs.proofs.HamletIs.{hamlet_is}
+use Rattle.hyd_cases_of_runs.proofs.HamletAsOneValue.{hamlet_is}
 use Rattle.std.specs.Prelude.{pos, [], ◌∷◌, map}
 use Rattle.hyd_spec_certificates.specs.Decided.{rule_truths}
 use Rattle.hyd_cases_of_runs.specs.Hamlet.{grid_at_start}

@@ -1,10 +1,10 @@
 use Rattle.std.proofs.Common.{ap}
 use Rattle.hyd_cases_of_runs.proofs.clauses.statuses.Goals as goal
-use Rattle.hyd_cases_of_runs.proofs.TownIs.{town_is}
+use Rattle.hyd_cases_of_runs.proofs.TwoTankTownAsOneValue.{town_is}
 use Rattle.std.specs.Prelude.{map}
 use Rattle.hyd_spec.specs.ProgramTypes.{Equal, Unequal, Status, ValueOpen, ValueClosed, ValueActive}
-use Rattle.hyd_cases_of_runs.specs.Town.{numbers}
-use Rattle.hyd_cases_of_runs.specs.TownPeriods.{standing_when_full, standing_at_three}
+use Rattle.hyd_cases_of_runs.specs.TwoTankTown.{numbers}
+use Rattle.hyd_cases_of_runs.specs.TwoTankTownPeriods.{standing_when_full, standing_at_three}
 use Rattle.hyd_cases_of_runs.specs.Clauses.{town_truth}
 
 pub returns-clause-at_three_equal_open : goal.returns-clause-at_three_equal_open

@@ -1,9 +1,9 @@
 use Rattle.std.proofs.Common.{ap}
 use Rattle.hyd_cases_of_runs.proofs.clauses.tank_metres.Goals as goal
-use Rattle.hyd_cases_of_runs.proofs.TownIs.{town_is}
+use Rattle.hyd_cases_of_runs.proofs.TwoTankTownAsOneValue.{town_is}
 use Rattle.std.specs.Prelude.{map}
 use Rattle.hyd_spec.specs.ProgramTypes.{Less, NotMore, More, NotLess, Pressure}
-use Rattle.hyd_cases_of_runs.specs.TownPeriods.{row_at_two}
+use Rattle.hyd_cases_of_runs.specs.TwoTankTownPeriods.{row_at_two}
 use Rattle.hyd_cases_of_runs.specs.Clauses.{truth_at_two, town_standing, metres_4_9965, levels_about_4_9965}
 
 pub returns-clause-less : goal.returns-clause-less

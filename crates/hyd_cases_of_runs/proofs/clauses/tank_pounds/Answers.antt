@@ -1,6 +1,6 @@
 use Rattle.std.proofs.Common.{ap}
 use Rattle.hyd_cases_of_runs.proofs.clauses.tank_pounds.Goals as goal
-use Rattle.hyd_cases_of_runs.proofs.HamletIs.{hamlet_is}
+use Rattle.hyd_cases_of_runs.proofs.HamletAsOneValue.{hamlet_is}
 use Rattle.std.specs.Prelude.{map}
 use Rattle.hyd_spec.specs.ProgramTypes.{Less, NotMore, More, NotLess, Pressure}
 use Rattle.hyd_cases_of_runs.specs.Hamlet.{pounds_4_3, row_at_start}

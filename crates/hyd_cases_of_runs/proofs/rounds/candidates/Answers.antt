@@ -1,4 +1,4 @@
-use Rattle.hyd_cases_of_runs.proofs.RoundsAre.{candidate_nearest, candidate_further, none_short, none_outside}
+use Rattle.hyd_cases_of_runs.proofs.RaisesOnSmallGrid.{candidate_nearest, candidate_further, none_short, none_outside}
 use Rattle.hyd_cases_of_runs.proofs.rounds.candidates.Goals as goal
 
 pub returns-clause-nearest : goal.returns-clause-nearest

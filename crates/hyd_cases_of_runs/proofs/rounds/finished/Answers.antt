@@ -1,4 +1,4 @@
-use Rattle.hyd_cases_of_runs.proofs.RoundsAre.{tight_up, tight_down}
+use Rattle.hyd_cases_of_runs.proofs.RaisesOnSmallGrid.{tight_up, tight_down}
 use Rattle.hyd_cases_of_runs.proofs.rounds.finished.Goals as goal
 
 pub returns-clause-up : goal.returns-clause-up

@@ -1,4 +1,4 @@
-use Rattle.hyd_cases_of_runs.proofs.RoundsAre.{first_up, second_up, first_down, second_down}
+use Rattle.hyd_cases_of_runs.proofs.RaisesOnSmallGrid.{first_up, second_up, first_down, second_down}
 use Rattle.hyd_cases_of_runs.proofs.rounds.raised.Goals as goal
 
 pub returns-clause-first_up : goal.returns-clause-first_up

@@ -1,4 +1,4 @@
-use Rattle.hyd_cases_of_runs.proofs.RoundsAre.{round_up, round_down}
+use Rattle.hyd_cases_of_runs.proofs.RaisesOnSmallGrid.{round_up, round_down}
 use Rattle.hyd_cases_of_runs.proofs.rounds.round.Goals as goal
 
 pub returns-clause-up : goal.returns-clause-up

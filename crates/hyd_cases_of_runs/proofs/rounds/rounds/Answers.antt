@@ -1,4 +1,4 @@
-use Rattle.hyd_cases_of_runs.proofs.RoundsAre.{rounds_up, rounds_down}
+use Rattle.hyd_cases_of_runs.proofs.RaisesOnSmallGrid.{rounds_up, rounds_down}
 use Rattle.hyd_cases_of_runs.proofs.rounds.rounds.Goals as goal
 
 pub returns-clause-up : goal.returns-clause-up

@@ -1,4 +1,4 @@
-use Rattle.hyd_cases_of_runs.proofs.RoundsAre.{not_yet_up, not_yet_down}
+use Rattle.hyd_cases_of_runs.proofs.RaisesOnSmallGrid.{not_yet_up, not_yet_down}
 use Rattle.hyd_cases_of_runs.proofs.rounds.unfinished.Goals as goal
 
 pub returns-clause-up : goal.returns-clause-up

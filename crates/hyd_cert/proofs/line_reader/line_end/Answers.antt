@@ -1,6 +1,6 @@
 use Rattle.std.proofs.Common.{subst, arith}
 use Rattle.hyd_cert.specs.TextsWithoutLine.{HasNo}
-use Rattle.hyd_cert.proofs.Pieces.{has_no_more}
+use Rattle.hyd_cert.proofs.SplitTexts.{has_no_more}
 use Rattle.std.proofs.lemmas.List.{take_all}
 use Rattle.hyd_cert.proofs.line_reader.line_end.Goals as goal
 

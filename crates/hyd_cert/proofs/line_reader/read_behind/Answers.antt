@@ -1,5 +1,5 @@
 use Rattle.std.proofs.Common.{arith}
-use Rattle.hyd_cert.proofs.Pieces.{read_same}
+use Rattle.hyd_cert.proofs.SplitTexts.{read_same}
 use Rattle.hyd_cert.proofs.line_reader.read_behind.Goals as goal
 
 pub returns-in-Ok-clause-same : goal.returns-in-Ok-clause-same

@@ -1,4 +1,4 @@
-use Rattle.hyd_cert.proofs.ReadingLemmas.{certificate_goes, goes_certificate}
+use Rattle.hyd_cert.proofs.CertificatesLineByLine.{certificate_goes, goes_certificate}
 use Rattle.hyd_cert.proofs.theorems.certificates_by_lines.Goals as goal
 
 pub returns-clause-certificate_goes : goal.returns-clause-certificate_goes

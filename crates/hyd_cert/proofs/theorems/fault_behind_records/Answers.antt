@@ -1,4 +1,4 @@
-use Rattle.hyd_cert.proofs.ReadingLemmas.{fault_behind}
+use Rattle.hyd_cert.proofs.CertificatesLineByLine.{fault_behind}
 use Rattle.hyd_cert.proofs.theorems.fault_behind_records.Goals as goal
 
 pub returns : goal.returns

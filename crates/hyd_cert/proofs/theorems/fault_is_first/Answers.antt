@@ -1,4 +1,4 @@
-use Rattle.hyd_cert.proofs.SentenceLemmas.{first_fault}
+use Rattle.hyd_cert.proofs.WholeTextLemmas.{first_fault}
 use Rattle.hyd_cert.proofs.theorems.fault_is_first.Goals as goal
 
 pub returns : goal.returns

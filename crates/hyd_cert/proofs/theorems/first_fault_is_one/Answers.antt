@@ -1,4 +1,4 @@
-use Rattle.hyd_cert.proofs.SentenceLemmas.{one_fault, fault_no_certificate, fault_or_header}
+use Rattle.hyd_cert.proofs.WholeTextLemmas.{one_fault, fault_no_certificate, fault_or_header}
 use Rattle.hyd_cert.proofs.theorems.first_fault_is_one.Goals as goal
 
 pub returns-clause-one : goal.returns-clause-one

@@ -1,4 +1,4 @@
-use Rattle.hyd_cert.proofs.ReadingLemmas.{whole_reading}
+use Rattle.hyd_cert.proofs.CertificatesLineByLine.{whole_reading}
 use Rattle.hyd_cert.proofs.theorems.reading_is_whole.Goals as goal
 
 pub returns : goal.returns

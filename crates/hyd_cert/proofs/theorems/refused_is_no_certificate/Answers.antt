@@ -1,4 +1,4 @@
-use Rattle.hyd_cert.proofs.SentenceLemmas.{no_certificate_at_fault, no_certificate_of_others}
+use Rattle.hyd_cert.proofs.WholeTextLemmas.{no_certificate_at_fault, no_certificate_of_others}
 use Rattle.hyd_cert.proofs.theorems.refused_is_no_certificate.Goals as goal
 
 pub returns-clause-grammar : goal.returns-clause-grammar

@@ -1,9 +1,9 @@
 use Rattle.std.proofs.Common.{◌+◌, ◌∷◌, ◌++◌, take, sym, ◌∙◌, ap, subst, arith}
 use Rattle.hyd_cert.specs.TextsWithoutLine.{HasNo}
-use Rattle.hyd_cert.proofs.Pieces.{split_at, has_no_more}
+use Rattle.hyd_cert.proofs.SplitTexts.{split_at, has_no_more}
 use Rattle.std.proofs.lemmas.List.{take_all}
 use Rattle.hyd_cert.proofs.words.split_word.Goals as goal
-use Rattle.hyd_io.proofs.ToldLemmas.{take-drop}
+use Rattle.hyd_io.proofs.MovedBytesLemmas.{take-drop}
 
 pub loop-i-preserved : goal.loop-i-preserved
 loop-i-preserved c = has_no_more 32 c.args.text.now c.loop-i.i (omega arith) c.if-text-i-eq32.false c.loop-i.invariant

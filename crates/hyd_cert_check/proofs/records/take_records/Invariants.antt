@@ -3,7 +3,7 @@ use Rattle.hyd_cert.specs.RecordView.{header_of}
 use Rattle.hyd_run.specs.Pens.{told}
 use Rattle.hyd_run.specs.Runs.{periods_left}
 use Rattle.hyd_sim.specs.View.{header_for, standing_of}
-use Rattle.hyd_cert_check.specs.ReaderAndPen.{Moment, moment}
+use Rattle.hyd_cert_check.specs.ReaderAndPen.{CheckMoment, moment}
 use Rattle.hyd_cert_check.specs.RecordByRecord.{CanGoOn, IsSoFar}
 use Rattle.hyd_cert_check.proofs.records.take_records.Given as goal
 
@@ -18,7 +18,7 @@ invariant-loop-conclusion g l =
       header : header_of l.row ≡ header_for l.fn.sim.project;
       going : CanGoOn (moment l.reader l.pen
           (told D.files D.rest D.written D.printed D.target D.ready D.counts D.openings l.desk));
-      so_far : (start : Moment) → IsSoFar l.fn.sim.project (standing_of l.fn.sim) start
+      so_far : (start : CheckMoment) → IsSoFar l.fn.sim.project (standing_of l.fn.sim) start
           (moment l.fn.reader l.fn.pen
           (told D.files D.rest D.written D.printed D.target D.ready D.counts D.openings l.fn.desk))
           → IsSoFar l.fn.sim.project (standing_of l.sim) start (moment l.reader l.pen

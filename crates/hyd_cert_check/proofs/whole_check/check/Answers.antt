@@ -2,10 +2,10 @@
 use Rattle.std.specs.Prelude.{Err}
 use Rattle.std.proofs.Common.{◌∙◌, ap}
 use Rattle.hyd_cert.specs.ReaderView.{ReaderView, to_come}
-use Rattle.hyd_cert.proofs.ReadingLemmas.{nothing-before}
+use Rattle.hyd_cert.proofs.CertificatesLineByLine.{nothing-before}
 use Rattle.hyd_cert_check.proofs.PenLemmas.{new-open}
-use Rattle.hyd_cert_check.proofs.EndLemmas.{prints-whole, prints-front, says-printed, says-rose, says-steady}
-use Rattle.hyd_cert_check.proofs.EndLemmas.{says-leaves}
+use Rattle.hyd_cert_check.proofs.WholeCheckLemmas.{prints-whole, prints-front, says-printed, says-rose, says-steady}
+use Rattle.hyd_cert_check.proofs.WholeCheckLemmas.{says-leaves}
 use Rattle.hyd_cert_check.proofs.whole_check.check.Goals as goal
 
 pub put_check-requires-clause-unbroken : goal.put_check-requires-clause-unbroken

@@ -2,7 +2,7 @@
 use Rattle.hyd_cert.specs.ReaderView.{fresh}
 use Rattle.hyd_cert_check.specs.declared.outcome.CheckFault.TheVariants.{Output}
 use Rattle.hyd_cert_check.proofs.PenLemmas.{not_cert, put-in, put-cut-off, pen-new}
-use Rattle.hyd_cert_check.proofs.EndLemmas.{whole-emptied, whole-cut-off}
+use Rattle.hyd_cert_check.proofs.WholeCheckLemmas.{whole-emptied, whole-cut-off}
 use Rattle.hyd_cert_check.proofs.whole_check.finish.Goals as goal
 
 pub empty-requires : goal.empty-requires

@@ -4,7 +4,7 @@ use Rattle.hyd_cert.specs.ReaderView.{ReaderView, IsGoing}
 use Rattle.hyd_sim.specs.View.{standing_of}
 use Rattle.hyd_cert_check.specs.declared.outcome.CheckFault.TheVariants.{Output}
 use Rattle.hyd_cert_check.proofs.PenLemmas.{not_cert, put-in, put-cut-off}
-use Rattle.hyd_cert_check.proofs.EndLemmas.{so-far-begun, first-cut-short, ending-puts}
+use Rattle.hyd_cert_check.proofs.WholeCheckLemmas.{so-far-begun, first-cut-short, ending-puts}
 use Rattle.hyd_cert_check.proofs.whole_check.put_check.Goals as goal
 
 pub put_first-requires : goal.put_first-requires

@@ -1,17 +1,17 @@
 -- The last line.
 use Rattle.std.proofs.Common.{◌∙◌, ℕ, ap, sym, subst}
-use Rattle.hyd_net.specs.Sound.{Sound}
+use Rattle.hyd_net.specs.Sound.{IsSound}
 use Rattle.hyd_spec.specs.ProgramTypes.{Project}
 use Rattle.hyd_sim.specs.View.{standing_of}
 use Rattle.hyd_cert_check.specs.RecordByRecord.{conclusion_line}
 use Rattle.hyd_cert_check.specs.declared.outcome.CheckFault.TheVariants.{Output}
 use Rattle.hyd_cert_check.proofs.PenLemmas.{not_cert, put-in, put-cut-off, put-as, cut-off-as}
-use Rattle.hyd_cert_check.proofs.EndLemmas.{last-whole, last-cut-short, whole-as}
+use Rattle.hyd_cert_check.proofs.WholeCheckLemmas.{last-whole, last-cut-short, whole-as}
 use Rattle.hyd_cert_check.proofs.whole_check.put_ending.Goals as goal
 
 pub put_conclusion-requires : goal.put_conclusion-requires
 put_conclusion-requires g c = record {
-  sound = subst Sound (sym c.project.ensures.project) c.project.ensures.is_sim.sound;
+  sound = subst IsSound (sym c.project.ensures.project) c.project.ensures.is_sim.sound;
   ready = not_cert _ _ c.requires.to;
 }
 

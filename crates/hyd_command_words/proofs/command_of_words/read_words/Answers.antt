@@ -3,7 +3,7 @@ use Rattle.clap.specs.Matches.{found_of}
 use Rattle.clap.specs.Walk.{rows_of}
 use Rattle.hyd_command_words.specs.ClapParser.{said_of}
 use Rattle.hyd_command_words.specs.CommandGrammar.{order_named}
-use Rattle.hyd_command_words.proofs.ReadLaw.{none_found, some_found}
+use Rattle.hyd_command_words.proofs.CommandOfMatches.{none_found, some_found}
 use Rattle.hyd_command_words.proofs.command_of_words.read_words.Goals as goal
 
 pub returns-in-Some-2 : goal.returns-in-Some-2

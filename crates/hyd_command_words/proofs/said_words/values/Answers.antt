@@ -2,7 +2,7 @@ use Rattle.std.proofs.Common.{◌∙◌}
 use Rattle.clap.proofs.WalkLemmas.{raw_values-rows}
 use Rattle.clap.specs.Matches.{found_of}
 use Rattle.clap.specs.Walk.{all_of, rows_of}
-use Rattle.hyd_command_words.proofs.RowLemmas.{values_read}
+use Rattle.hyd_command_words.proofs.MatchRowLemmas.{values_read}
 use Rattle.hyd_command_words.proofs.said_words.values.Goals as goal
 
 pub returns : goal.returns

@@ -1,6 +1,6 @@
 use Rattle.std.proofs.Common.{false, length, take, ap, refl, arith}
 use Rattle.hyd_spec.specs.Rules.{offers_from}
-use Rattle.hyd_controls_and_rules.proofs.Ranking.{offers_more}
+use Rattle.hyd_controls_and_rules.proofs.BestOffers.{offers_more}
 use Rattle.hyd_controls_and_rules.proofs.actions_by_priority.rank_offers.Goals as goal
 
 pub loop-number-preserved : goal.loop-number-preserved

@@ -2,7 +2,7 @@ use Rattle.std.proofs.Common.{◌+◌, ◌<◌, ◌++◌, true, false, List, Opt
 use Rattle.hyd_spec.specs.Rules.{offer_of}
 use Rattle.hyd_controls_and_rules.specs.declared.actions_by_priority.Offer as program
 use Rattle.hyd_controls_and_rules.specs.ActionsByPriority.{AreBest}
-use Rattle.hyd_controls_and_rules.proofs.Ranking.{higher_taken, lower_left, stands, link_is}
+use Rattle.hyd_controls_and_rules.proofs.BestOffers.{higher_taken, lower_left, stands, link_is}
 use Rattle.hyd_controls_and_rules.proofs.actions_by_priority.take_offers.Goals as goal
 use Rattle.hyd_controls_and_rules.proofs.actions_by_priority.take_offers.Goals.{then-is_higher, else-is_higher}
 

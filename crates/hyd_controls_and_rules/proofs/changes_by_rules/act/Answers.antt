@@ -4,7 +4,7 @@ use Rattle.hyd_spec.specs.declared.Change.{Change}
 use Rattle.hyd_spec.specs.Rules.{offers_from, rule_changes}
 use Rattle.hyd_controls_and_rules.specs.declared.actions_by_priority.Offer as program
 use Rattle.hyd_controls_and_rules.specs.ActionsByPriority.{AreBest}
-use Rattle.hyd_controls_and_rules.proofs.Acting.{whole_table, changes_are, states_are, spare_is}
+use Rattle.hyd_controls_and_rules.proofs.ChangesByBestOffers.{whole_table, changes_are, states_are, spare_is}
 use Rattle.hyd_controls_and_rules.proofs.changes_by_rules.act.Goals as goal
 
 pub returns-clause-links : goal.returns-clause-links

@@ -2,7 +2,7 @@ use Rattle.std.proofs.Common.{◌≡◌, ◌∙◌, to_z, of_z, arith}
 use Rattle.std.specs.Int.{w128}
 use Rattle.std.proofs.lemmas.Int.{ints}
 use Rattle.hyd_spec_certificates.specs.Decided.{least_magnitude, greatest_magnitude}
-use Rattle.hyd_controls_and_rules.proofs.Measuring.{flow_of}
+use Rattle.hyd_controls_and_rules.proofs.QuantitiesOfClauses.{flow_of}
 use Rattle.hyd_controls_and_rules.proofs.clauses.flow_ends.Goals as goal
 
 pub returns : goal.returns

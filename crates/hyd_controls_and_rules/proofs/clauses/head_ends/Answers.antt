@@ -1,7 +1,7 @@
 use Rattle.std.proofs.Common.{arith}
 use Rattle.std.proofs.lemmas.Int.{ints}
 use Rattle.hyd_controls_and_rules.specs.RuleReadings.{below, above}
-use Rattle.hyd_controls_and_rules.proofs.Measuring.{head_of_tank}
+use Rattle.hyd_controls_and_rules.proofs.QuantitiesOfClauses.{head_of_tank}
 use Rattle.hyd_controls_and_rules.proofs.clauses.head_ends.Goals as goal
 
 pub returns-in-Some : goal.returns-in-Some

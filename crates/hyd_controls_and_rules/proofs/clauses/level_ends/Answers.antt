@@ -1,7 +1,7 @@
 use Rattle.std.proofs.Common.{pos, arith}
 use Rattle.std.proofs.lemmas.Int.{ints}
 use Rattle.hyd_spec_certificates.specs.declared.LevelSpan.{LevelSpan}
-use Rattle.hyd_controls_and_rules.proofs.Measuring.{low_level, high_level}
+use Rattle.hyd_controls_and_rules.proofs.QuantitiesOfClauses.{low_level, high_level}
 use Rattle.hyd_controls_and_rules.proofs.clauses.level_ends.Goals as goal
 
 pub returns : goal.returns

@@ -4,7 +4,7 @@ use Rattle.hyd_num.specs.Rational.{whole}
 use Rattle.hyd_spec_certificates.specs.ThreeValuedLogic.{at_both_ends}
 use Rattle.hyd_spec.specs.Rules.{clause_holds}
 use Rattle.hyd_controls_and_rules.specs.RuleReadings.{below, above}
-use Rattle.hyd_controls_and_rules.proofs.Measuring.{holds_by_amount}
+use Rattle.hyd_controls_and_rules.proofs.QuantitiesOfClauses.{holds_by_amount}
 use Rattle.hyd_controls_and_rules.proofs.clauses.measured_verdict.Goals as goal
 
 pub returns : goal.returns

@@ -1,6 +1,6 @@
 use Rattle.std.proofs.Common.{arith}
 use Rattle.std.proofs.lemmas.Int.{ints}
-use Rattle.hyd_controls_and_rules.proofs.Starting.{first_open}
+use Rattle.hyd_controls_and_rules.proofs.FirstOpenControl.{first_open}
 use Rattle.hyd_controls_and_rules.proofs.pump_patterns_and_simple_controls.find_open.Goals as goal
 
 pub returns-in-Some-clause-open : goal.returns-in-Some-clause-open

@@ -2,7 +2,7 @@ use Rattle.std.proofs.Common.{◌≡◌, ℕ, ◌<◌, true, false, length, slic
 use Rattle.hyd_spec.specs.ProgramTypes.{RuleClause}
 use Rattle.hyd_spec_certificates.specs.ThreeValuedLogic.{is_unknown}
 use Rattle.hyd_controls_and_rules.specs.KnownOfRules.{is_open}
-use Rattle.hyd_controls_and_rules.proofs.Positions.{found_at, found_none, one_more}
+use Rattle.hyd_controls_and_rules.proofs.FirstPassingPlace.{found_at, found_none, one_more}
 use Rattle.hyd_controls_and_rules.proofs.rules.first_open.Goals as goal
 
 pub returns-then-is_unknown : goal.returns-then-is_unknown

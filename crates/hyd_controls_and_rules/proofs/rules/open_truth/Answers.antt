@@ -1,7 +1,7 @@
 use Rattle.std.proofs.Common.{ℕ, Option, IsSome, subst, sym, ◌∙◌, arith}
 use Rattle.std.proofs.lemmas.Int.{ints}
 use Rattle.hyd_controls_and_rules.specs.RuleReadings.{verdict_there}
-use Rattle.hyd_controls_and_rules.proofs.Opening.{some_open, open_clause}
+use Rattle.hyd_controls_and_rules.proofs.OpenClausesOfRules.{some_open, open_clause}
 use Rattle.hyd_controls_and_rules.proofs.rules.open_truth.Goals as goal
 
 pub unwrap-clause-requires : goal.unwrap-clause-requires

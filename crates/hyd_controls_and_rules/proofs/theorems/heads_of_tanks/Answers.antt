@@ -1,5 +1,5 @@
 use Rattle.std.proofs.Common.{refl, arith}
-use Rattle.hyd_controls_and_rules.proofs.Unseen.{same_truth, heads_behind, still_between}
+use Rattle.hyd_controls_and_rules.proofs.TankHeadsUnread.{same_truth, heads_behind, still_between}
 use Rattle.hyd_controls_and_rules.proofs.theorems.heads_of_tanks.Goals as goal
 
 pub returns-clause-truths : goal.returns-clause-truths

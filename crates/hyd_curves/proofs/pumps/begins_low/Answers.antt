@@ -2,12 +2,12 @@ use Rattle.std.proofs.Common.{FitsSigned, ◌^◌, ◌-ℤ◌, ◌*ℤ◌, pos, 
 use Rattle.std.specs.Int.{w128}
 use Rattle.std.proofs.lemmas.Int.{ints, to_z-of_z}
 use Rattle.hyd_curves.specs.PointsAsKnots.{knot_of}
-use Rattle.hyd_lemmas.proofs.Trials.{lt_z-yes}
+use Rattle.hyd_lemmas.proofs.BooleanTests.{lt_z-yes}
 use Rattle.hyd_curves.proofs.LineLemmas.{low_is, high_is}
 use Rattle.hyd_curves.proofs.pumps.begins_low.Goals as goal
 
-pub returns-then-first-gt-GREATEST_SHUTOFF : goal.returns-then-first-gt-GREATEST_SHUTOFF
-returns-then-first-gt-GREATEST_SHUTOFF c =
+pub returns-then-first-gt-GREATEST_SHUTOFF_HEAD : goal.returns-then-first-gt-GREATEST_SHUTOFF_HEAD
+returns-then-first-gt-GREATEST_SHUTOFF_HEAD c =
     let fits : FitsSigned w128 c.args.first.value = omega (
       arith,
       ints,
@@ -17,7 +17,7 @@ returns-then-first-gt-GREATEST_SHUTOFF c =
     high_is (knot_of c.args.first) (knot_of c.args.second) (pos (10 ^ 16)) c.requires.rises c.requires.first.forward
     (omega (arith, ints, c.requires.falls))
     (lt_z-yes (pos (10 ^ 16)) c.args.first.value (rw (to_z-of_z w128 c.args.first.value fits) at
-    c.if-first-gt-GREATEST_SHUTOFF.true))
+    c.if-first-gt-GREATEST_SHUTOFF_HEAD.true))
 
 pub returns : goal.returns
 returns c =

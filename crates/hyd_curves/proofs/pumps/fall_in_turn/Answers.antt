@@ -1,6 +1,6 @@
 use Rattle.hyd_num.specs.FileQuantity.{is_us_unit}
 use Rattle.hyd_spec_input.specs.Curves.{has_flow, is_slower, head_point}
-use Rattle.hyd_curves.proofs.TurnLemmas.{turned}
+use Rattle.hyd_curves.proofs.ItemsInTurnLemmas.{turned}
 use Rattle.hyd_curves.proofs.pumps.fall_in_turn.Goals as goal
 
 pub loop-point-preserved : goal.loop-point-preserved

@@ -1,7 +1,7 @@
 use Rattle.std.proofs.Common.{FitsSigned, ◌-ℤ◌, arith}
 use Rattle.std.specs.Int.{w128}
 use Rattle.std.proofs.lemmas.Int.{ints, to_z-of_z}
-use Rattle.hyd_curves.proofs.TurnLemmas.{and_then}
+use Rattle.hyd_curves.proofs.ItemsInTurnLemmas.{and_then}
 use Rattle.hyd_curves.proofs.pumps.is_drop_in_range.Goals as goal
 
 pub returns : goal.returns

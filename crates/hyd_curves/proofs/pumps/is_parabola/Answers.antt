@@ -1,7 +1,7 @@
 use Rattle.std.proofs.Common.{FitsSigned, ◌-ℤ◌, ◌∙◌, arith}
 use Rattle.std.specs.Int.{w128}
 use Rattle.std.proofs.lemmas.Int.{ints, to_z-of_z}
-use Rattle.hyd_curves.proofs.TurnLemmas.{and_third}
+use Rattle.hyd_curves.proofs.ItemsInTurnLemmas.{and_third}
 use Rattle.hyd_curves.proofs.pumps.is_parabola.Goals as goal
 
 pub returns : goal.returns

@@ -1,7 +1,7 @@
 use Rattle.hyd_num.specs.FileQuantity.{is_us_unit}
 use Rattle.hyd_spec_input.specs.Curves.{is_faster, head_point}
 use Rattle.hyd_curves.specs.PumpAndValveCurveTests.{loss_passes}
-use Rattle.hyd_curves.proofs.TurnLemmas.{turned, stopped}
+use Rattle.hyd_curves.proofs.ItemsInTurnLemmas.{turned, stopped}
 use Rattle.hyd_curves.proofs.valves.rise_in_turn.Goals as goal
 
 pub loop-point-preserved : goal.loop-point-preserved

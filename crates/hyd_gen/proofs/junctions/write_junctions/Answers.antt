@@ -3,7 +3,7 @@ use Rattle.std.specs.List.{flat_map}
 use Rattle.hyd_spec_reports.specs.CertificateText.{line}
 use Rattle.hyd_spec_generated.specs.Sequence.{following, digit_of, drawn}
 use Rattle.hyd_spec_generated.specs.GeneratedText.{numbers, junction_with, junction_line}
-use Rattle.hyd_gen.proofs.MoreLemmas.{drawn_more, junctions_more, one_more}
+use Rattle.hyd_gen.proofs.OneJunctionMore.{drawn_more, junctions_more, one_more}
 use Rattle.hyd_gen.proofs.junctions.write_junctions.Goals as goal
 
 pub loop-before-preserved : goal.loop-before-preserved

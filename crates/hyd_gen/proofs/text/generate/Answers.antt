@@ -3,7 +3,7 @@ use Rattle.std.specs.List.{flat_map}
 use Rattle.hyd_spec_reports.specs.CertificateText.{line}
 use Rattle.hyd_spec_generated.specs.GeneratedText.{first_lines, junction_line, numbers, source_lines, pipes_from}
 use Rattle.hyd_spec_generated.specs.GeneratedText.{source_pipes}
-use Rattle.hyd_gen.proofs.MoreLemmas.{five, parts}
+use Rattle.hyd_gen.proofs.OneJunctionMore.{five, parts}
 use Rattle.hyd_gen.proofs.text.generate.Goals as goal
 
 pub returns : goal.returns

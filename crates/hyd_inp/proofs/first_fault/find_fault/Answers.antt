@@ -1,4 +1,4 @@
-use Rattle.hyd_inp.proofs.Whole.{some_of_text, none_of_text}
+use Rattle.hyd_inp.proofs.FaultFromFindings.{some_of_text, none_of_text}
 use Rattle.hyd_inp.proofs.first_fault.find_fault.Goals as goal
 
 pub returns-clause-fault : goal.returns-clause-fault

@@ -1,6 +1,6 @@
 use Rattle.std.proofs.Common.{sym, ◌∙◌}
-use Rattle.hyd_text_rows.specs.FirstWrongRow.{rows_at}
-use Rattle.hyd_inp.proofs.Whole.{some_sources, lacks_sources, lacks_nothing}
+use Rattle.hyd_rows_and_tables.specs.FirstWrongRow.{rows_at}
+use Rattle.hyd_inp.proofs.FaultFromFindings.{some_sources, lacks_sources, lacks_nothing}
 use Rattle.hyd_inp.proofs.missing_from_file.lack.Goals as goal
 
 pub returns-then-not-has_source : goal.returns-then-not-has_source

@@ -1,4 +1,4 @@
-use Rattle.hyd_inp.proofs.Whole.{fault_read, none_read, alone_read, among_read, sound_read}
+use Rattle.hyd_inp.proofs.FaultFromFindings.{fault_read, none_read, alone_read, among_read, sound_read}
 use Rattle.hyd_inp.proofs.project.read_project.Goals as goal
 
 pub returns-in-Some-clause-fault : goal.returns-in-Some-clause-fault

@@ -1,7 +1,7 @@
 use Rattle.std.proofs.Common.{◌≡◌, ◌+◌, ◌-◌, length, arith, ◌∙◌, ap, Err}
 use Rattle.std.proofs.lemmas.Result.{err_from_is_err_and}
 use Rattle.hyd_io.specs.declared.input.InFault.TheVariants.{TooLong}
-use Rattle.hyd_io.proofs.ToldLemmas.{took_after, Took-length}
+use Rattle.hyd_io.proofs.MovedBytesLemmas.{took_after, Took-length}
 use Rattle.hyd_io.proofs.input.read_all.Goals as goal
 
 -- the bytes before the last block, and one more than there was room for in it

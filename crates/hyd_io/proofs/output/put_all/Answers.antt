@@ -1,6 +1,6 @@
 use Rattle.std.proofs.Common.{rules}
-use Rattle.hyd_io.proofs.ToldLemmas.{moves_further}
-use Rattle.hyd_io.proofs.KeepingLemmas.{others_kept_then}
+use Rattle.hyd_io.proofs.MovedBytesLemmas.{moves_further}
+use Rattle.hyd_io.proofs.LeftAsItWasLemmas.{others_kept_then}
 use Rattle.hyd_io.proofs.output.put_all.Goals as goal
 
 pub loop-left-preserved : goal.loop-left-preserved

@@ -1,7 +1,7 @@
 use Rattle.std.proofs.Common.{◌≡◌, length}
 use Rattle.hyd_io.specs.DeskBytes.{Moves}
 use Rattle.hyd_io.specs.Output.{by_channel}
-use Rattle.hyd_io.specs.Keeping.{KeepsOthers}
+use Rattle.hyd_io.specs.LeftAsItWas.{KeepsOthers}
 use Rattle.hyd_io.proofs.output.put_all.Given as goal
 
 -- a front of the bytes is out, and the desk is else as it was

@@ -1,7 +1,7 @@
 use Rattle.std.proofs.Common.{rules}
 use Rattle.std.proofs.lemmas.Result.{err_from_is_err_and}
-use Rattle.hyd_io.proofs.ToldLemmas.{moves_through, put_out_through}
-use Rattle.hyd_io.proofs.KeepingLemmas.{others_kept_then}
+use Rattle.hyd_io.proofs.MovedBytesLemmas.{moves_through, put_out_through}
+use Rattle.hyd_io.proofs.LeftAsItWasLemmas.{others_kept_then}
 use Rattle.hyd_io.proofs.output.put_through.Goals as goal
 
 pub returns-in_err-used-clause-front : goal.returns-in_err-used-clause-front

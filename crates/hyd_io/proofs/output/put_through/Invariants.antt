@@ -2,7 +2,7 @@ use Rattle.std.proofs.Common.{◌≡◌, ◌<◌, ◌++◌, length, take}
 use Rattle.hyd_io.specs.Buffers.{buffer_bytes}
 use Rattle.hyd_io.specs.DeskBytes.{Moves}
 use Rattle.hyd_io.specs.Output.{by_channel}
-use Rattle.hyd_io.specs.Keeping.{KeepsOthers}
+use Rattle.hyd_io.specs.LeftAsItWas.{KeepsOthers}
 use Rattle.hyd_io.proofs.output.put_through.Given as goal
 
 -- a front of what was held and of the piece is out, the buffer holds what follows, and the desk is

@@ -4,8 +4,8 @@ use Rattle.hyd_spec_lines.specs.declared.line.Line.{Line}
 use Rattle.hyd_spec_lines.specs.declared.section.Section.TheVariants.{Junctions}
 use Rattle.hyd_spec_input.specs.Columns.{word}
 use Rattle.hyd_spec_input.specs.ControlRows as row_form
-use Rattle.hyd_text_rows.specs.FirstWrongRow.{rows_at}
-use Rattle.hyd_text_rows.proofs.FoundLemmas.{row_at}
+use Rattle.hyd_rows_and_tables.specs.FirstWrongRow.{rows_at}
+use Rattle.hyd_rows_and_tables.proofs.FoundLemmas.{row_at}
 use Rattle.hyd_judge_controls.specs.Controls.{IsControlFault}
 use Rattle.hyd_judge_controls.proofs.ControlLemmas.{control_is_right, link_unknown, node_unknown, both_known}
 use Rattle.hyd_judge_controls.proofs.controls.control_fault.Goals as goal

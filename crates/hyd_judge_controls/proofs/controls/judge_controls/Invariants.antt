@@ -1,4 +1,4 @@
-use Rattle.hyd_text_rows.specs.FirstWrongRow.{rows_at}
+use Rattle.hyd_rows_and_tables.specs.FirstWrongRow.{rows_at}
 use Rattle.hyd_judge_controls.specs.Controls.{AreControls}
 use Rattle.hyd_judge_controls.proofs.controls.judge_controls.Given as goal
 

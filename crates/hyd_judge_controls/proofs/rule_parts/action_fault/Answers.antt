@@ -6,9 +6,9 @@ use Rattle.hyd_spec_input.specs.CapacitiesOutOfRange.{IsRefusedSetting}
 use Rattle.hyd_spec_input.specs.Columns.{asked, needed, word}
 use Rattle.hyd_spec_input.specs.Tables.{link_named}
 use Rattle.hyd_spec_input.specs.RowsTogether as others
-use Rattle.hyd_text_rows.specs.FirstWrongRow.{rows_at}
-use Rattle.hyd_text_rows.specs.WrongInSection.{IsFaultThen}
-use Rattle.hyd_text_rows.proofs.FoundLemmas.{row_at}
+use Rattle.hyd_rows_and_tables.specs.FirstWrongRow.{rows_at}
+use Rattle.hyd_rows_and_tables.specs.WrongInSection.{IsFaultThen}
+use Rattle.hyd_rows_and_tables.proofs.FoundLemmas.{row_at}
 use Rattle.hyd_judge_controls.proofs.PartLemmas.{action_asks, action_unknown, action_known}
 use Rattle.hyd_judge_controls.proofs.rule_parts.action_fault.Goals as goal
 

@@ -4,8 +4,8 @@ use Rattle.hyd_spec_lines.specs.declared.line.Line.{Line}
 use Rattle.hyd_spec_lines.specs.declared.section.Section.TheVariants.{Junctions}
 use Rattle.hyd_spec_input.specs.Columns.{or_else}
 use Rattle.hyd_spec_input.specs.RowsTogether as others
-use Rattle.hyd_text_rows.specs.FirstWrongRow.{rows_at}
-use Rattle.hyd_text_rows.proofs.FoundLemmas.{row_at}
+use Rattle.hyd_rows_and_tables.specs.FirstWrongRow.{rows_at}
+use Rattle.hyd_rows_and_tables.proofs.FoundLemmas.{row_at}
 use Rattle.hyd_judge_controls.specs.Rules.{IsPart, IsRuleFault, acting_at}
 use Rattle.hyd_judge_controls.specs.declared.rule_parts.Part.{Part}
 use Rattle.hyd_judge_controls.proofs.RuleLemmas.{action_is_right, rule_fault_is, clause_fault_is, action_fault_is}

@@ -1,10 +1,10 @@
 use Rattle.std.proofs.Common.{length, arith}
 use Rattle.hyd_spec_lines.specs.declared.line.Line.{Line}
 use Rattle.hyd_spec_lines.specs.declared.section.Section.TheVariants.{Junctions, Status}
-use Rattle.hyd_text_rows.specs.FirstWrongRow.{rows_at}
-use Rattle.hyd_text_rows.specs.WrongInSection.{IsWrongIn}
-use Rattle.hyd_text_rows.proofs.FoundLemmas.{row_at, found_kept}
-use Rattle.hyd_text_rows.proofs.SectionLemmas.{found_fewer}
+use Rattle.hyd_rows_and_tables.specs.FirstWrongRow.{rows_at}
+use Rattle.hyd_rows_and_tables.specs.WrongInSection.{IsWrongIn}
+use Rattle.hyd_rows_and_tables.proofs.FoundLemmas.{row_at, found_kept}
+use Rattle.hyd_rows_and_tables.proofs.SectionLemmas.{found_fewer}
 use Rattle.hyd_judge_controls.proofs.status.judge_status.Goals as goal
 
 nothing : Line

@@ -1,6 +1,6 @@
 use Rattle.hyd_spec_lines.specs.declared.section.Section.TheVariants.{Status}
-use Rattle.hyd_text_rows.specs.FirstWrongRow.{rows_at, HasFound}
-use Rattle.hyd_text_rows.specs.WrongInSection.{IsWrongIn}
+use Rattle.hyd_rows_and_tables.specs.FirstWrongRow.{rows_at, HasFound}
+use Rattle.hyd_rows_and_tables.specs.WrongInSection.{IsWrongIn}
 use Rattle.hyd_judge_controls.proofs.status.judge_status.Given as goal
 
 abbrev pub invariant-loop-place : goal.invariant-loop-place

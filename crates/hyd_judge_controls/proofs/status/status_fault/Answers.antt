@@ -5,8 +5,8 @@ use Rattle.hyd_spec_lines.specs.declared.section.Section.TheVariants.{Junctions,
 use Rattle.hyd_spec_input.specs.Columns.{word}
 use Rattle.hyd_spec_input.specs.DemandCurveAndStatusRows as row_form
 use Rattle.hyd_spec_input.specs.declared.LinkWord.TheVariants.{Link}
-use Rattle.hyd_text_rows.specs.FirstWrongRow.{rows_at}
-use Rattle.hyd_text_rows.proofs.FoundLemmas.{row_at}
+use Rattle.hyd_rows_and_tables.specs.FirstWrongRow.{rows_at}
+use Rattle.hyd_rows_and_tables.proofs.FoundLemmas.{row_at}
 use Rattle.hyd_judge_controls.proofs.CommandLemmas.{command_unknown, command_known, none_elsewhere}
 use Rattle.hyd_judge_controls.proofs.StatusLemmas.{status_is_right, status_verdict}
 use Rattle.hyd_judge_controls.proofs.status.status_fault.Goals as goal

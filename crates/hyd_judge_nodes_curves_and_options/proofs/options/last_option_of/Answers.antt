@@ -1,10 +1,10 @@
 use Rattle.std.proofs.Common.{rules, sym, ◌∙◌}
 use Rattle.hyd_spec_lines.specs.declared.line.Line.{Line}
-use Rattle.hyd_spec_lines.specs.declared.section.Section.TheVariants.{Junctions}
+use Rattle.hyd_spec_lines.specs.declared.section.Section.TheVariants.{Junctions, Options}
 use Rattle.hyd_spec_input.specs.InForce.{begins_both}
-use Rattle.hyd_text_rows.specs.FirstWrongRow.{rows_at}
-use Rattle.hyd_text_rows.proofs.FoundLemmas.{row_at}
-use Rattle.hyd_judge_nodes_curves_and_options.proofs.OptionLemmas.{last_here, last_before, last_elsewhere}
+use Rattle.hyd_rows_and_tables.specs.FirstWrongRow.{rows_at}
+use Rattle.hyd_rows_and_tables.proofs.FoundLemmas.{row_at}
+use Rattle.hyd_rows_and_tables.proofs.LastLines.{last_here, last_before, last_elsewhere}
 use Rattle.hyd_judge_nodes_curves_and_options.proofs.options.last_option_of.Goals as goal
 
 nothing : Line
@@ -16,7 +16,8 @@ loop-place-preserved-then-not-is_options c =
     let text = c.args.text.now.text in
     let lines = c.args.lines.now in record {
       last = c.loop-place.invariant.last
-          ∙ last_elsewhere (begins_both c.args.key.now c.args.second.now) (rows_at text lines) c.loop-place.place _
+          ∙ last_elsewhere Options (begins_both c.args.key.now c.args.second.now)
+          (rows_at text lines) c.loop-place.place _
           (row_at text lines c.loop-place.place nothing c.loop-place-test.true)
           (sym c.is_options.ensures ∙ c.if-not-is_options.true);
       lies = c.loop-place.invariant.lies;
@@ -28,7 +29,7 @@ loop-place-preserved-then-not-begins_with_both c =
     let text = c.args.text.now.text in
     let lines = c.args.lines.now in record {
       last = c.loop-place.invariant.last
-          ∙ last_before (begins_both c.args.key.now c.args.second.now) (rows_at text lines) c.loop-place.place _
+          ∙ last_before Options (begins_both c.args.key.now c.args.second.now) (rows_at text lines) c.loop-place.place _
           (row_at text lines c.loop-place.place nothing c.loop-place-test.true)
           (sym c.is_options.ensures ∙ c.if-not-is_options.false)
           (sym c.begins_with_both.ensures ∙ c.if-not-begins_with_both.true);
@@ -40,7 +41,7 @@ unfolding nothing
 loop-place-preserved c =
     let text = c.args.text.now.text in
     let lines = c.args.lines.now in record {
-      last = last_here (begins_both c.args.key.now c.args.second.now) (rows_at text lines) c.loop-place.place _
+      last = last_here Options (begins_both c.args.key.now c.args.second.now) (rows_at text lines) c.loop-place.place _
           (row_at text lines c.loop-place.place nothing c.loop-place-test.true)
           (sym c.is_options.ensures ∙ c.if-not-is_options.false)
           (sym c.begins_with_both.ensures ∙ c.if-not-begins_with_both.false);

@@ -1,5 +1,5 @@
-use Rattle.hyd_text_rows.specs.FirstWrongRow.{rows_at}
-use Rattle.hyd_judge_nodes_curves_and_options.proofs.BoundLemmas.{minimum_has, required_has}
+use Rattle.hyd_rows_and_tables.specs.FirstWrongRow.{rows_at}
+use Rattle.hyd_judge_nodes_curves_and_options.proofs.PressureRowLemmas.{minimum_has, required_has}
 use Rattle.hyd_judge_nodes_curves_and_options.proofs.options.pressures_in_force.Goals as goal
 
 pub amount_or-requires-clause-right : goal.amount_or-requires-clause-right

@@ -1,6 +1,6 @@
 use Rattle.std.proofs.Common.{sym, ap, ◌∙◌}
 use Rattle.hyd_spec_input.specs.RuleRows.{is_rule, is_then}
-use Rattle.hyd_judge_single_rows.proofs.ThenLemmas.{other_row, next_rule, then_here, next_line}
+use Rattle.hyd_judge_single_rows.proofs.RuleLinesBehindLemmas.{other_row, next_rule, then_here, next_line}
 use Rattle.hyd_judge_single_rows.proofs.rules.has_then.Goals as goal
 
 pub loop-place-preserved-then-not-is_rules : goal.loop-place-preserved-then-not-is_rules

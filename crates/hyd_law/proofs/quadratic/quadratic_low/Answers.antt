@@ -1,7 +1,7 @@
 use Rattle.std.proofs.Common.{◌≡◌, pos, neg_ℤ, arith}
 use Rattle.std.proofs.lemmas.Int.{ints}
 use Rattle.hyd_spec_certificates.specs.EnclosingFunctions.{quadratic_low}
-use Rattle.hyd_law.proofs.Rooting.{upper_least, low_forward, low_reverse}
+use Rattle.hyd_law.proofs.QuadraticRoots.{upper_least, low_forward, low_reverse}
 use Rattle.hyd_law.proofs.quadratic.quadratic_low.Goals as goal
 
 pub sqrt_up-requires-clause-least : goal.sqrt_up-requires-clause-least

@@ -2,8 +2,8 @@ use Rattle.std.proofs.Common.{pos, to_z, of_z, subst, arith}
 use Rattle.std.specs.Int.{w128}
 use Rattle.std.proofs.lemmas.Int.{ints}
 use Rattle.hyd_num.specs.Rational.{Rational}
-use Rattle.hyd_law.specs.Curves.{place_of, IsValue}
-use Rattle.hyd_law.proofs.Walking.{first_is, second_is}
+use Rattle.hyd_law.specs.KnotsOfStraightLines.{place_of, IsValue}
+use Rattle.hyd_law.proofs.LineAtDifference.{first_is, second_is}
 use Rattle.hyd_law.proofs.straight_lines.between.Goals as goal
 
 pub returns-then-lies_before-2-clause-value : goal.returns-then-lies_before-2-clause-value

@@ -1,7 +1,7 @@
 use Rattle.std.proofs.Common.{pos, to_z, of_z, w64, length, ◌-◌, arith}
 use Rattle.std.proofs.lemmas.Int.{ints, to_z-of_z}
 use Rattle.hyd_law.specs.declared.law_kinds.Knot.{Knot}
-use Rattle.hyd_law.proofs.Walking.{stops_at, ends_with, goes_on}
+use Rattle.hyd_law.proofs.LineAtDifference.{stops_at, ends_with, goes_on}
 use Rattle.hyd_law.proofs.straight_lines.value_at.Goals as goal
 
 pub returns-then-lies_before-clause-value : goal.returns-then-lies_before-clause-value

@@ -1,5 +1,5 @@
-use Rattle.hyd_law.specs.Curves.{places}
-use Rattle.hyd_law.proofs.Walking.{WalkedTo}
+use Rattle.hyd_law.specs.KnotsOfStraightLines.{places}
+use Rattle.hyd_law.proofs.LineAtDifference.{WalkedTo}
 use Rattle.hyd_law.proofs.straight_lines.value_at.Given as goal
 
 abbrev pub invariant-loop-i : goal.invariant-loop-i

@@ -1,7 +1,7 @@
 use Rattle.std.proofs.Common.{◌+◌, ◌*◌, ◌/◌, ◌^◌, ◌≤◌, refl, inl, inr, arith}
 use Rattle.std.proofs.Math.Nat.{mul-le-mul_right}
 use Rattle.hyd_num.specs.Pairs.{once, even, odd, pair_reach}
-use Rattle.hyd_num.proofs.Ends.{twice_half, twice_half_more}
+use Rattle.hyd_num.proofs.EndsInOrder.{twice_half, twice_half_more}
 use Rattle.hyd_num.proofs.pair_arithmetic.+pow.Goals as goal
 
 pub returns-then-n-eq1-clause-power : goal.returns-then-n-eq1-clause-power

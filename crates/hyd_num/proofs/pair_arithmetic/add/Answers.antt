@@ -1,4 +1,4 @@
-use Rattle.hyd_num.proofs.Ends.{sums_ordered}
+use Rattle.hyd_num.proofs.EndsInOrder.{sums_ordered}
 use Rattle.hyd_num.proofs.pair_arithmetic.add.Goals as goal
 
 pub between-requires : goal.between-requires

@@ -1,4 +1,4 @@
-use Rattle.hyd_num.proofs.Ends.{quotients_ordered}
+use Rattle.hyd_num.proofs.EndsInOrder.{quotients_ordered}
 use Rattle.hyd_num.proofs.pair_arithmetic.div.Goals as goal
 
 pub between-requires : goal.between-requires

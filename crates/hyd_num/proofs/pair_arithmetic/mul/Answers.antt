@@ -1,4 +1,4 @@
-use Rattle.hyd_num.proofs.Ends.{products_ordered}
+use Rattle.hyd_num.proofs.EndsInOrder.{products_ordered}
 use Rattle.hyd_num.proofs.pair_arithmetic.mul.Goals as goal
 
 pub between-requires : goal.between-requires

@@ -1,6 +1,6 @@
 use Rattle.std.proofs.Common.{◌*◌, mul-pos}
 use Rattle.hyd_num.specs.BinaryNumbers.{numerator, denominator}
-use Rattle.hyd_num.proofs.Ends.{numerator_positive, denominator_positive}
+use Rattle.hyd_num.proofs.EndsInOrder.{numerator_positive, denominator_positive}
 use Rattle.hyd_num.proofs.pair_arithmetic.quotient_up.Goals as goal
 
 pub returns-clause-up : goal.returns-clause-up

@@ -1,6 +1,6 @@
 use Rattle.std.proofs.Common.{le_refl}
 use Rattle.hyd_num.proofs.RoundingLemmas.{IsDown-from_cut}
-use Rattle.hyd_num.proofs.Ends.{ordered}
+use Rattle.hyd_num.proofs.EndsInOrder.{ordered}
 use Rattle.hyd_num.proofs.pair_arithmetic.ratio.Goals as goal
 
 pub between-requires : goal.between-requires

@@ -1,6 +1,6 @@
 use Rattle.std.proofs.Common.{◌*◌, ◌+◌, mul-pos}
 use Rattle.hyd_num.specs.BinaryNumbers.{numerator, denominator}
-use Rattle.hyd_num.proofs.Ends.{denominator_positive}
+use Rattle.hyd_num.proofs.EndsInOrder.{denominator_positive}
 use Rattle.hyd_num.proofs.pair_arithmetic.sum_up.Goals as goal
 
 pub returns-clause-up : goal.returns-clause-up

@@ -4,7 +4,7 @@ use Rattle.hyd_spec.specs.Lists.{map_from, present}
 use Rattle.hyd_spec_certificates.specs.Spans.{levels_of}
 use Rattle.hyd_spec_reports.specs.declared.Event.{Event}
 use Rattle.hyd_spec_reports.specs.Report.{tank_events, control_event}
-use Rattle.hyd_period_events.proofs.Listing.{events_are}
+use Rattle.hyd_period_events.proofs.EventsSoFar.{events_are}
 use Rattle.hyd_period_events.proofs.events.put_events.Goals as goal
 
 pub returns-clause-list : goal.returns-clause-list

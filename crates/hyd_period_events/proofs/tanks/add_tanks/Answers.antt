@@ -1,6 +1,6 @@
 use Rattle.std.proofs.Common.{◌∙◌, ◌∷◌, [], arith}
 use Rattle.hyd_spec.specs.Lists.{present}
-use Rattle.hyd_period_events.proofs.Listing.{tank_further, all_tanks}
+use Rattle.hyd_period_events.proofs.EventsSoFar.{tank_further, all_tanks}
 use Rattle.hyd_period_events.proofs.tanks.add_tanks.Goals as goal
 
 pub loop-tank-preserved : goal.loop-tank-preserved

@@ -1,8 +1,10 @@
 use Rattle.std.proofs.Common.{◌≡◌, ◌∙◌, ℕ, ◌+◌, ◌<◌, ◌≤◌, ap, arith}
 use Rattle.hyd_period_facts.specs.declared.facts.Facts.{Facts}
-use Rattle.hyd_period_length.proofs.Trying.{decided_so, unless_so}
-use Rattle.hyd_period_length.proofs.Deciding.{before_last, ends_brought, leaves_brought, changes_brought, ends_without}
-use Rattle.hyd_period_length.proofs.Deciding.{leaves_without, changes_without, decided_without, unless_without}
+use Rattle.hyd_period_length.proofs.RulesAtInstant.{decided_so, unless_so}
+use Rattle.hyd_period_length.proofs.EndByRulesOrWithout.{before_last, ends_brought, leaves_brought, changes_brought}
+use Rattle.hyd_period_length.proofs.EndByRulesOrWithout.{ends_without}
+use Rattle.hyd_period_length.proofs.EndByRulesOrWithout.{leaves_without, changes_without, decided_without}
+use Rattle.hyd_period_length.proofs.EndByRulesOrWithout.{unless_without}
 use Rattle.hyd_period_length.proofs.finding_the_end.find_end.Goals as goal
 
 pub returns-in-Some-clause-ends : goal.returns-in-Some-clause-ends

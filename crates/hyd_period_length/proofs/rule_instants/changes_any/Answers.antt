@@ -1,8 +1,8 @@
 use Rattle.std.proofs.Common.{◌≡◌, ◌∙◌, ◌<◌, ◌≤◌, ℕ, ltb, true, false, length, ap, arith}
 use Rattle.std.proofs.lemmas.Bool.Decides.{nat_tests}
 use Rattle.hyd_spec.specs.Rules.{rule_changes}
-use Rattle.hyd_theorems_on_histories.proofs.Lasting.{unchanged}
-use Rattle.hyd_period_length.proofs.Acting.{none_added, some_added, view_stays}
+use Rattle.hyd_theorems_on_histories.proofs.LengthAndLinkStates.{unchanged}
+use Rattle.hyd_period_length.proofs.AppendedChanges.{none_added, some_added, view_stays}
 use Rattle.hyd_period_length.proofs.rule_instants.changes_any.Goals as goal
 
 not_more : (a b x y : ℕ) → a ≡ x → b ≡ y → ltb a b ≡ false → y ≤ x

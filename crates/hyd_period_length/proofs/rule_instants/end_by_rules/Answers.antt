@@ -4,11 +4,11 @@ use Rattle.hyd_spec_certificates.specs.Decided.{RulesMatter}
 use Rattle.hyd_period_facts.specs.declared.facts.Facts.{Facts}
 use Rattle.hyd_watched_levels.specs.FactsBeforeEnd.{HaveTanks}
 use Rattle.hyd_period_length.specs.Endings.{ForPeriod, IsBrought}
-use Rattle.hyd_period_length.proofs.Trying.{keeps_all, decided_so, unless_so}
-use Rattle.hyd_period_length.proofs.Walking.{next_multiple, walk_starts, walk_goes_on, walk_ends}
-use Rattle.hyd_period_length.proofs.Walking.{walk_finds}
+use Rattle.hyd_period_length.proofs.RulesAtInstant.{keeps_all, decided_so, unless_so}
+use Rattle.hyd_period_length.proofs.InstantsTriedSoFar.{next_multiple, walk_starts, walk_goes_on, walk_ends}
+use Rattle.hyd_period_length.proofs.InstantsTriedSoFar.{walk_finds}
 use Rattle.hyd_period_length.proofs.rule_instants.end_by_rules.Goals as goal
-use Rattle.hyd_theorems_on_nesting.proofs.Walking.{first_multiple}
+use Rattle.hyd_theorems_on_nesting.proofs.RuleInstants.{first_multiple}
 
 pub loop-seconds-init : goal.loop-seconds-init
 loop-seconds-init c =

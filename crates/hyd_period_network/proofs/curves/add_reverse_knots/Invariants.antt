@@ -1,7 +1,7 @@
 use Rattle.std.proofs.Common.{◌≡◌, ◌+◌, ◌≤◌, ◌++◌, drop, map, reverse, neg_ℤ}
 use Rattle.std.specs.List.{All}
 use Rattle.hyd_net.specs.declared.curves.HeadPoint.{HeadPoint}
-use Rattle.hyd_law.specs.Curves.{IsKnot, places}
+use Rattle.hyd_law.specs.KnotsOfStraightLines.{IsKnot, places}
 use Rattle.hyd_period_network.proofs.curves.add_reverse_knots.Given as goal
 
 abbrev pub invariant-loop-i : goal.invariant-loop-i

@@ -1,6 +1,6 @@
 use Rattle.std.proofs.Common.{w64}
 use Rattle.std.proofs.lemmas.Int.{to_z-of_z}
-use Rattle.hyd_period_network.proofs.Driving.{driven_is}
+use Rattle.hyd_period_network.proofs.DemandLaws.{driven_is}
 use Rattle.hyd_period_network.proofs.demands.driven_law.Goals as goal
 
 pub returns-clause-law : goal.returns-clause-law

@@ -1,6 +1,6 @@
 use Rattle.std.proofs.Common.{◌≡◌, ◌≤◌, ◌+◌, inl, inr, to_z, of_z, w64, ◌∙◌, arith}
 use Rattle.std.proofs.lemmas.Int.{ints}
-use Rattle.hyd_period_network.proofs.Driving.{kept_more, in_range_more}
+use Rattle.hyd_period_network.proofs.DemandLaws.{kept_more, in_range_more}
 use Rattle.hyd_period_network.proofs.demands.kept_demands.Goals as goal
 
 pub loop-i-preserved : goal.loop-i-preserved

@@ -2,7 +2,7 @@ use Rattle.std.proofs.Common.{◌≡◌, ℤ, to_z, of_z, w64, subst, ◌∙◌,
 use Rattle.std.proofs.lemmas.Int.{ints}
 use Rattle.std.proofs.lemmas.List.{length-set}
 use Rattle.hyd_period_network.specs.Demands.{IsOutLawOf}
-use Rattle.hyd_period_network.proofs.Driving.{demands_set, held_set}
+use Rattle.hyd_period_network.proofs.DemandLaws.{demands_set, held_set}
 use Rattle.hyd_period_network.proofs.demands.set_demands.Goals as goal
 
 pub loop-i-preserved : goal.loop-i-preserved

@@ -1,6 +1,6 @@
 use Rattle.std.proofs.Common.{◌≡◌, ℕ, ℤ, ◌<◌, length, slice_index_or}
 use Rattle.hyd_net.specs.NumberRanges.{IsHead}
-use Rattle.hyd_demand.specs.DemandsAndHeadsByNumber.{head_of_reservoir}
+use Rattle.hyd_demands_and_reservoir_heads.specs.DemandsAndHeadsByNumber.{head_of_reservoir}
 use Rattle.hyd_period_network.proofs.fixed_heads.set_reservoirs.Given as goal
 
 abbrev pub invariant-loop-i : goal.invariant-loop-i

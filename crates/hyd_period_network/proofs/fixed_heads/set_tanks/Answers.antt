@@ -4,8 +4,8 @@ use Rattle.hyd_spec_certificates.specs.Spans.{levels_of}
 use Rattle.hyd_spec_certificates.specs.PeriodNetwork.{tank_intervals}
 use Rattle.hyd_spec_certificates.specs.declared.LevelSpan.{LevelSpan}
 use Rattle.hyd_period_network.specs.NetInvariant.{AreHeads}
-use Rattle.hyd_period_network.specs.Periods.{HasHeads}
-use Rattle.hyd_period_network.proofs.Writing.{more_set, intervals, heads_at}
+use Rattle.hyd_period_network.specs.NetsSetToPeriods.{HasHeads}
+use Rattle.hyd_period_network.proofs.ListsItemByItem.{more_set, intervals, heads_at}
 use Rattle.hyd_period_network.proofs.fixed_heads.set_tanks.Goals as goal
 
 pub loop-i-preserved : goal.loop-i-preserved

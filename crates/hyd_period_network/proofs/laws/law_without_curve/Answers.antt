@@ -5,7 +5,7 @@ use Rattle.hyd_spec.specs.DemandsReservoirHeadsAndCurves.{is_us}
 use Rattle.hyd_spec.specs.LinkLaw.{own_law}
 use Rattle.hyd_period_network.specs.LawsInSettings.{Represents}
 use Rattle.hyd_period_network.proofs.LawsStand.{shut_represents}
-use Rattle.hyd_period_network.proofs.Ranging.{speed_of, flow_of, shutoff_of, closed_is}
+use Rattle.hyd_period_network.proofs.RangesOfLinkNumbers.{speed_of, flow_of, shutoff_of, closed_is}
 use Rattle.hyd_period_network.proofs.laws.law_without_curve.Goals as goal
 
 pub running_law-requires-clause-head : goal.running_law-requires-clause-head

@@ -1,4 +1,4 @@
-use Rattle.hyd_period_network.proofs.Rooms.{room_kept}
+use Rattle.hyd_period_network.proofs.RoomOfKnots.{room_kept}
 use Rattle.hyd_period_network.proofs.laws.set_link.Goals as goal
 
 pub returns-then-not-is_same-clause-stand : goal.returns-then-not-is_same-clause-stand

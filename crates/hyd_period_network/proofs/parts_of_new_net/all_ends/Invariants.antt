@@ -1,5 +1,5 @@
 use Rattle.std.proofs.Common.{◌≡◌, ◌++◌, map, drop}
-use Rattle.hyd_period_network.specs.Periods.{ends_of}
+use Rattle.hyd_period_network.specs.NetsSetToPeriods.{ends_of}
 use Rattle.hyd_period_network.proofs.parts_of_new_net.all_ends.Given as goal
 
 abbrev pub invariant-loop-link : goal.invariant-loop-link

@@ -1,6 +1,6 @@
 use Rattle.std.proofs.Common.{arith}
 use Rattle.hyd_period_network.specs.Demands.{IsNetJunction}
-use Rattle.hyd_period_network.proofs.Writing.{zipped}
+use Rattle.hyd_period_network.proofs.ListsItemByItem.{zipped}
 use Rattle.hyd_period_network.proofs.parts_of_new_net.net_junctions.Goals as goal
 
 pub returns : goal.returns

@@ -1,7 +1,8 @@
 use Rattle.std.proofs.Common.{◌≡◌, pos, neg_ℤ, ◌-ℤ◌, ◌^◌, to_z, of_z, arith}
 use Rattle.std.specs.Int.{w128, int_div_euclid}
 use Rattle.std.proofs.lemmas.Int.{ints}
-use Rattle.hyd_period_network.proofs.Lifting.{ordered_ends, low_end, high_end, floor_within, ceiling_within, euclid_at}
+use Rattle.hyd_period_network.proofs.PumpLifts.{ordered_ends, low_end, high_end, floor_within, ceiling_within}
+use Rattle.hyd_period_network.proofs.PumpLifts.{euclid_at}
 use Rattle.hyd_period_network.proofs.pumps.rounded.Goals as goal
 
 low_is : (c : goal.After-div_euclid-hi) → c.div_euclid-lo.result ≡ int_div_euclid c.args.numerator c.args.denominator

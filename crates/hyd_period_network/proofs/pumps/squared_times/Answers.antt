@@ -1,7 +1,7 @@
 use Rattle.std.proofs.Common.{unsigned_abs, to_z, of_z, arith}
 use Rattle.std.specs.Int.{w128}
 use Rattle.std.proofs.lemmas.Int.{ints}
-use Rattle.hyd_period_network.proofs.Lifting.{square_times, square_small, product_small}
+use Rattle.hyd_period_network.proofs.PumpLifts.{square_times, square_small, product_small}
 use Rattle.hyd_period_network.proofs.pumps.squared_times.Goals as goal
 
 pub product-requires-2 : goal.product-requires-2

@@ -2,8 +2,8 @@ use Rattle.std.proofs.Common.{ℕ, ◌<◌, List, length, slice_index_or, subst,
 use Rattle.hyd_spec.specs.ProgramTypes.{Link, LinkState}
 use Rattle.hyd_period_network.specs.declared.net_types.Setting.{Setting}
 use Rattle.hyd_period_network.specs.LawsInSettings.{AreLaws, CanStand}
-use Rattle.hyd_period_network.proofs.SettingOne.{laws_set, sets_more}
-use Rattle.hyd_period_network.proofs.Standing.{standing_of}
+use Rattle.hyd_period_network.proofs.OneLinkSet.{laws_set, sets_more}
+use Rattle.hyd_period_network.proofs.LinksInStates.{standing_of}
 use Rattle.hyd_period_network.proofs.settings.set_links.Goals as goal
 
 pub loop-i-init : goal.loop-i-init

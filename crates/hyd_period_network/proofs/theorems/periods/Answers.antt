@@ -1,4 +1,4 @@
-use Rattle.hyd_period_network.proofs.Answering.{answer_alike}
+use Rattle.hyd_period_network.proofs.TwoNetsOfOnePeriod.{answer_alike}
 use Rattle.hyd_period_network.proofs.theorems.periods.Goals as goal
 
 pub returns : goal.returns

@@ -10,7 +10,7 @@ use Rattle.hyd_spec_certificates.specs.Stocks.{Stocks}
 use Rattle.hyd_spec_certificates.specs.declared.LevelSpan.{LevelSpan}
 use Rattle.hyd_tank.specs.StockIntervals.{AreHeld, volumes_of}
 use Rattle.hyd_tank.specs.declared.stock_intervals.VolumeSpan.{VolumeSpan}
-use Rattle.hyd_period_stocks.proofs.Starting.{item_more, all_items, held_further, held_at_start}
+use Rattle.hyd_period_stocks.proofs.InitialStocksAndStates.{item_more, all_items, held_further, held_at_start}
 use Rattle.hyd_period_stocks.proofs.initial.put_initial.Goals as goal
 
 pub loop-tank-preserved : goal.loop-tank-preserved

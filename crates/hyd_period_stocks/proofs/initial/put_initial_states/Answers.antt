@@ -1,7 +1,7 @@
 use Rattle.std.proofs.Common.{◌∙◌, sym}
 use Rattle.std.specs.Prelude.{map}
 use Rattle.hyd_spec_certificates.specs.Spans.{levels_of}
-use Rattle.hyd_period_stocks.proofs.Starting.{none_at_start, states_are}
+use Rattle.hyd_period_stocks.proofs.InitialStocksAndStates.{none_at_start, states_are}
 use Rattle.hyd_period_stocks.proofs.initial.put_initial_states.Goals as goal
 
 pub unreachable-requires : goal.unreachable-requires

@@ -7,8 +7,8 @@ use Rattle.hyd_spec_certificates.specs.Spans.{levels_of}
 use Rattle.hyd_spec_certificates.specs.Interval.{Interval}
 use Rattle.hyd_spec_certificates.specs.Stocks.{state_of}
 use Rattle.hyd_spec_certificates.specs.Decided.{nowhere}
-use Rattle.hyd_tank_inflows.proofs.Numbered.{one_more, all_there}
-use Rattle.hyd_period_stocks.proofs.Deciding.{known_more, first_open}
+use Rattle.hyd_tank_inflows.proofs.ItemForEachNumber.{one_more, all_there}
+use Rattle.hyd_period_stocks.proofs.DecidedTankStates.{known_more, first_open}
 use Rattle.hyd_period_stocks.proofs.states.put_states.Goals as goal
 
 pub loop-tank-preserved : goal.loop-tank-preserved

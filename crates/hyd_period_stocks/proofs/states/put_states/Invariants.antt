@@ -3,7 +3,7 @@ use Rattle.std.specs.Prelude.{Option, Some, map, slice_index_or}
 use Rattle.hyd_spec.specs.declared.TankState.{TankState}
 use Rattle.hyd_spec_certificates.specs.Spans.{levels_of}
 use Rattle.hyd_spec_reports.specs.Stops.{open_states}
-use Rattle.hyd_period_stocks.proofs.Deciding.{states_at}
+use Rattle.hyd_period_stocks.proofs.DecidedTankStates.{states_at}
 use Rattle.hyd_period_stocks.proofs.states.put_states.Given as goal
 
 abbrev pub invariant-loop-tank : goal.invariant-loop-tank

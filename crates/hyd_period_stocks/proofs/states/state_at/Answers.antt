@@ -1,7 +1,7 @@
 use Rattle.std.specs.Prelude.{map, slice_index_or}
 use Rattle.hyd_spec_certificates.specs.Spans.{levels_of}
 use Rattle.hyd_spec_certificates.specs.Decided.{nowhere}
-use Rattle.hyd_period_stocks.proofs.Deciding.{range_of, state_is}
+use Rattle.hyd_period_stocks.proofs.DecidedTankStates.{range_of, state_is}
 use Rattle.hyd_period_stocks.proofs.states.state_at.Goals as goal
 
 pub state_of-requires : goal.state_of-requires

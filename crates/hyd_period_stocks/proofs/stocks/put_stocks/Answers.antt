@@ -7,9 +7,9 @@ use Rattle.hyd_spec_certificates.specs.Stocks.{Stocks}
 use Rattle.hyd_spec_certificates.specs.declared.LevelSpan.{LevelSpan}
 use Rattle.hyd_tank.specs.StockIntervals.{stocks_of, volumes_of}
 use Rattle.hyd_tank.specs.declared.stock_intervals.VolumeSpan.{VolumeSpan}
-use Rattle.hyd_tank_inflows.proofs.Numbered.{one_more, all_there}
+use Rattle.hyd_tank_inflows.proofs.ItemForEachNumber.{one_more, all_there}
 use Rattle.hyd_period_stocks.specs.TankStart.{next_in}
-use Rattle.hyd_period_stocks.proofs.Stocking.{levels_are, volumes_are, all_held, held_more}
+use Rattle.hyd_period_stocks.proofs.NextStocksByFacts.{levels_are, volumes_are, all_held, held_more}
 use Rattle.hyd_period_stocks.proofs.stocks.put_stocks.Goals as goal
 
 pub loop-tank-preserved : goal.loop-tank-preserved

@@ -5,7 +5,7 @@ use Rattle.hyd_spec.specs.Tank.{walls_of}
 use Rattle.hyd_spec_certificates.specs.Spans.{levels_of}
 use Rattle.hyd_tank.specs.StockIntervals.{AreHeld, volumes_of}
 use Rattle.hyd_period_stocks.specs.TankStart.{next_in}
-use Rattle.hyd_period_stocks.proofs.Stocking.{levels_in, volumes_in}
+use Rattle.hyd_period_stocks.proofs.NextStocksByFacts.{levels_in, volumes_in}
 use Rattle.hyd_period_stocks.proofs.stocks.put_stocks.Given as goal
 
 abbrev pub invariant-loop-tank : goal.invariant-loop-tank

@@ -1,6 +1,6 @@
 use Rattle.std.specs.Prelude.{map}
 use Rattle.hyd_spec_certificates.specs.Spans.{levels_of}
-use Rattle.hyd_period_stocks.proofs.Deciding.{none_open}
+use Rattle.hyd_period_stocks.proofs.DecidedTankStates.{none_open}
 use Rattle.hyd_period_stocks.proofs.unsettled_at_levels.put_settled.Goals as goal
 
 pub returns-in-Err-find_open-clause-open : goal.returns-in-Err-find_open-clause-open

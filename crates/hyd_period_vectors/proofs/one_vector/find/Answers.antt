@@ -6,7 +6,7 @@ use Rattle.std.specs.Prelude.{None}
 use Rattle.hyd_sweep.specs.LeapingRounds.{AreLeapingRounds}
 use Rattle.hyd_period_vectors.specs.Vectors.{IsSought, IsAtHand, Comes}
 use Rattle.hyd_lemmas.proofs.ListsOptionsAndResults.{on-ok}
-use Rattle.hyd_period_vectors.proofs.Telling.{tight-sought, reached, other-comes}
+use Rattle.hyd_period_vectors.proofs.SoughtVectors.{tight-sought, reached, other-comes}
 use Rattle.hyd_period_vectors.proofs.one_vector.find.Goals as goal
 
 pub returns-clause-sought : goal.returns-clause-sought

@@ -1,6 +1,6 @@
 use Rattle.std.proofs.Common.{refl}
 use Rattle.hyd_period_network.specs.NetAsPeriodNetwork.{grid_of}
-use Rattle.hyd_period_vectors.proofs.Spending.{spent-anywhere}
+use Rattle.hyd_period_vectors.proofs.RoundsSpentAnywhere.{spent-anywhere}
 use Rattle.hyd_period_vectors.proofs.one_vector.sweep.Goals as goal
 
 pub returns-in-RoundsSpent-clause-lack : goal.returns-in-RoundsSpent-clause-lack

@@ -3,7 +3,7 @@ use Rattle.std.proofs.Common.{ℕ, List}
 use Rattle.hyd_spec_reports.specs.declared.Event.{Event}
 use Rattle.hyd_spec_reports.specs.ReportLine.{line_text}
 use Rattle.hyd_spec_reports.specs.Report.{event_line}
-use Rattle.hyd_report.proofs.Joining.{joined-more, joined-split}
+use Rattle.hyd_report.proofs.JoinedTexts.{joined-more, joined-split}
 use Rattle.hyd_io.proofs.PutLemmas.{puts_then, puts_cut_off, puts_same}
 use Rattle.hyd_report.proofs.events.put_events.Goals as goal
 

@@ -3,7 +3,7 @@ use Rattle.std.specs.Prelude.{Ok}
 use Rattle.hyd_spec.specs.Lists.{joined}
 use Rattle.hyd_spec_reports.specs.ReportLine.{line_text}
 use Rattle.hyd_spec_reports.specs.Report.{event_line}
-use Rattle.hyd_io.specs.Putting.{Puts}
+use Rattle.hyd_io.specs.TextPutIn.{Puts}
 use Rattle.hyd_report.proofs.events.put_events.Given as goal
 
 -- the lines of the events so far were put

@@ -4,8 +4,8 @@ use Rattle.std.specs.Prelude.{slice_get, IfSome}
 use Rattle.hyd_period_network.specs.NetAsPeriodNetwork.{grid_of}
 use Rattle.hyd_bounds.specs.VectorsInOrder.{IsSpan}
 use Rattle.hyd_spec_certificates.specs.FlowIntervals.{out_box}
-use Rattle.hyd_io.specs.Putting.{Puts}
-use Rattle.hyd_report.specs.Printing.{printed, quantity_in, ArePrinted}
+use Rattle.hyd_io.specs.TextPutIn.{Puts}
+use Rattle.hyd_report.specs.PrintedIntervals.{printed, quantity_in, ArePrinted}
 use Rattle.hyd_report.specs.declared.printed_intervals.Quantity.TheVariants.{Head, Pressure}
 use Rattle.hyd_report.proofs.LineLemmas.{junction_put}
 use Rattle.hyd_report.proofs.junctions.put_junction.Goals as goal

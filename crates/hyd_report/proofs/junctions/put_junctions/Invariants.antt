@@ -2,7 +2,7 @@ use Rattle.std.proofs.Common.{take}
 use Rattle.std.specs.Prelude.{Ok}
 use Rattle.hyd_spec.specs.Lists.{map_from}
 use Rattle.hyd_period_network.specs.NetAsPeriodNetwork.{grid_of}
-use Rattle.hyd_io.specs.Putting.{Puts}
+use Rattle.hyd_io.specs.TextPutIn.{Puts}
 use Rattle.hyd_report.specs.NodeAndLinkLines.{texts, junction_line}
 use Rattle.hyd_report.proofs.junctions.put_junctions.Given as goal
 

@@ -5,9 +5,9 @@ use Rattle.std.proofs.lemmas.List.{length-map}
 use Rattle.hyd_spec_certificates.specs.PeriodNetwork.{GridLink, all_heads}
 use Rattle.hyd_spec_certificates.specs.declared.Problem.TheVariants.{Main}
 use Rattle.hyd_spec_certificates.specs.declared.Side.TheVariants.{Upper, Lower}
-use Rattle.hyd_period_network.specs.Periods.{ends_of}
+use Rattle.hyd_period_network.specs.NetsSetToPeriods.{ends_of}
 use Rattle.hyd_period_network.specs.NetAsPeriodNetwork.{grid_of, states_of}
-use Rattle.hyd_io.specs.Putting.{Puts}
+use Rattle.hyd_io.specs.TextPutIn.{Puts}
 use Rattle.hyd_lemmas.proofs.ListsOptionsAndResults.{item_there}
 use Rattle.hyd_report.proofs.LineLemmas.{link_put}
 use Rattle.hyd_report.proofs.LinkLemmas.{link_word}

@@ -4,7 +4,7 @@ use Rattle.std.proofs.lemmas.List.{length-map}
 use Rattle.hyd_spec_certificates.specs.PeriodNetwork.{all_heads}
 use Rattle.hyd_spec_certificates.specs.declared.Problem.TheVariants.{Main}
 use Rattle.hyd_spec_certificates.specs.declared.Side.TheVariants.{Upper, Lower}
-use Rattle.hyd_period_network.specs.Periods.{ends_of}
+use Rattle.hyd_period_network.specs.NetsSetToPeriods.{ends_of}
 use Rattle.hyd_period_network.specs.NetAsPeriodNetwork.{grid_of, states_of}
 use Rattle.hyd_report.specs.NodeAndLinkLines.{link_line}
 use Rattle.hyd_report.proofs.LoopLemmas.{line_put, line_cut_off}

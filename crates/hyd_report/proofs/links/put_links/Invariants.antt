@@ -5,7 +5,7 @@ use Rattle.hyd_period_network.specs.NetAsPeriodNetwork.{grid_of, states_of}
 use Rattle.hyd_spec_certificates.specs.PeriodNetwork.{all_heads}
 use Rattle.hyd_spec_certificates.specs.declared.Problem.TheVariants.{Main}
 use Rattle.hyd_spec_certificates.specs.declared.Side.TheVariants.{Upper, Lower}
-use Rattle.hyd_io.specs.Putting.{Puts}
+use Rattle.hyd_io.specs.TextPutIn.{Puts}
 use Rattle.hyd_report.specs.NodeAndLinkLines.{texts, link_line}
 use Rattle.hyd_report.proofs.links.put_links.Given as goal
 

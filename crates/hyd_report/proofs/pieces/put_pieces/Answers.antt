@@ -1,6 +1,6 @@
 -- One text follows another.
 use Rattle.std.proofs.Common.{ℕ, List, Bor}
-use Rattle.hyd_report.proofs.Joining.{joined-more, joined-split}
+use Rattle.hyd_report.proofs.JoinedTexts.{joined-more, joined-split}
 use Rattle.hyd_io.proofs.PutLemmas.{puts_then, puts_cut_off, puts_same}
 use Rattle.hyd_report.proofs.pieces.put_pieces.Goals as goal
 

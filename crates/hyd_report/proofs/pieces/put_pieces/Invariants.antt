@@ -1,7 +1,7 @@
 use Rattle.std.proofs.Common.{map, take}
 use Rattle.std.specs.Prelude.{Ok}
 use Rattle.hyd_spec.specs.Lists.{joined}
-use Rattle.hyd_io.specs.Putting.{Puts}
+use Rattle.hyd_io.specs.TextPutIn.{Puts}
 use Rattle.hyd_report.proofs.pieces.put_pieces.Given as goal
 
 -- the pieces so far were put

@@ -2,7 +2,7 @@
 use Rattle.std.proofs.Common.{ap, ◌∙◌, to_z-of_z, FitsSigned}
 use Rattle.std.specs.Int.{w128}
 use Rattle.hyd_num.specs.PrintedDecimals.{IsRoundedDown, IsRoundedUp, decimal_text}
-use Rattle.hyd_report.specs.Printing.{quantity_in}
+use Rattle.hyd_report.specs.PrintedIntervals.{quantity_in}
 use Rattle.hyd_report.proofs.PrintLemmas.{low_end, high_end}
 use Rattle.hyd_report.proofs.printed_intervals.print_ends.Goals as goal
 

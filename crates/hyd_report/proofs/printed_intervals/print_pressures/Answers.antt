@@ -1,7 +1,7 @@
 -- The differences fit.
 use Rattle.std.proofs.Common.{◌≡◌, ◌-ℤ◌, to_z-of_z, FitsSigned, w64}
 use Rattle.std.specs.Int.{w128}
-use Rattle.hyd_report.specs.Printing.{printed, quantity_in, ArePrinted}
+use Rattle.hyd_report.specs.PrintedIntervals.{printed, quantity_in, ArePrinted}
 use Rattle.hyd_report.specs.declared.printed_intervals.Quantity.TheVariants.{Pressure}
 use Rattle.hyd_report.proofs.printed_intervals.print_pressures.Goals as goal
 

@@ -1,7 +1,7 @@
 -- The sums fit.
 use Rattle.std.proofs.Common.{◌≡◌, ◌+ℤ◌, to_z-of_z, FitsSigned, w64, rules}
 use Rattle.std.specs.Int.{w128}
-use Rattle.hyd_report.specs.Printing.{printed, quantity_in, ArePrinted}
+use Rattle.hyd_report.specs.PrintedIntervals.{printed, quantity_in, ArePrinted}
 use Rattle.hyd_report.specs.declared.printed_intervals.Quantity.TheVariants.{Head}
 use Rattle.hyd_report.proofs.printed_intervals.print_tank_heads.Goals as goal
 

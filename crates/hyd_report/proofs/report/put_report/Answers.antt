@@ -1,11 +1,11 @@
 -- One part after another.
 use Rattle.std.proofs.Common.{◌≡◌, ◌∙◌, sym, ap, length}
 use Rattle.std.proofs.lemmas.List.{length-map}
-use Rattle.hyd_period_network.specs.Periods.{ends_of}
+use Rattle.hyd_period_network.specs.NetsSetToPeriods.{ends_of}
 use Rattle.hyd_cert.specs.RecordView.{row_of}
 use Rattle.hyd_period_network.specs.NetAsPeriodNetwork.{grid_of, states_of}
 use Rattle.hyd_report.specs.PeriodLines.{start_lines, middle_lines, end_lines}
-use Rattle.hyd_period_network.proofs.Counts.{links_count}
+use Rattle.hyd_period_network.proofs.GridJunctionsAndLinks.{links_count}
 use Rattle.hyd_report.proofs.LineLemmas.{three_text}
 use Rattle.hyd_io.proofs.PutLemmas.{puts_then, puts_cut_off, puts_same}
 use Rattle.hyd_report.proofs.ReportLemmas.{lines_are_report}

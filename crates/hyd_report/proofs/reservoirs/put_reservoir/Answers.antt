@@ -5,8 +5,8 @@ use Rattle.hyd_spec_certificates.specs.PeriodNetwork.{fixed_heads}
 use Rattle.hyd_spec_certificates.specs.declared.Problem.TheVariants.{Main}
 use Rattle.hyd_spec_certificates.specs.declared.Side.TheVariants.{Lower}
 use Rattle.hyd_period_network.specs.NetAsPeriodNetwork.{grid_of}
-use Rattle.hyd_io.specs.Putting.{Puts}
-use Rattle.hyd_report.specs.Printing.{printed, quantity_in, ArePrinted}
+use Rattle.hyd_io.specs.TextPutIn.{Puts}
+use Rattle.hyd_report.specs.PrintedIntervals.{printed, quantity_in, ArePrinted}
 use Rattle.hyd_report.specs.declared.printed_intervals.Quantity.TheVariants.{Head}
 use Rattle.hyd_theorems_on_definitions.proofs.HeadLists.{heads_of, head_behind, head_before, heads_of-length}
 use Rattle.hyd_report.proofs.LineLemmas.{reservoir_put}

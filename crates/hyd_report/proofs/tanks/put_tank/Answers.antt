@@ -3,8 +3,8 @@ use Rattle.std.proofs.Common.{ℕ, List, to_z-of_z, FitsSigned, w64}
 use Rattle.std.specs.Prelude.{slice_get}
 use Rattle.hyd_spec_certificates.specs.Spans.{levels_of, flows_of}
 use Rattle.hyd_spec_certificates.specs.Interval.{shifted}
-use Rattle.hyd_io.specs.Putting.{Puts}
-use Rattle.hyd_report.specs.Printing.{printed, quantity_in, ArePrinted}
+use Rattle.hyd_io.specs.TextPutIn.{Puts}
+use Rattle.hyd_report.specs.PrintedIntervals.{printed, quantity_in, ArePrinted}
 use Rattle.hyd_report.specs.declared.printed_intervals.Quantity.TheVariants.{Head}
 use Rattle.hyd_report.proofs.LineLemmas.{tank_put}
 use Rattle.hyd_report.proofs.tanks.put_tank.Goals as goal

@@ -2,7 +2,7 @@
 use Rattle.std.proofs.Common.{ℕ, List, ◌<◌, length, arith}
 use Rattle.std.specs.Prelude.{Ok, Err, slice_get}
 use Rattle.hyd_report.specs.NodeAndLinkLines.{tank_line}
-use Rattle.hyd_io.specs.Putting.{Puts}
+use Rattle.hyd_io.specs.TextPutIn.{Puts}
 use Rattle.hyd_report.proofs.LineLemmas.{tank_read}
 use Rattle.hyd_report.proofs.LoopLemmas.{line_put, line_cut_off}
 use Rattle.hyd_report.proofs.tanks.put_tanks.Goals as goal

@@ -1,6 +1,6 @@
 use Rattle.std.proofs.Common.{Bool, arith}
 use Rattle.std.proofs.Math.ListN.{length-set}
-use Rattle.hyd_rule_values.proofs.Knowing.{known_more, all_known, first_open}
+use Rattle.hyd_rule_values.proofs.RulesKnownSoFar.{known_more, all_known, first_open}
 use Rattle.hyd_rule_values.proofs.truth_of_rules.decide_all.Goals as goal
 
 pub loop-rule-preserved : goal.loop-rule-preserved

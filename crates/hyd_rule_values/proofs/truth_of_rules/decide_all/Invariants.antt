@@ -4,7 +4,7 @@ use Rattle.hyd_spec.specs.Rules.{Readings}
 use Rattle.hyd_spec_certificates.specs.Spans.{levels_of, flows_of}
 use Rattle.hyd_controls_and_rules.specs.AlikeButTankHeads.{AreAlike}
 use Rattle.hyd_controls_and_rules.specs.RuleReadings.{lower_readings, upper_readings}
-use Rattle.hyd_rule_values.proofs.Knowing.{KnownBefore}
+use Rattle.hyd_rule_values.proofs.RulesKnownSoFar.{KnownBefore}
 use Rattle.hyd_rule_values.proofs.truth_of_rules.decide_all.Given as goal
 
 abbrev pub invariant-loop-rule : goal.invariant-loop-rule

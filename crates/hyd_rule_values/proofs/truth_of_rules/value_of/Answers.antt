@@ -8,7 +8,7 @@ use Rattle.hyd_spec_certificates.specs.declared.Truth.TheVariants.{True, False, 
 use Rattle.hyd_spec_certificates.specs.ThreeValuedLogic.{is_yes, is_unknown}
 use Rattle.hyd_spec_certificates.specs.Decided.{IsOpenClause}
 use Rattle.hyd_controls_and_rules.specs.RuleReadings.{lower_readings, upper_readings}
-use Rattle.hyd_controls_and_rules.proofs.Unseen.{same_truth}
+use Rattle.hyd_controls_and_rules.proofs.TankHeadsUnread.{same_truth}
 use Rattle.hyd_rule_values.proofs.truth_of_rules.value_of.Goals as goal
 
 pub returns-in-True-clause-known : goal.returns-in-True-clause-known

@@ -4,7 +4,8 @@ use Rattle.hyd_spec.specs.ProgramTypes.{LinkState}
 use Rattle.hyd_spec_certificates.specs.Spans.{levels_of}
 use Rattle.hyd_spec_certificates.specs.declared.LevelSpan.{LevelSpan}
 use Rattle.hyd_spec_certificates.specs.Decided.{carried_at, readings_below, readings_above}
-use Rattle.hyd_rules_in_period.proofs.Reading.{if_ok, if_err, alike_below, alike_above, decided_so, open_so}
+use Rattle.hyd_rules_in_period.proofs.ReadingsButTankHeads.{if_ok, if_err, alike_below, alike_above, decided_so}
+use Rattle.hyd_rules_in_period.proofs.ReadingsButTankHeads.{open_so}
 use Rattle.hyd_rules_in_period.proofs.trial.try_rules.Goals as goal
 
 pub returns-clause-decided : goal.returns-clause-decided

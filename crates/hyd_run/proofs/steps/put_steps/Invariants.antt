@@ -1,6 +1,6 @@
 use Rattle.std.proofs.Common.{◌≡◌}
 use Rattle.hyd_sim.specs.View.{standing_of}
-use Rattle.hyd_run.specs.Pens.{Moment, moment, told, AreOpen}
+use Rattle.hyd_run.specs.Pens.{RunMoment, moment, told, AreOpen}
 use Rattle.hyd_run.specs.Runs.{sharpness_of, IsSoFar, periods_left}
 use Rattle.hyd_run.proofs.steps.put_steps.Given as goal
 
@@ -13,7 +13,7 @@ invariant-loop-end g l =
       settings : l.sim.settings ≡ l.fn.sim.settings;
       unbroken : AreOpen (moment l.certificate l.report
           (told D.files D.rest D.written D.printed D.target D.ready D.counts D.openings l.desk));
-      so_far : (start : Moment)
+      so_far : (start : RunMoment)
           → IsSoFar l.fn.sim.project (sharpness_of l.fn.sim.settings) (standing_of l.fn.sim) start
           (moment l.fn.certificate l.fn.report
           (told D.files D.rest D.written D.printed D.target D.ready D.counts D.openings l.fn.desk))

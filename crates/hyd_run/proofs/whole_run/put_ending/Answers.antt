@@ -1,6 +1,6 @@
 -- The run is whole with its last lines.
 use Rattle.std.proofs.Common.{sym, subst}
-use Rattle.hyd_net.specs.Sound.{Sound}
+use Rattle.hyd_net.specs.Sound.{IsSound}
 use Rattle.hyd_sim.specs.View.{standing_of}
 use Rattle.hyd_run.specs.Runs.{outcome_of}
 use Rattle.hyd_run.proofs.EndLemmas.{ended, ended-cut-off}
@@ -9,7 +9,7 @@ use Rattle.hyd_run.proofs.whole_run.put_ending.Goals as goal
 
 pub put_last-requires : goal.put_last-requires
 put_last-requires g c = record {
-  sound = subst Sound (sym c.project.ensures.project) c.project.ensures.is_sim.sound;
+  sound = subst IsSound (sym c.project.ensures.project) c.project.ensures.is_sim.sound;
   unbroken = c.requires;
 }
 

@@ -7,8 +7,8 @@ use Rattle.hyd_period_end.specs.FactsBeforeVectors.{AreBegun}
 use Rattle.hyd_period_end.specs.OpenMatters.{IsOpenAt, SharesVectors}
 use Rattle.hyd_period_end.specs.declared.undecided.Open.{Open}
 use Rattle.hyd_sim.specs.View.{standing_for}
-use Rattle.hyd_sim.proofs.Attempting.{closed-over, begins-before}
-use Rattle.hyd_sim.proofs.Lacking.{if-err, on-ok-four}
+use Rattle.hyd_sim.proofs.MadePeriods.{closed-over, begins-before}
+use Rattle.hyd_sim.proofs.MissingVectors.{if-err, on-ok-four}
 use Rattle.hyd_sim.proofs.attempt.end_period.Goals as goal
 
 pub end_run-requires-clause-tanks : goal.end_run-requires-clause-tanks

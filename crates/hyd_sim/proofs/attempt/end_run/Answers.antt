@@ -1,7 +1,7 @@
 use Rattle.std.proofs.Common.{refl}
 use Rattle.hyd_period_network.specs.NetAsPeriodNetwork.{grid_of}
-use Rattle.hyd_period_end.proofs.Bounding.{pinned-of}
-use Rattle.hyd_sim.proofs.Attempting.{last-over}
+use Rattle.hyd_period_end.proofs.FactsByVectors.{pinned-of}
+use Rattle.hyd_sim.proofs.MadePeriods.{last-over}
 use Rattle.hyd_sim.proofs.attempt.end_run.Goals as goal
 
 pub put_inflows-requires-clause-pinned : goal.put_inflows-requires-clause-pinned

@@ -5,14 +5,14 @@ use Rattle.hyd_cert.specs.Lines.{Header}
 use Rattle.hyd_cert.specs.Vectors.{behind_two}
 use Rattle.hyd_cert.specs.RecordView.{row_of}
 use Rattle.hyd_cert.specs.declared.record.Record.{Record as Row}
+use Rattle.hyd_cert.proofs.VectorLemmas.{problems_length}
 use Rattle.hyd_period_network.specs.NetAsPeriodNetwork.{grid_of}
 use Rattle.hyd_period_end.specs.OpenMatters.{SharesVectors}
 use Rattle.hyd_period_vectors.specs.Vectors.{LacksFirst}
 use Rattle.hyd_sim.specs.PeriodAttempt.{AreSought}
-use Rattle.hyd_tank_inflows.proofs.Placing.{problems_count}
-use Rattle.hyd_sim.proofs.Attempting.{certificates-again, sought-again, made-of}
-use Rattle.hyd_sim.proofs.Lacking.{sought-all}
-use Rattle.hyd_sim.proofs.Running.{net-junctions, certificates-of}
+use Rattle.hyd_sim.proofs.MadePeriods.{certificates-again, sought-again, made-of}
+use Rattle.hyd_sim.proofs.MissingVectors.{sought-all}
+use Rattle.hyd_sim.proofs.StopsAndNextStandings.{net-junctions, certificates-of}
 use Rattle.hyd_sim.proofs.attempt.try_period.Goals as goal
 
 pub find-requires-clause-room : goal.find-requires-clause-room
@@ -35,7 +35,7 @@ end_period-requires-clause-certificates g c =
     let net = c.args.net.now in
     let row = c.find.new.row in
     let pinned : length (row_of row).pinned ≡ length net.tanks =
-    problems_count row.junctions row.tanks (behind_two row.junctions row.vectors.list)
+    problems_length row.junctions row.tanks (behind_two row.junctions row.vectors.list)
     ∙ (ap (λ (h : Header). h.tanks) (c.find.ensures.stays.header ∙ c.requires.header) ∙ sym c.requires.of.each_tank) in
     certificates-of project (grid_of net) (length net.tanks) (row_of row) c.requires.of.each_tank pinned
     (sought-all c.args.tight (g.F.Finder.told c.args.finder.now) (grid_of net) (length net.tanks) (row_of row)
@@ -51,7 +51,7 @@ returns-in-Ok-clause-made g c =
     let row = c.find.new.row in
     let stays = c.find.ensures.stays in
     let pinned : length (row_of row).pinned ≡ length net.tanks =
-    problems_count row.junctions row.tanks (behind_two row.junctions row.vectors.list)
+    problems_length row.junctions row.tanks (behind_two row.junctions row.vectors.list)
     ∙ (ap (λ (h : Header). h.tanks) (stays.header ∙ c.requires.header) ∙ sym c.requires.of.each_tank) in
     let certificates = certificates-of project (grid_of net) (length net.tanks) (row_of row) c.requires.of.each_tank
     pinned (sought-all c.args.tight (g.F.Finder.told c.args.finder.now) (grid_of net) (length net.tanks) (row_of row)

@@ -1,5 +1,5 @@
 use Rattle.std.proofs.lemmas.Bool.{false≢true}
-use Rattle.hyd_sim.proofs.Fitting.{advanced-of}
+use Rattle.hyd_sim.proofs.DuePeriodLemmas.{advanced-of}
 use Rattle.hyd_sim.proofs.due_period.advance.Goals as goal
 
 pub returns-clause-advanced : goal.returns-clause-advanced

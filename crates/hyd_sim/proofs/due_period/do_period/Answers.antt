@@ -5,7 +5,7 @@ use Rattle.hyd_spec.specs.NodeNumbers.{tank_count}
 use Rattle.hyd_cert.specs.RecordView.{row_of}
 use Rattle.hyd_period_network.specs.NetAsPeriodNetwork.{grid_of}
 use Rattle.hyd_sim.specs.PeriodAttempt.{AreSought}
-use Rattle.hyd_sim.proofs.Fitting.{on-ok-both, done-tight, done-narrow}
+use Rattle.hyd_sim.proofs.DuePeriodLemmas.{on-ok-both, done-tight, done-narrow}
 use Rattle.hyd_sim.proofs.due_period.do_period.Goals as goal
 
 pub returns-in_err-start_period-clause-proposal : goal.returns-in_err-start_period-clause-proposal

@@ -9,16 +9,16 @@ use Rattle.hyd_spec_reports.specs.declared.StopCause.{StopCause}
 use Rattle.hyd_cert.specs.Lines.{Header}
 use Rattle.hyd_cert.specs.Vectors.{behind_two}
 use Rattle.hyd_cert.specs.RecordView.{row_of}
+use Rattle.hyd_cert.proofs.VectorLemmas.{problems_length}
 use Rattle.hyd_period_network.specs.NetAsPeriodNetwork.{grid_of}
 use Rattle.hyd_period_vectors.specs.OpenedSearch.{Room}
 use Rattle.hyd_period_vectors.specs.Vectors.{LacksFirst}
 use Rattle.hyd_sim.specs.PeriodAttempt.{AreSought, IsFault, next_standing}
 use Rattle.hyd_sim.specs.NarrowRecordsAndStops.{stop_of}
 use Rattle.hyd_sim.specs.View.{standing_for}
-use Rattle.hyd_tank_inflows.proofs.Placing.{problems_count}
-use Rattle.hyd_sim.proofs.Fitting.{heads-each, next-long, told-here, same-here, nothing-open, narrow-too}
-use Rattle.hyd_sim.proofs.Lacking.{if-err, lacks-one, none-lacking}
-use Rattle.hyd_sim.proofs.Running.{net-junctions, lack-stops}
+use Rattle.hyd_sim.proofs.DuePeriodLemmas.{heads-each, next-long, told-here, same-here, nothing-open, narrow-too}
+use Rattle.hyd_sim.proofs.MissingVectors.{if-err, lacks-one, none-lacking}
+use Rattle.hyd_sim.proofs.StopsAndNextStandings.{net-junctions, lack-stops}
 use Rattle.hyd_sim.proofs.due_period.does.Goals as goal
 
 -- where a period isn't done nothing need hold of its record
@@ -48,7 +48,7 @@ returns-in-Ok-clause-proposal g c = λ w p.
     let grid = grid_of c.args.net.now in
     let row = c.try_period.new.row in
     let pinned : length (row_of row).pinned ≡ tank_count project =
-    problems_count row.junctions row.tanks (behind_two row.junctions row.vectors.list)
+    problems_length row.junctions row.tanks (behind_two row.junctions row.vectors.list)
     ∙ ap (λ (h : Header). h.tanks) (c.try_period.ensures.header ∙ c.requires.header) in
     let told = g.F.Finder.told c.args.finder.now in
     let width : to_z w64 (of_z w64 c.args.settings.width) ≡ c.args.settings.width = omega (arith, ints) in
@@ -123,7 +123,7 @@ returns-in-Err-Open-clause-proposal g c = λ w p.
     let told = g.F.Finder.told c.args.finder.now in
     let row = c.try_period.new.row in
     let pinned : length (row_of row).pinned ≡ tank_count project =
-    problems_count row.junctions row.tanks (behind_two row.junctions row.vectors.list)
+    problems_length row.junctions row.tanks (behind_two row.junctions row.vectors.list)
     ∙ ap (λ (h : Header). h.tanks) (c.try_period.ensures.header ∙ c.requires.header) in
     let fault = subst (IsFault false told project grid standing c.args.search.now.rounds (row_of row))
     c.in-Err-Open.field-0-is c.in-Err-Open.ensures.fault in

@@ -9,11 +9,11 @@ use Rattle.hyd_spec_certificates.specs.declared.LevelSpan.{LevelSpan}
 use Rattle.hyd_spec_reports.specs.Stops.{Stops}
 use Rattle.hyd_spec_reports.specs.declared.StopCause.{StopCause}
 use Rattle.hyd_period_network.specs.NetAsPeriodNetwork.{grid_of}
-use Rattle.hyd_period_network.specs.Periods.{AreLevels}
+use Rattle.hyd_period_network.specs.NetsSetToPeriods.{AreLevels}
 use Rattle.hyd_period_network.specs.LawsInSettings.{AreStates}
 use Rattle.hyd_sim.specs.View.{standing_for}
-use Rattle.hyd_sim.proofs.Placing.{levels-there, order-there}
-use Rattle.hyd_sim.proofs.Running.{no-demand-out}
+use Rattle.hyd_sim.proofs.TidyStandings.{levels-there, order-there}
+use Rattle.hyd_sim.proofs.StopsAndNextStandings.{no-demand-out}
 use Rattle.hyd_sim.proofs.due_period.start_period.Goals as goal
 
 pub set_period-requires-clause-levels : goal.set_period-requires-clause-levels

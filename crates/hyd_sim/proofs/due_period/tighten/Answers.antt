@@ -6,13 +6,13 @@ use Rattle.hyd_spec_reports.specs.declared.StopCause.{StopCause}
 use Rattle.hyd_cert.specs.Lines.{Header}
 use Rattle.hyd_cert.specs.Vectors.{behind_two}
 use Rattle.hyd_cert.specs.RecordView.{row_of}
+use Rattle.hyd_cert.proofs.VectorLemmas.{problems_length}
 use Rattle.hyd_period_network.specs.NetAsPeriodNetwork.{grid_of}
 use Rattle.hyd_period_vectors.specs.OpenedSearch.{Room}
 use Rattle.hyd_sim.specs.PeriodAttempt.{AreSought, IsFault}
 use Rattle.hyd_sim.specs.View.{standing_for}
-use Rattle.hyd_tank_inflows.proofs.Placing.{problems_count}
-use Rattle.hyd_sim.proofs.Fitting.{fault-stops}
-use Rattle.hyd_sim.proofs.Running.{net-junctions, tight-of}
+use Rattle.hyd_sim.proofs.DuePeriodLemmas.{fault-stops}
+use Rattle.hyd_sim.proofs.StopsAndNextStandings.{net-junctions, tight-of}
 use Rattle.hyd_sim.proofs.due_period.tighten.Goals as goal
 
 pub returns-in-Ok-clause-tight : goal.returns-in-Ok-clause-tight
@@ -32,7 +32,7 @@ returns-in-Err-clause-stops g c =
     let count : length (grid_of c.args.net.now).junctions ≡ junction_count project =
     c.junctions-junctions.ensures.each ∙ sym (net-junctions project c.args.net.now c.requires.of) in
     let pinned : length (row_of row).pinned ≡ tank_count project =
-    problems_count row.junctions row.tanks (behind_two row.junctions row.vectors.list)
+    problems_length row.junctions row.tanks (behind_two row.junctions row.vectors.list)
     ∙ ap (λ (h : Header). h.tanks) (c.try_period.ensures.header ∙ c.requires.header) in
     subst (λ (cause : StopCause). Stops project (standing_for c.args.standing.now) c.args.rounds cause)
     (sym c.fault_stop.ensures)

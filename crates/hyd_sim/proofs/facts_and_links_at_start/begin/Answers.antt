@@ -9,11 +9,11 @@ use Rattle.hyd_spec_certificates.specs.Valid.{ControlsAreDecided}
 use Rattle.hyd_spec_certificates.specs.declared.LevelSpan.{LevelSpan}
 use Rattle.hyd_spec_reports.specs.Report.{start_changes}
 use Rattle.hyd_theorems_on_histories.specs.Agreement.{IsOwnState}
-use Rattle.hyd_theorems_on_histories.proofs.Commanding.{started_own}
+use Rattle.hyd_theorems_on_histories.proofs.CommandedLinkStates.{started_own}
 use Rattle.hyd_tank.specs.StockIntervals.{volumes_of}
 use Rattle.hyd_period_facts.specs.declared.facts.Facts.{Facts}
 use Rattle.hyd_period_network.specs.LawsInSettings.{AreStates}
-use Rattle.hyd_sim.proofs.Starting.{own-states, ready-of, zip-length}
+use Rattle.hyd_sim.proofs.LinkStatesAtStart.{own-states, ready-of, zip-length}
 use Rattle.hyd_sim.proofs.facts_and_links_at_start.begin.Goals as goal
 
 pub put_tanks-requires-clause-levels : goal.put_tanks-requires-clause-levels

@@ -1,6 +1,6 @@
 use Rattle.std.proofs.Common.{sym, ◌∙◌}
 use Rattle.std.proofs.lemmas.Bool.{true≢false}
-use Rattle.hyd_sim.proofs.Starting.{decided-settles}
+use Rattle.hyd_sim.proofs.LinkStatesAtStart.{decided-settles}
 use Rattle.hyd_sim.proofs.facts_and_links_at_start.start_links.Goals as goal
 
 pub unreachable-requires : goal.unreachable-requires

@@ -3,7 +3,7 @@ use Rattle.std.specs.Prelude.{length}
 use Rattle.hyd_spec_certificates.specs.Certificate.{IsCertificate}
 use Rattle.hyd_period_network.specs.NetAsPeriodNetwork.{grid_of}
 use Rattle.hyd_cert.specs.RecordView.{row_of}
-use Rattle.hyd_sim.proofs.Checking.{one-more-before, problem-there, vector-long}
+use Rattle.hyd_sim.proofs.HandedInVectors.{one-more-before, problem-there, vector-long}
 use Rattle.hyd_sim.proofs.given_vectors.check_one.Goals as goal
 
 pub returns-in-Ok-clause-certificate : goal.returns-in-Ok-clause-certificate

@@ -1,7 +1,7 @@
 -- One step after another.
 use Rattle.std.proofs.Common.{◌∙◌, refl, arith}
 use Rattle.hyd_run.proofs.StepLemmas.{steps-end}
-use Rattle.hyd_summarised_run.proofs.SumLemmas.{more-done, more-lost, over-stays}
+use Rattle.hyd_summarised_run.proofs.RunLemmas.{more-done, more-lost, over-stays}
 use Rattle.hyd_summarised_run.proofs.steps.put_steps.Goals as goal
 
 pub returns-in-Ok-Over-clause-puts : goal.returns-in-Ok-Over-clause-puts

@@ -1,6 +1,6 @@
 use Rattle.std.proofs.Common.{◌≡◌, ◌≤◌, ◌*◌, ◌^◌}
 use Rattle.hyd_sim.specs.View.{standing_of}
-use Rattle.hyd_run.specs.Pens.{Moment, told, AreOpen}
+use Rattle.hyd_run.specs.Pens.{RunMoment, told, AreOpen}
 use Rattle.hyd_run.specs.Runs.{sharpness_of, periods_left}
 use Rattle.hyd_summarised_run.specs.SummarisedRuns.{aside, SumsSoFar}
 use Rattle.hyd_summarised_run.proofs.steps.put_steps.Given as goal
@@ -15,7 +15,7 @@ invariant-loop-more g l =
       unbroken : AreOpen (aside l.certificate
           (told D.files D.rest D.written D.printed D.target D.ready D.counts D.openings l.desk));
       few : l.events ≤ 2 ^ 64 * (standing_of l.sim).number;
-      so_far : (start : Moment)
+      so_far : (start : RunMoment)
           → SumsSoFar l.fn.sim.project (sharpness_of l.fn.sim.settings) (standing_of l.fn.sim) 0 start
           (aside l.fn.certificate
           (told D.files D.rest D.written D.printed D.target D.ready D.counts D.openings l.fn.desk))

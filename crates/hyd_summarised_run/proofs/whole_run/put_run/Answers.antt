@@ -6,7 +6,7 @@ use Rattle.hyd_run.specs.Runs.{outcome_of}
 use Rattle.hyd_run.proofs.EndLemmas.{fresh-open}
 use Rattle.hyd_run.proofs.PenLemmas.{on_any}
 use Rattle.hyd_summarised_run.proofs.PenLemmas.{cert-put}
-use Rattle.hyd_summarised_run.proofs.SumLemmas.{begun, begun-cut-off, ending-sums}
+use Rattle.hyd_summarised_run.proofs.RunLemmas.{begun, begun-cut-off, ending-sums}
 use Rattle.hyd_summarised_run.proofs.whole_run.put_run.Goals as goal
 
 pub put_head-requires : goal.put_head-requires

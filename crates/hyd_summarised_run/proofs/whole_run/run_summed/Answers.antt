@@ -1,5 +1,5 @@
 -- What was put in went out.
-use Rattle.hyd_summarised_run.proofs.SumLemmas.{gives-whole, gives-broken, gives-rose, gives-steady, gives-rest}
+use Rattle.hyd_summarised_run.proofs.RunLemmas.{gives-whole, gives-broken, gives-rose, gives-steady, gives-rest}
 use Rattle.hyd_summarised_run.proofs.whole_run.run_summed.Goals as goal
 
 pub returns-clause-whole : goal.returns-clause-whole

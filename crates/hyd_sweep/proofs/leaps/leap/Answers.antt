@@ -1,7 +1,7 @@
 use Rattle.std.proofs.Common.{sym, subst, ◌∙◌, List, ℤ}
 use Rattle.hyd_spec_certificates.specs.SearchSteps.{IsStart}
 use Rattle.hyd_period_network.specs.NetAsPeriodNetwork.{grid_of}
-use Rattle.hyd_sweep.proofs.Turns.{start-in-turn, in-turn}
+use Rattle.hyd_sweep.proofs.LeapsInTurn.{start-in-turn, in-turn}
 use Rattle.hyd_sweep.proofs.leaps.leap.Goals as goal
 
 pub returns-clause-start : goal.returns-clause-start

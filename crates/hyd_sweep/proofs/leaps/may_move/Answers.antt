@@ -10,8 +10,8 @@ use Rattle.hyd_spec_certificates.specs.SearchSteps.{Fails}
 use Rattle.hyd_spec_certificates.specs.PeriodNetwork.{GridJunction}
 use Rattle.hyd_period_network.specs.NetAsPeriodNetwork.{grid_of}
 use Rattle.hyd_lemmas.proofs.ListsOptionsAndResults.{same_item, item_there}
-use Rattle.hyd_sweep.proofs.Values.{free-fails, fails-free, held-stays}
-use Rattle.hyd_sweep.proofs.Turns.{one-turn}
+use Rattle.hyd_sweep.proofs.RaiseValues.{free-fails, fails-free, held-stays}
+use Rattle.hyd_sweep.proofs.LeapsInTurn.{one-turn}
 use Rattle.hyd_sweep.proofs.leaps.may_move.Goals as goal
 
 yes-not : (b : Bool) → IsTrue (not_bool b) → IsTrue b → ⊥

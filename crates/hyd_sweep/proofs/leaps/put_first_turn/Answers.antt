@@ -5,7 +5,7 @@ use Rattle.std.proofs.lemmas.Bool.{cases_eq}
 use Rattle.std.proofs.lemmas.List.{length-set, get_or_default}
 use Rattle.hyd_spec.specs.Assignment.{head_at}
 use Rattle.hyd_spec_certificates.specs.Certificate.{IsInBox}
-use Rattle.hyd_theorems_on_raises.proofs.Raising.{set-here, set-there}
+use Rattle.hyd_theorems_on_raises.proofs.RaisesAndTightVector.{set-here, set-there}
 use Rattle.hyd_sweep.specs.Leaps.{nearer}
 use Rattle.hyd_sweep.proofs.leaps.put_first_turn.Goals as goal
 

@@ -4,10 +4,10 @@ use Rattle.std.proofs.lemmas.Int.{ints}
 use Rattle.std.proofs.lemmas.Bool.{cases_eq, false≢true}
 use Rattle.hyd_spec.specs.Assignment.{head_at}
 use Rattle.hyd_spec_certificates.specs.Certificate.{IsInBox}
-use Rattle.hyd_theorems_on_raises.proofs.Raising.{set-in-box}
+use Rattle.hyd_theorems_on_raises.proofs.RaisesAndTightVector.{set-in-box}
 use Rattle.hyd_period_network.specs.NetAsPeriodNetwork.{grid_of}
 use Rattle.hyd_sweep.specs.Leaps.{IsTurn, MayMove}
-use Rattle.hyd_sweep.proofs.Turns.{turn-more}
+use Rattle.hyd_sweep.proofs.LeapsInTurn.{turn-more}
 use Rattle.hyd_sweep.proofs.leaps.take_turns.Goals as goal
 
 pub returns-then-not-may_move-clause-leaps : goal.returns-then-not-may_move-clause-leaps

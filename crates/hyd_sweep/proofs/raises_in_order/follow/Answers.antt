@@ -1,6 +1,6 @@
 use Rattle.std.proofs.Common.{◌∙◌, sym, arith}
 use Rattle.hyd_period_network.specs.NetAsPeriodNetwork.{grid_of}
-use Rattle.hyd_sweep.proofs.Walking.{follow-leads}
+use Rattle.hyd_sweep.proofs.RaisesRoundsAndSweeps.{follow-leads}
 use Rattle.hyd_sweep.proofs.raises_in_order.follow.Goals as goal
 
 pub returns-clause-leads : goal.returns-clause-leads

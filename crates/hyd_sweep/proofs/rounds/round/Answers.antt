@@ -1,7 +1,7 @@
 use Rattle.std.proofs.Common.{◌≡◌, ◌+◌, ◌<◌, ◌∙◌, sym, subst, arith, ℕ, length, suc, false}
 use Rattle.hyd_period_network.specs.NetAsPeriodNetwork.{grid_of}
 use Rattle.hyd_sweep.specs.Sweeps.{IsFollowing, numbers}
-use Rattle.hyd_sweep.proofs.Walking.{following-begins, following-either}
+use Rattle.hyd_sweep.proofs.RaisesRoundsAndSweeps.{following-begins, following-either}
 use Rattle.hyd_sweep.proofs.rounds.round.Goals as goal
 
 pub loop-i-init : goal.loop-i-init

@@ -2,7 +2,7 @@ use Rattle.std.proofs.Common.{◌≡◌, ◌<◌, ◌∙◌, sym, w64, to_z, of_
 use Rattle.std.proofs.lemmas.Int.{ints}
 use Rattle.hyd_spec.specs.Assignment.{head_at}
 use Rattle.hyd_period_network.specs.NetAsPeriodNetwork.{grid_of}
-use Rattle.hyd_sweep.proofs.Values.{suits-there, free-suits, suits-free}
+use Rattle.hyd_sweep.proofs.RaiseValues.{suits-there, free-suits, suits-free}
 use Rattle.hyd_sweep.proofs.rounds.suits.Goals as goal
 use Rattle.hyd_lemmas.proofs.ListsOptionsAndResults.{item_there}
 

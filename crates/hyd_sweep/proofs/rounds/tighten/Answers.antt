@@ -2,11 +2,11 @@ use Rattle.std.proofs.Common.{◌≡◌, ◌+◌, ◌∙◌, sym, subst, arith, 
 use Rattle.std.proofs.lemmas.Bool.{false≢true}
 use Rattle.hyd_period_network.specs.NetAsPeriodNetwork.{grid_of}
 use Rattle.hyd_spec_certificates.specs.SearchSteps.{HasRounds}
-use Rattle.hyd_theorems_on_raises.proofs.Sweeping.{has-begins}
+use Rattle.hyd_theorems_on_raises.proofs.RaisesInAnyOrder.{has-begins}
 use Rattle.hyd_sweep.specs.Sweeps.{RoundGives, AreRaises, no_raise, numbers, in_rounds}
 use Rattle.std.specs.Prelude.{Option}
-use Rattle.hyd_sweep.proofs.Apart.{spent-ends}
-use Rattle.hyd_sweep.proofs.Walking.{raises-append, round-more, round-start, sweep-none, sweep-spent}
+use Rattle.hyd_sweep.proofs.NoLinkBetweenJunctions.{spent-ends}
+use Rattle.hyd_sweep.proofs.RaisesRoundsAndSweeps.{raises-append, round-more, round-start, sweep-none, sweep-spent}
 use Rattle.hyd_sweep.proofs.rounds.tighten.Goals as goal
 
 pub loop-spent-init : goal.loop-spent-init

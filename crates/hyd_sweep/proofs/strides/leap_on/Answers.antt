@@ -1,8 +1,8 @@
 use Rattle.std.proofs.Common.{◌≡◌, ◌+◌, ◌-◌, ◌≤◌, ℕ, suc, sym, subst, arith}
 use Rattle.hyd_period_network.specs.NetAsPeriodNetwork.{grid_of}
 use Rattle.hyd_sweep.specs.Strides.{reach}
-use Rattle.hyd_sweep.proofs.Turns.{leads-self, leads-more}
-use Rattle.hyd_sweep.proofs.Striding.{within-self, within-more, strides-more}
+use Rattle.hyd_sweep.proofs.LeapsInTurn.{leads-self, leads-more}
+use Rattle.hyd_sweep.proofs.ReachOfStrides.{within-self, within-more, strides-more}
 use Rattle.hyd_sweep.proofs.strides.leap_on.Goals as goal
 
 pub loop-tried-init : goal.loop-tried-init

@@ -6,7 +6,7 @@ use Rattle.std.proofs.lemmas.Bool.{cases_eq}
 use Rattle.std.proofs.lemmas.List.{length-set}
 use Rattle.hyd_spec.specs.Assignment.{head_at}
 use Rattle.hyd_theorems_on_definitions.specs.Sides.{along}
-use Rattle.hyd_theorems_on_raises.proofs.Raising.{set-here, set-there}
+use Rattle.hyd_theorems_on_raises.proofs.RaisesAndTightVector.{set-here, set-there}
 use Rattle.hyd_sweep.proofs.strides.propose.Goals as goal
 
 pub loop-i-preserved : goal.loop-i-preserved

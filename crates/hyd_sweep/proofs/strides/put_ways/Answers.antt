@@ -4,7 +4,7 @@ use Rattle.std.proofs.lemmas.Int.{ints}
 use Rattle.std.proofs.lemmas.Bool.{cases_eq}
 use Rattle.std.proofs.lemmas.List.{length-set}
 use Rattle.hyd_spec.specs.Assignment.{head_at}
-use Rattle.hyd_theorems_on_raises.proofs.Raising.{set-here, set-there}
+use Rattle.hyd_theorems_on_raises.proofs.RaisesAndTightVector.{set-here, set-there}
 use Rattle.hyd_sweep.proofs.strides.put_ways.Goals as goal
 
 pub loop-i-preserved : goal.loop-i-preserved

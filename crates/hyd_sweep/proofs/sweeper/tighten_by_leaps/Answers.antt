@@ -2,13 +2,13 @@ use Rattle.std.proofs.Common.{◌≡◌, ◌+◌, ◌∙◌, sym, subst, arith, 
 use Rattle.std.proofs.lemmas.Bool.{false≢true}
 use Rattle.hyd_period_network.specs.NetAsPeriodNetwork.{grid_of}
 use Rattle.hyd_spec_certificates.specs.SearchSteps.{HasRounds}
-use Rattle.hyd_theorems_on_raises.proofs.Sweeping.{has-begins, has-on}
+use Rattle.hyd_theorems_on_raises.proofs.RaisesInAnyOrder.{has-begins, has-on}
 use Rattle.hyd_sweep.specs.Sweeps.{RoundGives}
 use Rattle.hyd_sweep.specs.LeapingRounds.{AreLeapingRounds, no_round, one_round}
-use Rattle.hyd_sweep.proofs.Striding.{goes-on}
+use Rattle.hyd_sweep.proofs.ReachOfStrides.{goes-on}
 use Rattle.std.specs.Prelude.{Option}
-use Rattle.hyd_sweep.proofs.Apart.{spent-ends}
-use Rattle.hyd_sweep.proofs.Walking.{round-more, round-start, sweep-none, sweep-spent}
+use Rattle.hyd_sweep.proofs.NoLinkBetweenJunctions.{spent-ends}
+use Rattle.hyd_sweep.proofs.RaisesRoundsAndSweeps.{round-more, round-start, sweep-none, sweep-spent}
 use Rattle.hyd_sweep.proofs.sweeper.tighten_by_leaps.Goals as goal
 
 pub loop-spent-init : goal.loop-spent-init

@@ -1,7 +1,7 @@
 use Rattle.std.proofs.Common.{SFits, to_z, of_z, w64, arith, rules}
 use Rattle.std.specs.Int.{w128}
 use Rattle.std.proofs.lemmas.Int.{ints, to_z-of_z}
-use Rattle.hyd_lemmas.proofs.Trials.{le-yes, le-no}
+use Rattle.hyd_lemmas.proofs.BooleanTests.{le-yes, le-no}
 use Rattle.hyd_tank.specs.Contents.{bounds_of, in_ticks}
 use Rattle.hyd_tank.proofs.Contents.{parts_of, end-most, end-least, end-between}
 use Rattle.hyd_tank.proofs.content.bound_at.Goals as goal

@@ -4,7 +4,7 @@ use Rattle.std.proofs.lemmas.Int.{ints, to_z-of_z}
 use Rattle.hyd_num.specs.Rational.{floor}
 use Rattle.hyd_tank.specs.Contents.{bounds_of, in_ticks}
 use Rattle.hyd_tank.proofs.Contents.{floor_between}
-use Rattle.hyd_tank.proofs.Ends.{floor_moved}
+use Rattle.hyd_tank.proofs.LevelAndVolumeEnds.{floor_moved}
 use Rattle.hyd_tank.proofs.content.lower_content.Goals as goal
 use Rattle.hyd_theorems_on_definitions.proofs.Vessels.{some-area}
 

@@ -4,7 +4,7 @@ use Rattle.std.proofs.lemmas.Int.{ints, to_z-of_z}
 use Rattle.hyd_num.specs.Rational.{ceiling}
 use Rattle.hyd_tank.specs.Contents.{bounds_of, in_ticks}
 use Rattle.hyd_tank.proofs.Contents.{ceiling_between}
-use Rattle.hyd_tank.proofs.Ends.{ceiling_moved}
+use Rattle.hyd_tank.proofs.LevelAndVolumeEnds.{ceiling_moved}
 use Rattle.hyd_tank.proofs.content.upper_content.Goals as goal
 use Rattle.hyd_theorems_on_definitions.proofs.Vessels.{some-area}
 

@@ -4,7 +4,7 @@ use Rattle.std.proofs.lemmas.Int.{ints, fits_signed_from_abs}
 use Rattle.hyd_spec.specs.Tank.{has_reached}
 use Rattle.hyd_spec_certificates.specs.FirstSeconds.{IsFirstSecond}
 use Rattle.hyd_tank.specs.StockIntervals.{cylinder, level_stock}
-use Rattle.hyd_tank.proofs.Reaching.{rises_first, falls_first, need_is, speed_is}
+use Rattle.hyd_tank.proofs.CylinderFirstSeconds.{rises_first, falls_first, need_is, speed_is}
 use Rattle.hyd_tank.proofs.cylinders.first_from.Goals as goal
 
 pub returns-then-rising : goal.returns-then-rising

@@ -2,10 +2,10 @@ use Rattle.std.proofs.Common.{ℤ, subst, w64}
 use Rattle.std.proofs.lemmas.Int.{to_z-of_z}
 use Rattle.hyd_spec_certificates.specs.Spans.{flows_of}
 use Rattle.hyd_spec_certificates.specs.FirstSeconds.{IsEarliestSecond, IsLatestSecond}
-use Rattle.hyd_theorems_on_definitions.proofs.Deciding.{seconds_hold, seconds_nest}
+use Rattle.hyd_theorems_on_definitions.proofs.DecidedByEnds.{seconds_hold, seconds_nest}
 use Rattle.hyd_tank.specs.StockIntervals.{cylinder, stocks_at, with_levels, level_stock}
-use Rattle.hyd_tank.proofs.Tanks.{cylinder_vessel}
-use Rattle.hyd_tank.proofs.Keeping.{level_lies, levels_inside, level_there, seconds_ordered}
+use Rattle.hyd_tank.proofs.TanksOfSoundNetworks.{cylinder_vessel}
+use Rattle.hyd_tank.proofs.OrderBoundsAndNesting.{level_lies, levels_inside, level_there, seconds_ordered}
 use Rattle.hyd_tank.proofs.cylinders.first_second.Goals as goal
 
 pub returns-clause-earliest : goal.returns-clause-earliest

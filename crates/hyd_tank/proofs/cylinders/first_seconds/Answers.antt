@@ -3,7 +3,7 @@ use Rattle.std.specs.Int.{w128}
 use Rattle.std.proofs.lemmas.Int.{to_z-of_z}
 use Rattle.hyd_spec_certificates.specs.Spans.{flows_of}
 use Rattle.hyd_tank.specs.StockIntervals.{cylinder, stocks_at}
-use Rattle.hyd_tank.proofs.Reaching.{earliest_up, latest_up, earliest_down, latest_down}
+use Rattle.hyd_tank.proofs.CylinderFirstSeconds.{earliest_up, latest_up, earliest_down, latest_down}
 use Rattle.hyd_tank.proofs.cylinders.first_seconds.Goals as goal
 
 pub returns-then-rising-clause-earliest : goal.returns-then-rising-clause-earliest

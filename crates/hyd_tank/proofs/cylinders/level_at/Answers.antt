@@ -4,10 +4,11 @@ use Rattle.hyd_spec_certificates.specs.Spans.{flows_of}
 use Rattle.hyd_spec_certificates.specs.Interval.{Interval}
 use Rattle.hyd_spec_certificates.specs.Stocks.{carried_levels}
 use Rattle.hyd_theorems_on_definitions.specs.TermsOfTheorems.{LiesAround, IsInside, IsWithin}
-use Rattle.hyd_theorems_on_definitions.proofs.Levelling.{carried_lies, carried_inside, carried_within, carried_ordered}
+use Rattle.hyd_theorems_on_definitions.proofs.StocksInIntervals.{carried_lies, carried_inside, carried_within}
+use Rattle.hyd_theorems_on_definitions.proofs.StocksInIntervals.{carried_ordered}
 use Rattle.hyd_tank.specs.StockIntervals.{cylinder, stocks_at, with_levels, level_stock}
-use Rattle.hyd_tank.proofs.Tanks.{cylinder_vessel}
-use Rattle.hyd_tank.proofs.Keeping.{level_lies, levels_inside, level_there}
+use Rattle.hyd_tank.proofs.TanksOfSoundNetworks.{cylinder_vessel}
+use Rattle.hyd_tank.proofs.OrderBoundsAndNesting.{level_lies, levels_inside, level_there}
 use Rattle.hyd_tank.proofs.cylinders.level_at.Goals as goal
 
 pub returns-clause-bounded : goal.returns-clause-bounded

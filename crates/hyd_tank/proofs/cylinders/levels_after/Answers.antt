@@ -3,7 +3,8 @@ use Rattle.std.specs.Int.{w128}
 use Rattle.std.proofs.lemmas.Int.{ints, to_z-of_z, fits_signed_from_abs}
 use Rattle.hyd_spec.specs.Tank.{level_bounds}
 use Rattle.hyd_tank.specs.Contents.{bounds_of}
-use Rattle.hyd_tank.proofs.Ends.{interval_is, held_plain, lower_plain, upper_plain, cylinder_lower, cylinder_upper}
+use Rattle.hyd_tank.proofs.LevelAndVolumeEnds.{interval_is, held_plain, lower_plain, upper_plain, cylinder_lower}
+use Rattle.hyd_tank.proofs.LevelAndVolumeEnds.{cylinder_upper}
 use Rattle.hyd_tank.proofs.cylinders.levels_after.Goals as goal
 
 pub returns : goal.returns

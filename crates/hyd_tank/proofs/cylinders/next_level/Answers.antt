@@ -4,10 +4,10 @@ use Rattle.hyd_spec_certificates.specs.Spans.{flows_of}
 use Rattle.hyd_spec_certificates.specs.Interval.{Interval}
 use Rattle.hyd_spec_certificates.specs.Stocks.{next_stocks}
 use Rattle.hyd_theorems_on_definitions.specs.TermsOfTheorems.{LiesIn, IsInside, IsWithin}
-use Rattle.hyd_theorems_on_definitions.proofs.Levelling.{next_lies, next_inside, next_within, next_has}
+use Rattle.hyd_theorems_on_definitions.proofs.StocksInIntervals.{next_lies, next_inside, next_within, next_has}
 use Rattle.hyd_tank.specs.StockIntervals.{cylinder, stocks_at, with_levels, level_stock}
-use Rattle.hyd_tank.proofs.Tanks.{cylinder_vessel}
-use Rattle.hyd_tank.proofs.Keeping.{level_lies, levels_inside, level_there}
+use Rattle.hyd_tank.proofs.TanksOfSoundNetworks.{cylinder_vessel}
+use Rattle.hyd_tank.proofs.OrderBoundsAndNesting.{level_lies, levels_inside, level_there}
 use Rattle.hyd_tank.proofs.cylinders.next_level.Goals as goal
 
 pub returns-clause-bounded : goal.returns-clause-bounded

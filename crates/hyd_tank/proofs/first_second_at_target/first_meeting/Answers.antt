@@ -1,8 +1,8 @@
 use Rattle.std.proofs.Common.{◌≡◌, pos, arith, to_z, of_z}
 use Rattle.std.specs.Int.{w128, int_min}
 use Rattle.std.proofs.lemmas.Int.{ints, clamps, to_z-of_z}
-use Rattle.hyd_lemmas.proofs.Trials.{le-no}
-use Rattle.hyd_tank.proofs.Meeting.{later}
+use Rattle.hyd_lemmas.proofs.BooleanTests.{le-no}
+use Rattle.hyd_tank.proofs.RateMeetsNeed.{later}
 use Rattle.hyd_tank.proofs.first_second_at_target.first_meeting.Goals as goal
 
 pub returns : goal.returns

@@ -5,7 +5,7 @@ use Rattle.hyd_spec.specs.Tank.{Walls, Curve}
 use Rattle.hyd_spec_certificates.specs.Spans.{flows_of}
 use Rattle.hyd_spec_certificates.specs.FirstSeconds.{IsEarliestSecond, IsLatestSecond}
 use Rattle.hyd_tank.specs.StockIntervals.{cylinder, stocks_at, stocks_of}
-use Rattle.hyd_tank.proofs.Tanks.{walls_without, walls_with, earliest_without, latest_without}
+use Rattle.hyd_tank.proofs.TanksOfSoundNetworks.{walls_without, walls_with, earliest_without, latest_without}
 use Rattle.hyd_tank.proofs.stocks.first_of.Goals as goal
 
 pub returns-in-None-clause-earliest : goal.returns-in-None-clause-earliest

@@ -4,11 +4,11 @@ use Rattle.hyd_spec.specs.ProgramTypes.{Tank}
 use Rattle.hyd_spec.specs.Tank.{walls_of}
 use Rattle.hyd_spec_certificates.specs.Spans.{flows_of}
 use Rattle.hyd_spec_certificates.specs.FirstSeconds.{IsEarliestSecond, IsLatestSecond}
-use Rattle.hyd_theorems_on_definitions.proofs.Deciding.{seconds_hold, seconds_nest}
+use Rattle.hyd_theorems_on_definitions.proofs.DecidedByEnds.{seconds_hold, seconds_nest}
 use Rattle.hyd_theorems_on_definitions.proofs.Vessels.{vessels}
 use Rattle.hyd_tank.specs.StockIntervals.{stocks_of}
-use Rattle.hyd_tank.proofs.Keeping.{seconds_ordered}
-use Rattle.hyd_tank.proofs.Tanks.{tank_of, of_each}
+use Rattle.hyd_tank.proofs.OrderBoundsAndNesting.{seconds_ordered}
+use Rattle.hyd_tank.proofs.TanksOfSoundNetworks.{tank_of, of_each}
 use Rattle.hyd_tank.proofs.stocks.first_stock.Goals as goal
 
 pub first_of-requires-clause-tank : goal.first_of-requires-clause-tank

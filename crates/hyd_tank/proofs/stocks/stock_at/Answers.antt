@@ -5,11 +5,11 @@ use Rattle.hyd_spec_certificates.specs.Spans.{flows_of}
 use Rattle.hyd_spec_certificates.specs.Interval.{Interval}
 use Rattle.hyd_spec_certificates.specs.Stocks.{Stocks, carried_stocks}
 use Rattle.hyd_theorems_on_definitions.specs.TermsOfTheorems.{LiesAround, AreInside, HasStock}
-use Rattle.hyd_theorems_on_definitions.proofs.Levelling.{carried_lies}
+use Rattle.hyd_theorems_on_definitions.proofs.StocksInIntervals.{carried_lies}
 use Rattle.hyd_theorems_on_definitions.proofs.Vessels.{vessels}
 use Rattle.hyd_tank.specs.StockIntervals.{stocks_of, AreHeld}
-use Rattle.hyd_tank.proofs.Keeping.{carried_held, carried_has, carried_stocks_inside}
-use Rattle.hyd_tank.proofs.Tanks.{tank_of, of_each, carried_is}
+use Rattle.hyd_tank.proofs.OrderBoundsAndNesting.{carried_held, carried_has, carried_stocks_inside}
+use Rattle.hyd_tank.proofs.TanksOfSoundNetworks.{tank_of, of_each, carried_is}
 use Rattle.hyd_tank.proofs.stocks.stock_at.Goals as goal
 
 pub carried_of-requires-clause-tank : goal.carried_of-requires-clause-tank

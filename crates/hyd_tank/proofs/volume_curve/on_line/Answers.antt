@@ -3,9 +3,10 @@ use Rattle.std.proofs.Common.{w64}
 use Rattle.std.specs.Int.{w128}
 use Rattle.std.proofs.lemmas.Int.{ints}
 use Rattle.hyd_tank.specs.declared.volume_curve.Mixed.{Mixed}
-use Rattle.hyd_tank.specs.Curve.{place_of, value_of, line_in, IsMixed, IsAtLeast, IsAtMost}
-use Rattle.hyd_tank.proofs.Values.{start_is, difference_small, place_small, same_mixed, line_is, line_small, line_from}
-use Rattle.hyd_tank.proofs.Values.{line_to}
+use Rattle.hyd_tank.specs.CurveByLevelOrVolume.{place_of, value_of, line_in, IsMixed, IsAtLeast, IsAtMost}
+use Rattle.hyd_tank.proofs.MixedNumbers.{start_is, difference_small, place_small, same_mixed, line_is, line_small}
+use Rattle.hyd_tank.proofs.MixedNumbers.{line_from}
+use Rattle.hyd_tank.proofs.MixedNumbers.{line_to}
 use Rattle.hyd_tank.proofs.volume_curve.on_line.Goals as goal
 
 pub overflow_sub-beyond : goal.overflow_sub-beyond

@@ -2,11 +2,12 @@ use Rattle.std.proofs.Common.{◌≡◌, ◌+◌, ◌-◌, ℤ, pos, ◌*ℤ◌,
 use Rattle.std.specs.Int.{w128}
 use Rattle.std.proofs.lemmas.Int.{ints, to_z-of_z}
 use Rattle.hyd_net.specs.Curves.{Knot}
-use Rattle.hyd_lemmas.proofs.Trials.{lt-no, lt-yes}
-use Rattle.hyd_tank.specs.Curve.{place_of, knot_by}
-use Rattle.hyd_tank.proofs.Values.{start_is}
-use Rattle.hyd_tank.proofs.Walking.{nothing, neighbours, neighbours_at, come_on, value_here, value_at_last, line_along}
-use Rattle.hyd_tank.proofs.Walking.{from_first, to_last}
+use Rattle.hyd_lemmas.proofs.BooleanTests.{lt-no, lt-yes}
+use Rattle.hyd_tank.specs.CurveByLevelOrVolume.{place_of, knot_by}
+use Rattle.hyd_tank.proofs.MixedNumbers.{start_is}
+use Rattle.hyd_tank.proofs.LineAtPlace.{nothing, neighbours, neighbours_at, come_on, value_here, value_at_last}
+use Rattle.hyd_tank.proofs.LineAtPlace.{line_along}
+use Rattle.hyd_tank.proofs.LineAtPlace.{from_first, to_last}
 use Rattle.hyd_tank.proofs.volume_curve.value_at.Goals as goal
 
 pub on_line-requires-clause-neighbours : goal.on_line-requires-clause-neighbours

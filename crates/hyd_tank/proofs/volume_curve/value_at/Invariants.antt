@@ -1,4 +1,4 @@
-use Rattle.hyd_tank.proofs.Walking.{HasCome}
+use Rattle.hyd_tank.proofs.LineAtPlace.{HasCome}
 use Rattle.hyd_tank.proofs.volume_curve.value_at.Given as goal
 
 abbrev pub invariant-loop-i : goal.invariant-loop-i

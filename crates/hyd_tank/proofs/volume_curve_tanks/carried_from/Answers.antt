@@ -4,7 +4,7 @@ use Rattle.std.proofs.lemmas.Int.{ints, to_z-of_z}
 use Rattle.hyd_spec.specs.Tank.{Curve}
 use Rattle.hyd_spec_certificates.specs.Stocks.{lower_end, upper_end, lower_level, upper_level}
 use Rattle.hyd_tank.specs.Contents.{bounds_of, in_ticks}
-use Rattle.hyd_tank.proofs.Ends.{volume_lower, volume_upper, level_lower, level_upper, stocks_are}
+use Rattle.hyd_tank.proofs.LevelAndVolumeEnds.{volume_lower, volume_upper, level_lower, level_upper, stocks_are}
 use Rattle.hyd_tank.proofs.volume_curve_tanks.carried_from.Goals as goal
 
 pub returns : goal.returns

@@ -7,8 +7,8 @@ use Rattle.hyd_spec_certificates.specs.FirstSeconds.{IsFirstSecond}
 use Rattle.hyd_spec_certificates.specs.Stocks.{least_stock, greatest_stock}
 use Rattle.hyd_tank.specs.StockIntervals.{stocks_of}
 use Rattle.hyd_tank.specs.Targets.{StandsFor, IsFirstMet}
-use Rattle.hyd_tank.proofs.Reaching.{earliest_up, latest_up, earliest_down, latest_down}
-use Rattle.hyd_tank.proofs.Aims.{first_stands}
+use Rattle.hyd_tank.proofs.CylinderFirstSeconds.{earliest_up, latest_up, earliest_down, latest_down}
+use Rattle.hyd_tank.proofs.TargetVolumes.{first_stands}
 use Rattle.hyd_tank.proofs.volume_curve_tanks.first_from.Goals as goal
 
 pub returns-then-rising-clause-earliest : goal.returns-then-rising-clause-earliest

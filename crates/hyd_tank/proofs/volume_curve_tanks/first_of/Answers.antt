@@ -3,8 +3,8 @@ use Rattle.std.specs.Int.{w128}
 use Rattle.std.proofs.lemmas.Int.{ints, to_z-of_z}
 use Rattle.hyd_tank.specs.declared.first_second_at_target.Target.{Target}
 use Rattle.hyd_tank.specs.Targets.{IsSmall, IsFirstMet}
-use Rattle.hyd_tank.proofs.Values.{start_is}
-use Rattle.hyd_tank.proofs.Aims.{rises_met, falls_met}
+use Rattle.hyd_tank.proofs.MixedNumbers.{start_is}
+use Rattle.hyd_tank.proofs.TargetVolumes.{rises_met, falls_met}
 use Rattle.hyd_tank.proofs.volume_curve_tanks.first_of.Goals as goal
 
 pub returns-in-Parts : goal.returns-in-Parts

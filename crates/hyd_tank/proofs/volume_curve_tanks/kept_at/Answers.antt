@@ -3,7 +3,7 @@ use Rattle.std.specs.Int.{w128}
 use Rattle.std.proofs.lemmas.Int.{ints, to_z-of_z}
 use Rattle.hyd_num.specs.Rational.{floor}
 use Rattle.hyd_net.specs.Curves.{value_at, volume_knots}
-use Rattle.hyd_tank.proofs.Basins.{one_value}
+use Rattle.hyd_tank.proofs.TanksWithVolumeCurve.{one_value}
 use Rattle.hyd_tank.proofs.volume_curve_tanks.kept_at.Goals as goal
 
 pub floor_of-requires-clause-small : goal.floor_of-requires-clause-small

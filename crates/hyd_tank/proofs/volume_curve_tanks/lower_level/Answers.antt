@@ -4,8 +4,8 @@ use Rattle.std.proofs.lemmas.Int.{ints, to_z-of_z}
 use Rattle.hyd_num.specs.Rational.{floor}
 use Rattle.hyd_spec.specs.Tank.{Curve, level_at}
 use Rattle.hyd_tank.specs.Contents.{bounds_of, in_ticks, IsBetween}
-use Rattle.hyd_tank.proofs.Ends.{floor_held}
-use Rattle.hyd_tank.proofs.Basins.{on_curve_volume, end_along, floor_level}
+use Rattle.hyd_tank.proofs.LevelAndVolumeEnds.{floor_held}
+use Rattle.hyd_tank.proofs.TanksWithVolumeCurve.{on_curve_volume, end_along, floor_level}
 use Rattle.hyd_tank.proofs.volume_curve_tanks.lower_level.Goals as goal
 
 pub returns-in-Some : goal.returns-in-Some

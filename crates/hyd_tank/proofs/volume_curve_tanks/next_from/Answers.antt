@@ -5,7 +5,7 @@ use Rattle.hyd_spec.specs.Scale.{missed_stock_ticks}
 use Rattle.hyd_spec.specs.Tank.{Curve}
 use Rattle.hyd_spec_certificates.specs.Stocks.{lower_end, upper_end, lower_level, upper_level}
 use Rattle.hyd_tank.specs.Contents.{bounds_of, in_ticks}
-use Rattle.hyd_tank.proofs.Ends.{volume_lower, volume_upper, stocks_are}
+use Rattle.hyd_tank.proofs.LevelAndVolumeEnds.{volume_lower, volume_upper, stocks_are}
 use Rattle.hyd_tank.proofs.volume_curve_tanks.next_from.Goals as goal
 
 pub returns : goal.returns

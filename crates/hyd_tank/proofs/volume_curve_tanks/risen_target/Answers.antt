@@ -1,10 +1,10 @@
 use Rattle.std.proofs.Common.{◌*ℤ◌, pos, ℤ, ap, ◌∙◌, arith, to_z, of_z, w64}
 use Rattle.std.specs.Int.{w128, int_min}
 use Rattle.std.proofs.lemmas.Int.{ints, clamps, to_z-of_z}
-use Rattle.hyd_lemmas.proofs.Trials.{le-yes, lt-no, lt-yes, le-no}
+use Rattle.hyd_lemmas.proofs.BooleanTests.{le-yes, lt-no, lt-yes, le-no}
 use Rattle.hyd_net.specs.Curves.{value_at, volume_at, volume_knots}
-use Rattle.hyd_tank.proofs.Values.{start_is}
-use Rattle.hyd_tank.proofs.Aims.{risen_always, risen_never, risen_parts, risen_code, most_parts}
+use Rattle.hyd_tank.proofs.MixedNumbers.{start_is}
+use Rattle.hyd_tank.proofs.TargetVolumes.{risen_always, risen_never, risen_parts, risen_code, most_parts}
 use Rattle.hyd_tank.proofs.volume_curve_tanks.risen_target.Goals as goal
 
 pub returns-then-level-tank-clause-meets : goal.returns-then-level-tank-clause-meets

@@ -1,7 +1,7 @@
 use Rattle.std.proofs.Common.{arith, to_z, of_z}
 use Rattle.std.specs.Int.{w128}
 use Rattle.std.proofs.lemmas.Int.{ints}
-use Rattle.hyd_tank.proofs.Basins.{on_curve_level, volume_is}
+use Rattle.hyd_tank.proofs.TanksWithVolumeCurve.{on_curve_level, volume_is}
 use Rattle.hyd_tank.proofs.volume_curve_tanks.volume_at.Goals as goal
 
 pub value_at-requires-clause-on_curve : goal.value_at-requires-clause-on_curve

@@ -2,8 +2,8 @@ use Rattle.std.proofs.Common.{◌≡◌, ◌∙◌, subst, arith, to_z, of_z, w6
 use Rattle.std.specs.Int.{w128}
 use Rattle.std.proofs.lemmas.Int.{ints}
 use Rattle.hyd_net.specs.Curves.{value_at, volume_knots}
-use Rattle.hyd_tank.specs.Curve.{value_of}
-use Rattle.hyd_tank.proofs.Basins.{volumes_are}
+use Rattle.hyd_tank.specs.CurveByLevelOrVolume.{value_of}
+use Rattle.hyd_tank.proofs.TanksWithVolumeCurve.{volumes_are}
 use Rattle.hyd_tank.proofs.volume_curve_tanks.volume_bounds.Goals as goal
 
 pub returns : goal.returns

@@ -10,8 +10,8 @@ use Rattle.hyd_spec_certificates.specs.Decided.{inflow_of_tank}
 use Rattle.hyd_cert.specs.RecordView.{row_of}
 use Rattle.hyd_period_network.specs.NetAsPeriodNetwork.{grid_of}
 use Rattle.hyd_tank.specs.StockIntervals.{IsInflow}
-use Rattle.hyd_tank_inflows.proofs.Numbered.{one_more, all_there}
-use Rattle.hyd_tank_inflows.proofs.Placing.{inflow_is, pinned_there}
+use Rattle.hyd_tank_inflows.proofs.ItemForEachNumber.{one_more, all_there}
+use Rattle.hyd_tank_inflows.proofs.InflowsByNumber.{inflow_is, pinned_there}
 use Rattle.hyd_tank_inflows.proofs.inflows.put_inflows.Goals as goal
 
 pub overflow_cast-tank : goal.overflow_cast-tank

@@ -2,7 +2,7 @@ use Rattle.std.proofs.Common.{ℕ, ◌<◌, pos, List, length, inl, inr, slice_i
 use Rattle.std.proofs.lemmas.Bool.{cases_eq}
 use Rattle.hyd_spec.specs.ProgramTypes.{Tank}
 use Rattle.hyd_spec_certificates.specs.declared.LevelSpan.{LevelSpan}
-use Rattle.hyd_period_network.specs.Periods.{IsSpanOf}
+use Rattle.hyd_period_network.specs.NetsSetToPeriods.{IsSpanOf}
 use Rattle.hyd_lemmas.proofs.ListsOptionsAndResults.{any_default}
 use Rattle.hyd_test_helpers.proofs.periods.are_levels.Goals as goal
 

@@ -1,7 +1,7 @@
 use Rattle.std.proofs.Common.{List, ◌++◌, sym, ap, ◌∙◌, subst, arith}
 use Rattle.std.proofs.lemmas.List.{append-nil, drop_all}
 use Rattle.hyd_law.specs.declared.law_kinds.Knot.{Knot}
-use Rattle.hyd_law.specs.Curves.{IsCurve}
+use Rattle.hyd_law.specs.KnotsOfStraightLines.{IsCurve}
 use Rattle.hyd_tests_on_laws_periods_and_tanks.proofs.law.listed.Goals as goal
 
 pub returns : goal.returns

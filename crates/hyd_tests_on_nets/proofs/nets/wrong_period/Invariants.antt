@@ -1,4 +1,4 @@
-use Rattle.hyd_period_network.specs.Periods.{IsNetOf}
+use Rattle.hyd_period_network.specs.NetsSetToPeriods.{IsNetOf}
 use Rattle.hyd_period_network.specs.LawsInSettings.{AreStates}
 use Rattle.hyd_tests_on_nets.proofs.nets.wrong_period.Given as goal
 

@@ -1,4 +1,4 @@
-use Rattle.hyd_theorems_on_definitions.proofs.Boxed.{heads_between, flow_lies, outflow_lies}
+use Rattle.hyd_theorems_on_definitions.proofs.FlowsInBoxes.{heads_between, flow_lies, outflow_lies}
 use Rattle.hyd_theorems_on_definitions.proofs.certificates.boxes.Goals as goal
 
 pub returns-clause-heads : goal.returns-clause-heads

@@ -1,4 +1,4 @@
-use Rattle.hyd_theorems_on_definitions.proofs.Pinning.{inflow_lies}
+use Rattle.hyd_theorems_on_definitions.proofs.PinnedTankInflows.{inflow_lies}
 use Rattle.hyd_theorems_on_definitions.proofs.certificates.inflows.Goals as goal
 
 pub returns : goal.returns

@@ -1,4 +1,4 @@
-use Rattle.hyd_theorems_on_definitions.proofs.Grids.{IsSoundGrid-made}
+use Rattle.hyd_theorems_on_definitions.proofs.LawsOfGrids.{IsSoundGrid-made}
 use Rattle.hyd_theorems_on_definitions.proofs.certificates.sound_grids.Goals as goal
 
 pub returns : goal.returns

@@ -1,4 +1,4 @@
-use Rattle.hyd_theorems_on_definitions.proofs.Deciding.{compare_tells, control_tells}
+use Rattle.hyd_theorems_on_definitions.proofs.DecidedByEnds.{compare_tells, control_tells}
 use Rattle.hyd_theorems_on_definitions.proofs.decisions.comparisons.Goals as goal
 
 pub returns-clause-values : goal.returns-clause-values

@@ -1,4 +1,4 @@
-use Rattle.hyd_theorems_on_definitions.proofs.Deciding.{reached_may, must_reached}
+use Rattle.hyd_theorems_on_definitions.proofs.DecidedByEnds.{reached_may, must_reached}
 use Rattle.hyd_theorems_on_definitions.proofs.decisions.events.Goals as goal
 
 pub returns-clause-may : goal.returns-clause-may

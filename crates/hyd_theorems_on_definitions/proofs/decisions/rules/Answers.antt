@@ -1,4 +1,4 @@
-use Rattle.hyd_theorems_on_definitions.proofs.Deciding.{rule_tells}
+use Rattle.hyd_theorems_on_definitions.proofs.DecidedByEnds.{rule_tells}
 use Rattle.hyd_theorems_on_definitions.proofs.decisions.rules.Goals as goal
 
 pub returns : goal.returns

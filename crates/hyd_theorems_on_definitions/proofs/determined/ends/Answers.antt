@@ -1,4 +1,4 @@
-use Rattle.hyd_theorems_on_definitions.proofs.OneAnswer.{one_end}
+use Rattle.hyd_theorems_on_definitions.proofs.OneEndOfPeriod.{one_end}
 use Rattle.hyd_theorems_on_definitions.proofs.determined.ends.Goals as goal
 
 pub returns : goal.returns

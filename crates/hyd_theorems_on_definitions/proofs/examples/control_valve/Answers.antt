@@ -1,4 +1,4 @@
-use Rattle.hyd_theorems_on_definitions.proofs.Worked.{capped_at_least, capped_at_most}
+use Rattle.hyd_theorems_on_definitions.proofs.WorkedExamples.{capped_at_least, capped_at_most}
 use Rattle.hyd_theorems_on_definitions.proofs.examples.control_valve.Goals as goal
 
 pub returns-clause-at_least : goal.returns-clause-at_least

@@ -1,4 +1,4 @@
-use Rattle.hyd_theorems_on_definitions.proofs.Worked.{pipe_at_most, pipe_at_least}
+use Rattle.hyd_theorems_on_definitions.proofs.WorkedExamples.{pipe_at_most, pipe_at_least}
 use Rattle.hyd_theorems_on_definitions.proofs.examples.pipe.Goals as goal
 
 pub returns-clause-at_most : goal.returns-clause-at_most

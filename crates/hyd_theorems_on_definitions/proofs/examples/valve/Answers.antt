@@ -1,4 +1,4 @@
-use Rattle.hyd_theorems_on_definitions.proofs.Worked.{valve_at_least, valve_at_most}
+use Rattle.hyd_theorems_on_definitions.proofs.WorkedExamples.{valve_at_least, valve_at_most}
 use Rattle.hyd_theorems_on_definitions.proofs.examples.valve.Goals as goal
 
 pub returns-clause-at_least : goal.returns-clause-at_least

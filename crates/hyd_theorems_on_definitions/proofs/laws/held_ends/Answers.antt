@@ -1,7 +1,7 @@
 use Rattle.hyd_theorems_on_definitions.proofs.laws.held_ends.Goals as goal
-use Rattle.hyd_theorems_on_definitions.proofs.HeldEnds.{reverse_low, reverse_high, forward_low, forward_high}
-use Rattle.hyd_theorems_on_definitions.proofs.HeldEnds.{reverse_at_least}
-use Rattle.hyd_theorems_on_definitions.proofs.HeldEnds.{reverse_at_most, forward_at_least, forward_at_most}
+use Rattle.hyd_theorems_on_definitions.proofs.OneWayHeldLaws.{reverse_low, reverse_high, forward_low, forward_high}
+use Rattle.hyd_theorems_on_definitions.proofs.OneWayHeldLaws.{reverse_at_least}
+use Rattle.hyd_theorems_on_definitions.proofs.OneWayHeldLaws.{reverse_at_most, forward_at_least, forward_at_most}
 
 pub returns-clause-reverse_low : goal.returns-clause-reverse_low
 returns-clause-reverse_low c = reverse_low

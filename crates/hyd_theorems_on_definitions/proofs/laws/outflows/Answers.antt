@@ -1,4 +1,4 @@
-use Rattle.hyd_theorems_on_definitions.proofs.Rising.{AreRising-demand, AreRising-emitter}
+use Rattle.hyd_theorems_on_definitions.proofs.OutflowsRise.{AreRising-demand, AreRising-emitter}
 use Rattle.hyd_theorems_on_definitions.proofs.laws.outflows.Goals as goal
 
 pub returns-clause-demands : goal.returns-clause-demands

@@ -1,4 +1,4 @@
-use Rattle.hyd_theorems_on_definitions.proofs.Appending.{history_more, history_front}
+use Rattle.hyd_theorems_on_definitions.proofs.OnePeriodMore.{history_more, history_front}
 use Rattle.hyd_theorems_on_definitions.proofs.runs.histories.Goals as goal
 
 pub returns-clause-longer : goal.returns-clause-longer

@@ -1,4 +1,4 @@
-use Rattle.hyd_theorems_on_definitions.proofs.Appending.{after_start, some_length}
+use Rattle.hyd_theorems_on_definitions.proofs.OnePeriodMore.{after_start, some_length}
 use Rattle.hyd_theorems_on_definitions.proofs.runs.lengths.Goals as goal
 
 pub returns-clause-clock : goal.returns-clause-clock

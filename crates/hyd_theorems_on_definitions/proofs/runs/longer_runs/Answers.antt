@@ -1,4 +1,4 @@
-use Rattle.hyd_theorems_on_definitions.proofs.Appending.{run_more, valid_more}
+use Rattle.hyd_theorems_on_definitions.proofs.OnePeriodMore.{run_more, valid_more}
 use Rattle.hyd_theorems_on_definitions.proofs.runs.longer_runs.Goals as goal
 
 pub returns-clause-runs : goal.returns-clause-runs

@@ -1,4 +1,5 @@
-use Rattle.hyd_theorems_on_definitions.proofs.Levelling.{carried_lies, carried_inside, carried_within, carried_ordered}
+use Rattle.hyd_theorems_on_definitions.proofs.StocksInIntervals.{carried_lies, carried_inside, carried_within}
+use Rattle.hyd_theorems_on_definitions.proofs.StocksInIntervals.{carried_ordered}
 use Rattle.hyd_theorems_on_definitions.proofs.tanks.carried.Goals as goal
 
 pub returns-clause-holds : goal.returns-clause-holds

@@ -1,4 +1,5 @@
-use Rattle.hyd_theorems_on_definitions.proofs.Levelling.{next_lies, next_inside, next_within, next_has, volumes_within}
+use Rattle.hyd_theorems_on_definitions.proofs.StocksInIntervals.{next_lies, next_inside, next_within, next_has}
+use Rattle.hyd_theorems_on_definitions.proofs.StocksInIntervals.{volumes_within}
 use Rattle.hyd_theorems_on_definitions.proofs.tanks.next_stock.Goals as goal
 
 pub returns-clause-holds : goal.returns-clause-holds

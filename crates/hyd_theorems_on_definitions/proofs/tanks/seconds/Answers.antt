@@ -1,4 +1,4 @@
-use Rattle.hyd_theorems_on_definitions.proofs.Deciding.{seconds_hold, seconds_nest}
+use Rattle.hyd_theorems_on_definitions.proofs.DecidedByEnds.{seconds_hold, seconds_nest}
 use Rattle.hyd_theorems_on_definitions.proofs.tanks.seconds.Goals as goal
 
 pub returns-clause-holds : goal.returns-clause-holds

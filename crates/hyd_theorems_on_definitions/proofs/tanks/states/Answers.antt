@@ -1,4 +1,4 @@
-use Rattle.hyd_theorems_on_definitions.proofs.Levelling.{state_holds, state_nests}
+use Rattle.hyd_theorems_on_definitions.proofs.StocksInIntervals.{state_holds, state_nests}
 use Rattle.hyd_theorems_on_definitions.proofs.tanks.states.Goals as goal
 
 pub returns-clause-holds : goal.returns-clause-holds

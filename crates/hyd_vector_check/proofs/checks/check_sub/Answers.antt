@@ -4,7 +4,7 @@ use Rattle.hyd_spec_certificates.specs.declared.Problem.{Problem}
 use Rattle.hyd_spec_certificates.specs.declared.Side.TheVariants.{Lower}
 use Rattle.hyd_spec_certificates.specs.Certificate.{IsCertificate}
 use Rattle.hyd_period_network.specs.NetAsPeriodNetwork.{grid_of}
-use Rattle.hyd_vector_check.proofs.Comparing.{below-all, below-pinned, below-upper}
+use Rattle.hyd_vector_check.proofs.CertificateComparisons.{below-all, below-pinned, below-upper}
 use Rattle.hyd_vector_check.proofs.checks.check_sub.Goals as goal
 
 pub returns-clause-below : goal.returns-clause-below

@@ -4,7 +4,7 @@ use Rattle.hyd_spec_certificates.specs.declared.Problem.{Problem}
 use Rattle.hyd_spec_certificates.specs.declared.Side.TheVariants.{Upper}
 use Rattle.hyd_spec_certificates.specs.Certificate.{IsCertificate}
 use Rattle.hyd_period_network.specs.NetAsPeriodNetwork.{grid_of}
-use Rattle.hyd_vector_check.proofs.Comparing.{above-all, above-pinned, above-lower}
+use Rattle.hyd_vector_check.proofs.CertificateComparisons.{above-all, above-pinned, above-lower}
 use Rattle.hyd_vector_check.proofs.checks.check_super.Goals as goal
 
 pub returns-clause-above : goal.returns-clause-above

@@ -6,8 +6,8 @@ use Rattle.hyd_spec.specs.Assignment.{head_at}
 use Rattle.hyd_spec_certificates.specs.PeriodNetwork.{all_heads}
 use Rattle.hyd_period_network.specs.NetAsPeriodNetwork.{grid_of}
 use Rattle.hyd_vector_check.specs.NetOutflowBySide.{flows_out, outflow}
-use Rattle.hyd_vector_check.proofs.Lookups.{own-head}
-use Rattle.hyd_vector_check.proofs.Draws.{net-is}
+use Rattle.hyd_vector_check.proofs.HeadsWithOneReplaced.{own-head}
+use Rattle.hyd_vector_check.proofs.OutflowsBySide.{net-is}
 use Rattle.hyd_vector_check.proofs.junction_test.net_outflow.Goals as goal
 
 pub flows_out-requires-clause-here : goal.flows_out-requires-clause-here

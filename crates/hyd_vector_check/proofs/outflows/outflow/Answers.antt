@@ -6,7 +6,7 @@ use Rattle.std.proofs.lemmas.Int.{ints}
 use Rattle.hyd_spec_certificates.specs.PeriodNetwork.{GridJunction}
 use Rattle.hyd_period_network.specs.Demands.{demand_of_law}
 use Rattle.hyd_period_network.specs.NetAsPeriodNetwork.{capacity_of}
-use Rattle.hyd_vector_check.proofs.Draws.{outflow-is}
+use Rattle.hyd_vector_check.proofs.OutflowsBySide.{outflow-is}
 use Rattle.hyd_vector_check.proofs.outflows.outflow.Goals as goal
 
 pub returns-clause-value : goal.returns-clause-value

@@ -1,5 +1,5 @@
 use Rattle.hyd_spec_certificates.specs.Decided.{tank_watches}
-use Rattle.hyd_watched_levels.proofs.Adding.{earliest_is, latest_is}
+use Rattle.hyd_watched_levels.proofs.WatchedLevelsSoFar.{earliest_is, latest_is}
 use Rattle.hyd_watched_levels.proofs.all_watched_levels.level_ends.Goals as goal
 
 pub returns-clause-earliest : goal.returns-clause-earliest

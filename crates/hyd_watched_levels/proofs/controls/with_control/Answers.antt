@@ -2,7 +2,7 @@ use Rattle.std.specs.Prelude.{Some, map}
 use Rattle.hyd_spec_certificates.specs.Spans.{levels_of}
 use Rattle.hyd_spec_certificates.specs.Decided.{watch_of}
 use Rattle.hyd_watched_levels.specs.Watched.{watch_for}
-use Rattle.hyd_watched_levels.proofs.Adding.{watched_so}
+use Rattle.hyd_watched_levels.proofs.WatchedLevelsSoFar.{watched_so}
 use Rattle.hyd_watched_levels.proofs.controls.with_control.Goals as goal
 
 pub returns-in-Some : goal.returns-in-Some

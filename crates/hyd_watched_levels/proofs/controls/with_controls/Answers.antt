@@ -1,7 +1,7 @@
 use Rattle.std.proofs.Common.{◌++◌, take}
 use Rattle.std.specs.Prelude.{map}
 use Rattle.hyd_spec_certificates.specs.Spans.{levels_of}
-use Rattle.hyd_watched_levels.proofs.Adding.{control_watches, no_more, control_further, all_controls}
+use Rattle.hyd_watched_levels.proofs.WatchedLevelsSoFar.{control_watches, no_more, control_further, all_controls}
 use Rattle.hyd_watched_levels.proofs.controls.with_controls.Goals as goal
 
 pub loop-control-init : goal.loop-control-init

@@ -3,7 +3,7 @@ use Rattle.std.specs.Prelude.{map}
 use Rattle.hyd_spec_certificates.specs.Spans.{levels_of}
 use Rattle.hyd_spec_certificates.specs.Decided.{Watch}
 use Rattle.hyd_watched_levels.specs.Watched.{AreEnds}
-use Rattle.hyd_watched_levels.proofs.Adding.{control_watches}
+use Rattle.hyd_watched_levels.proofs.WatchedLevelsSoFar.{control_watches}
 use Rattle.hyd_watched_levels.proofs.controls.with_controls.Given as goal
 
 abbrev pub invariant-loop-control : goal.invariant-loop-control

@@ -4,7 +4,7 @@ use Rattle.hyd_num.specs.declared.decimals.Span.{Span}
 use Rattle.hyd_spec_certificates.specs.Spans.{flows_of}
 use Rattle.hyd_spec_certificates.specs.Decided.{nowhere}
 use Rattle.hyd_tank.specs.StockIntervals.{IsInflow}
-use Rattle.hyd_watched_levels.proofs.Reaching.{mapped}
+use Rattle.hyd_watched_levels.proofs.FirstSecondsByFacts.{mapped}
 use Rattle.hyd_watched_levels.proofs.facts_of_tanks.inflow_at.Goals as goal
 
 pub returns-clause-value : goal.returns-clause-value

@@ -2,7 +2,7 @@ use Rattle.std.proofs.Common.{◌++◌, take, arith}
 use Rattle.hyd_spec_certificates.specs.Decided.{tank_watches}
 use Rattle.hyd_watched_levels.specs.Watched.{most_of}
 use Rattle.hyd_lemmas.proofs.ListsOptionsAndResults.{item_there}
-use Rattle.hyd_watched_levels.proofs.Adding.{tank_further}
+use Rattle.hyd_watched_levels.proofs.WatchedLevelsSoFar.{tank_further}
 use Rattle.hyd_watched_levels.proofs.tank_bounds.bound_ends.Goals as goal
 
 pub loop-tank-preserved : goal.loop-tank-preserved

@@ -5,8 +5,8 @@ use Rattle.hyd_net.specs.NetworkRanges.{IsTank}
 use Rattle.hyd_spec.specs.ProgramTypes.{Tank}
 use Rattle.hyd_watched_levels.specs.Watched.{AreEnds}
 use Rattle.hyd_lemmas.proofs.ListsOptionsAndResults.{item_is}
-use Rattle.hyd_watched_levels.proofs.Reaching.{each_is}
-use Rattle.hyd_watched_levels.proofs.Adding.{no_least, least_so}
+use Rattle.hyd_watched_levels.proofs.FirstSecondsByFacts.{each_is}
+use Rattle.hyd_watched_levels.proofs.WatchedLevelsSoFar.{no_least, least_so}
 use Rattle.hyd_watched_levels.proofs.tank_bounds.with_least.Goals as goal
 
 pub returns-then-is_empty : goal.returns-then-is_empty

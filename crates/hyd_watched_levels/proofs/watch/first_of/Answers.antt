@@ -8,7 +8,7 @@ use Rattle.hyd_spec_certificates.specs.FirstSeconds.{IsFirstSecond}
 use Rattle.hyd_tank.specs.StockIntervals.{stocks_of, AreHeld}
 use Rattle.hyd_watched_levels.specs.Watched.{watch_for}
 use Rattle.hyd_lemmas.proofs.ListsOptionsAndResults.{item_there}
-use Rattle.hyd_watched_levels.proofs.Reaching.{reached_first}
+use Rattle.hyd_watched_levels.proofs.FirstSecondsByFacts.{reached_first}
 use Rattle.hyd_watched_levels.proofs.watch.first_of.Goals as goal
 
 pub first_stock-earliest-requires-clause-held : goal.first_stock-earliest-requires-clause-held

@@ -1,6 +1,6 @@
 use Rattle.std.proofs.Common.{arith}
 use Rattle.hyd_watched_levels.specs.Watched.{watch_for}
-use Rattle.hyd_watched_levels.proofs.Adding.{one_more}
+use Rattle.hyd_watched_levels.proofs.WatchedLevelsSoFar.{one_more}
 use Rattle.hyd_watched_levels.proofs.watch.with_watch.Goals as goal
 
 pub returns : goal.returns

@@ -2,7 +2,7 @@ use Rattle.std.proofs.Common.{◌≡◌, ◌≤◌, ◌<◌, List, ℕ, length, 
 use Rattle.std.proofs.lemmas.List.{take_all}
 use Rattle.hyd_cert.specs.TextsWithoutLine.{HasNo, HasNoLine}
 use Rattle.hyd_io.specs.DeskBytes.{prepend_known}
-use Rattle.hyd_cert.proofs.Pieces.{line_there, line_free, full_none, end_none}
+use Rattle.hyd_cert.proofs.SplitTexts.{line_there, line_free, full_none, end_none}
 use Rattle.hyd_cert.proofs.line_reader.Source.line.Goals as goal
 
 pub returns-in-Some-clause-some : goal.returns-in-Some-clause-some

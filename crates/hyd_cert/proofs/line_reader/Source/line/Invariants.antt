@@ -1,6 +1,6 @@
 use Rattle.std.proofs.Common.{◌≡◌, ◌-◌, length}
 use Rattle.hyd_io.specs.DeskBytes.{prepend_known}
-use Rattle.hyd_io.specs.Keeping.{KeepsOutput}
+use Rattle.hyd_io.specs.LeftAsItWas.{KeepsOutput}
 use Rattle.hyd_cert.proofs.line_reader.Source.line.Given as goal
 
 -- what is still to come is the same, and the desk is else as it was

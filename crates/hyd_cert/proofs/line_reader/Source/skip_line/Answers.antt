@@ -1,6 +1,6 @@
 use Rattle.std.proofs.Common.{◌≡◌, ◌-◌, ◌+◌, length, ◌∙◌, ap, take, drop, arith}
 use Rattle.std.proofs.lemmas.List.{length-take}
-use Rattle.hyd_cert.proofs.Pieces.{skipped}
+use Rattle.hyd_cert.proofs.SplitTexts.{skipped}
 use Rattle.hyd_cert.proofs.line_reader.Source.skip_line.Goals as goal
 
 pub returns : goal.returns

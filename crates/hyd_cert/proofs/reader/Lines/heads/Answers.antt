@@ -7,7 +7,7 @@ use Rattle.hyd_spec_certificates.specs.Certificate.{IsInBox}
 use Rattle.hyd_cert.specs.Lines.{IsHeadLine}
 use Rattle.hyd_cert.specs.PlacesOfLines.{front_at, heads_in}
 use Rattle.hyd_cert.specs.Faults.{IsLineFault}
-use Rattle.hyd_io.proofs.KeepingLemmas.{output_kept_then}
+use Rattle.hyd_io.proofs.LeftAsItWasLemmas.{output_kept_then}
 use Rattle.hyd_cert.proofs.HeadLemmas.{stored, text_more, box_more, fault_more, fault_here}
 use Rattle.hyd_cert.proofs.reader.Lines.heads.Goals as goal
 

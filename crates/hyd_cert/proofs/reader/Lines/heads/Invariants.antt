@@ -1,6 +1,6 @@
 use Rattle.std.proofs.Common.{◌≡◌, ℕ, ◌+◌, All, take, length}
 use Rattle.hyd_io.specs.DeskBytes.{prepend_known}
-use Rattle.hyd_io.specs.Keeping.{KeepsOutput}
+use Rattle.hyd_io.specs.LeftAsItWas.{KeepsOutput}
 use Rattle.hyd_spec_certificates.specs.Certificate.{IsInBox}
 use Rattle.hyd_cert.specs.Lines.{Header}
 use Rattle.hyd_cert.specs.PlacesOfLines.{IsFault, place_after, heads_in, head_text}

@@ -5,8 +5,8 @@ use Rattle.hyd_spec_lines.specs.declared.line.Line.{Line}
 use Rattle.hyd_spec_lines.specs.declared.section.Section.TheVariants.{Junctions}
 use Rattle.hyd_spec_input.specs.Curves.{volume_points}
 use Rattle.hyd_spec_input.specs.Project.{shape_points}
-use Rattle.hyd_text_rows.specs.FirstWrongRow.{rows_at}
-use Rattle.hyd_text_rows.proofs.FoundLemmas.{row_at}
+use Rattle.hyd_rows_and_tables.specs.FirstWrongRow.{rows_at}
+use Rattle.hyd_rows_and_tables.proofs.FoundLemmas.{row_at}
 use Rattle.hyd_curves.specs.NamedVolumeCurves.{IsSmallVolume}
 use Rattle.hyd_curves.specs.Points.{points_in}
 use Rattle.hyd_curves.proofs.TankRowLemmas.{skip_row, none_row, named_row, named_small, tank_is_right}

@@ -1,5 +1,5 @@
 use Rattle.std.proofs.Common.{ap, Some, rules}
-use Rattle.hyd_io.proofs.ToldLemmas.{drop-split}
+use Rattle.hyd_io.proofs.MovedBytesLemmas.{drop-split}
 use Rattle.hyd_io.proofs.memory.MemDeskDesk.read.Goals as goal
 
 pub returns-clause-front : goal.returns-clause-front

@@ -1,5 +1,5 @@
 use Rattle.std.proofs.Common.{rules}
-use Rattle.hyd_io.proofs.ToldLemmas.{put_out_nothing}
+use Rattle.hyd_io.proofs.MovedBytesLemmas.{put_out_nothing}
 use Rattle.hyd_io.proofs.output.Pen.put.Goals as goal
 
 pub returns-in-Some : goal.returns-in-Some

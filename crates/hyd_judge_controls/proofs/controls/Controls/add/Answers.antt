@@ -3,8 +3,8 @@ use Rattle.hyd_spec_lines.specs.Lines.{Row, row_of}
 use Rattle.hyd_spec_lines.specs.declared.line.Line.{Line}
 use Rattle.hyd_spec_lines.specs.declared.section.Section.TheVariants.{Junctions, Controls}
 use Rattle.hyd_spec_input.specs.Tables.{is_of}
-use Rattle.hyd_text_rows.specs.FirstWrongRow.{rows_at}
-use Rattle.hyd_text_rows.proofs.FoundLemmas.{row_at}
+use Rattle.hyd_rows_and_tables.specs.FirstWrongRow.{rows_at}
+use Rattle.hyd_rows_and_tables.proofs.FoundLemmas.{row_at}
 use Rattle.hyd_judge_controls.proofs.ControlLemmas.{skip_row, add_row}
 use Rattle.hyd_judge_controls.proofs.controls.Controls.add.Goals as goal
 

@@ -5,11 +5,11 @@ use Rattle.hyd_spec_lines.specs.declared.section.Section.TheVariants.{Junctions}
 use Rattle.hyd_spec_input.specs.Columns.{word}
 use Rattle.hyd_spec_input.specs.RowsTogether.{has_rule, rules_in}
 use Rattle.std.specs.Prelude.{take}
-use Rattle.hyd_text_rows.specs.FirstWrongRow.{rows_at}
-use Rattle.hyd_text_rows.proofs.FoundLemmas.{row_at}
+use Rattle.hyd_rows_and_tables.specs.FirstWrongRow.{rows_at}
+use Rattle.hyd_rows_and_tables.proofs.FoundLemmas.{row_at}
 use Rattle.hyd_judge_controls.specs.Rules.{IsPart, acting_at}
 use Rattle.hyd_judge_controls.specs.declared.rule_parts.Part.{Part}
-use Rattle.hyd_judge_controls.proofs.RuleCounting.{new_is, counted_rule, counted_part, counted_other}
+use Rattle.hyd_judge_controls.proofs.CountedRulesAndParts.{new_is, counted_rule, counted_part, counted_other}
 use Rattle.hyd_judge_controls.proofs.rules.RuleCounts.add.Goals as goal
 
 nothing : Line

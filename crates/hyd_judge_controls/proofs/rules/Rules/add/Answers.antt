@@ -5,8 +5,8 @@ use Rattle.hyd_spec_lines.specs.declared.line.Line.{Line}
 use Rattle.hyd_spec_lines.specs.declared.section.Section.TheVariants.{Junctions, Rules}
 use Rattle.hyd_spec_input.specs.RuleRows.{is_acting, words_of_rule_line}
 use Rattle.hyd_spec_input.specs.Tables.{is_of}
-use Rattle.hyd_text_rows.specs.FirstWrongRow.{rows_at}
-use Rattle.hyd_text_rows.proofs.FoundLemmas.{row_at}
+use Rattle.hyd_rows_and_tables.specs.FirstWrongRow.{rows_at}
+use Rattle.hyd_rows_and_tables.proofs.FoundLemmas.{row_at}
 use Rattle.hyd_judge_controls.specs.Rules.{IsPart, acting_at}
 use Rattle.hyd_judge_controls.proofs.RuleLemmas.{line_is_right, rules_elsewhere, rules_further}
 use Rattle.hyd_judge_controls.proofs.rules.Rules.add.Goals as goal

@@ -4,8 +4,8 @@ use Rattle.hyd_spec_lines.specs.declared.section.Section.TheVariants.{Junctions,
 use Rattle.hyd_spec_input.specs.Columns.{first}
 use Rattle.hyd_spec_input.specs.Tables.{rows_of}
 use Rattle.hyd_spec_input.specs.RowsTogether.{passes}
-use Rattle.hyd_text_rows.specs.FirstWrongRow.{rows_at}
-use Rattle.hyd_text_rows.proofs.FoundLemmas.{row_at}
+use Rattle.hyd_rows_and_tables.specs.FirstWrongRow.{rows_at}
+use Rattle.hyd_rows_and_tables.proofs.FoundLemmas.{row_at}
 use Rattle.hyd_judge_nodes_curves_and_options.proofs.PatternLemmas.{skip_row, add_row}
 use Rattle.hyd_judge_nodes_curves_and_options.proofs.patterns.Counted.add.Goals as goal
 

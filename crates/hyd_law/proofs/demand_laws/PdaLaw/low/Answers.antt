@@ -3,7 +3,7 @@ use Rattle.std.specs.Int.{int_min}
 use Rattle.std.proofs.lemmas.Int.{ints, clamps}
 use Rattle.hyd_spec_certificates.specs.EnclosingFunctions.{quadratic_low}
 use Rattle.hyd_law.specs.DemandLaws.{pda_low}
-use Rattle.hyd_law.proofs.Stepping.{between_is, all_is, hi_not_negative}
+use Rattle.hyd_law.proofs.BetweenPressures.{between_is, all_is, hi_not_negative}
 use Rattle.hyd_law.proofs.demand_laws.PdaLaw.low.Goals as goal
 
 pub returns-clause-value : goal.returns-clause-value

@@ -1,8 +1,8 @@
 use Rattle.std.proofs.Common.{arith}
 use Rattle.hyd_spec_lines.specs.WordsOfLines.{text_lines}
 use Rattle.hyd_spec_lines.specs.declared.section.Region.TheVariants.{BeforeHeadings}
-use Rattle.hyd_lex.proofs.Few.{few_lines, few_items}
-use Rattle.hyd_lex.proofs.Sections.{walk_is}
+use Rattle.hyd_lex.proofs.CountsAtMostBytes.{few_lines, few_items}
+use Rattle.hyd_lex.proofs.WalkGivesRows.{walk_is}
 use Rattle.hyd_lex.proofs.lines.Lines.new.Goals as goal
 
 pub returns-clause-rest : goal.returns-clause-rest

@@ -2,7 +2,7 @@ use Rattle.std.proofs.Common.{◌≡◌, ◌+◌, [], drop, refl, sym, ap, ◌�
 use Rattle.std.proofs.lemmas.List.{length-drop, drop_all}
 use Rattle.hyd_spec_lines.specs.WordsOfLines.{text_lines}
 use Rattle.hyd_lex.specs.RemainingRows.{items}
-use Rattle.hyd_lex.proofs.Items.{at_nothing, at_item, nothing_after_end, row_is, stands_after, line_at_place}
+use Rattle.hyd_lex.proofs.RowsByLine.{at_nothing, at_item, nothing_after_end, row_is, stands_after, line_at_place}
 use Rattle.hyd_lex.proofs.lines.Lines.next.Goals as goal
 
 pub loop-self-init : goal.loop-self-init

@@ -1,5 +1,5 @@
 use Rattle.std.proofs.Common.{length, ◌-◌}
-use Rattle.hyd_lex.proofs.Items.{IsAt}
+use Rattle.hyd_lex.proofs.RowsByLine.{IsAt}
 use Rattle.hyd_lex.proofs.lines.Lines.next.Given as goal
 
 abbrev pub invariant-loop-self : goal.invariant-loop-self

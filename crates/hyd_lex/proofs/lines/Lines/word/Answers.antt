@@ -1,6 +1,6 @@
 use Rattle.std.proofs.Common.{◌≤◌, ◌-◌, ◌^◌, length, take, drop, arith}
 use Rattle.std.proofs.lemmas.List.{length-take, length-drop}
-use Rattle.hyd_lex.proofs.Few.{word_within}
+use Rattle.hyd_lex.proofs.CountsAtMostBytes.{word_within}
 use Rattle.hyd_lex.proofs.lines.Lines.word.Goals as goal
 
 pub returns-clause-few : goal.returns-clause-few

@@ -3,8 +3,8 @@ use Rattle.hyd_spec_certificates.specs.RecordAndStanding.{Record}
 use Rattle.hyd_cert.specs.RecordView.{row_of}
 use Rattle.hyd_period_network.specs.NetAsPeriodNetwork.{grid_of}
 use Rattle.hyd_period_end.specs.OpenMatters.{SharesVectors}
-use Rattle.hyd_period_end.proofs.Finishing.{closed-of, started-changed, started-shared}
-use Rattle.hyd_period_end.proofs.Finishing.{read-shared}
+use Rattle.hyd_period_end.proofs.EndedPeriods.{closed-of, started-changed, started-shared}
+use Rattle.hyd_period_end.proofs.EndedPeriods.{read-shared}
 use Rattle.hyd_period_end.proofs.period_end.PeriodEnd.finish.Goals as goal
 
 pub returns-in-Err-clause-open : goal.returns-in-Err-clause-open

@@ -1,7 +1,7 @@
 use Rattle.std.proofs.Common.{◌≡◌, length, Some, slice_get, refl, ap, subst, arith}
 use Rattle.std.proofs.lemmas.Option.{slice_get_read}
 use Rattle.hyd_period_network.specs.NetView.{NetView}
-use Rattle.hyd_period_network.proofs.Reading.{demand_at}
+use Rattle.hyd_period_network.proofs.NetItemsInGrid.{demand_at}
 use Rattle.hyd_period_network.proofs.net.Net.demand_law.Goals as goal
 
 pub returns-clause-grid : goal.returns-clause-grid

@@ -3,7 +3,7 @@ use Rattle.std.proofs.lemmas.Int.{ints}
 use Rattle.std.proofs.lemmas.Option.{slice_get_read}
 use Rattle.hyd_period_network.specs.NetView.{NetView}
 use Rattle.hyd_period_network.specs.NetInvariant.{IsSoundJunction}
-use Rattle.hyd_period_network.proofs.Reading.{all_at, elevation_at}
+use Rattle.hyd_period_network.proofs.NetItemsInGrid.{all_at, elevation_at}
 use Rattle.hyd_period_network.proofs.net.Net.elevation.Goals as goal
 
 pub returns-clause-value : goal.returns-clause-value

@@ -2,7 +2,7 @@ use Rattle.std.proofs.Common.{◌≡◌, length, Some, slice_get, refl, ap, subs
 use Rattle.std.specs.Option.{option_copied}
 use Rattle.std.proofs.lemmas.Option.{slice_get_read}
 use Rattle.hyd_period_network.specs.NetView.{NetView}
-use Rattle.hyd_period_network.proofs.Reading.{emitter_at}
+use Rattle.hyd_period_network.proofs.NetItemsInGrid.{emitter_at}
 use Rattle.hyd_period_network.proofs.net.Net.emitter_law.Goals as goal
 
 pub returns-clause-grid : goal.returns-clause-grid

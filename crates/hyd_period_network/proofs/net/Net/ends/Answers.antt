@@ -1,7 +1,7 @@
 use Rattle.std.proofs.Common.{◌≡◌, length, Some, slice_get, refl, ap, subst, arith}
 use Rattle.std.proofs.lemmas.Option.{slice_get_read}
 use Rattle.hyd_period_network.specs.NetView.{NetView}
-use Rattle.hyd_period_network.proofs.Reading.{ends_at}
+use Rattle.hyd_period_network.proofs.NetItemsInGrid.{ends_at}
 use Rattle.hyd_period_network.proofs.net.Net.ends.Goals as goal
 
 pub returns-clause-grid : goal.returns-clause-grid

@@ -4,8 +4,8 @@ use Rattle.std.proofs.lemmas.Option.{slice_get_read}
 use Rattle.hyd_spec_certificates.specs.PeriodNetwork.{tank_side}
 use Rattle.hyd_period_network.specs.NetView.{NetView}
 use Rattle.hyd_period_network.specs.NetInvariant.{AreHeads}
-use Rattle.hyd_period_network.proofs.Fixing.{fixed_tank, upper_end, lower_end}
-use Rattle.hyd_period_network.proofs.Reading.{all_at}
+use Rattle.hyd_period_network.proofs.HeadsOfReservoirsAndTanks.{fixed_tank, upper_end, lower_end}
+use Rattle.hyd_period_network.proofs.NetItemsInGrid.{all_at}
 use Rattle.hyd_period_network.proofs.net.Net.fixed.Goals as goal
 
 pub returns-then-is_upper-clause-value : goal.returns-then-is_upper-clause-value

@@ -2,8 +2,8 @@ use Rattle.std.proofs.Common.{◌≡◌, length, subst}
 use Rattle.hyd_theorems_on_definitions.specs.TermsOfTheorems.{IsSteady}
 use Rattle.hyd_period_network.specs.NetView.{NetView}
 use Rattle.hyd_period_network.specs.NetAsPeriodNetwork.{grid_of}
-use Rattle.hyd_period_network.proofs.Counts.{junctions_count}
-use Rattle.hyd_period_network.proofs.Steady.{steady}
+use Rattle.hyd_period_network.proofs.GridJunctionsAndLinks.{junctions_count}
+use Rattle.hyd_period_network.proofs.SoundLawsOfGrid.{steady}
 use Rattle.hyd_period_network.proofs.net.Net.junctions.Goals as goal
 
 pub returns-clause-each : goal.returns-clause-each

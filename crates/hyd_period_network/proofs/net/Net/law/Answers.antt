@@ -2,7 +2,7 @@ use Rattle.std.proofs.Common.{◌≡◌, length, Some, slice_get, refl, ap, subs
 use Rattle.std.proofs.lemmas.Option.{slice_get_read}
 use Rattle.hyd_period_network.specs.NetView.{NetView}
 use Rattle.hyd_period_network.specs.NetInvariant.{IsSoundNet}
-use Rattle.hyd_period_network.proofs.Reading.{law_at, law_stands}
+use Rattle.hyd_period_network.proofs.NetItemsInGrid.{law_at, law_stands}
 use Rattle.hyd_period_network.proofs.net.Net.law.Goals as goal
 
 at : (c : goal.After-index) → slice_get c.args.self.now.laws c.args.link ≡ Some c.index.result.now

@@ -1,7 +1,7 @@
 use Rattle.std.proofs.Common.{◌≡◌, length, subst}
 use Rattle.hyd_period_network.specs.NetView.{NetView}
 use Rattle.hyd_period_network.specs.NetAsPeriodNetwork.{grid_of}
-use Rattle.hyd_period_network.proofs.Counts.{links_count}
+use Rattle.hyd_period_network.proofs.GridJunctionsAndLinks.{links_count}
 use Rattle.hyd_period_network.proofs.net.Net.links.Goals as goal
 
 pub returns-clause-each : goal.returns-clause-each

@@ -5,7 +5,7 @@ use Rattle.hyd_period_network.specs.NetView.{NetView}
 use Rattle.hyd_period_network.specs.NetInvariant.{IsSoundNet}
 use Rattle.hyd_period_network.specs.LinkEnds.{ties_from}
 use Rattle.hyd_period_network.proofs.TieLemmas.{few}
-use Rattle.hyd_period_network.proofs.Reading.{row_at, margin_is}
+use Rattle.hyd_period_network.proofs.NetItemsInGrid.{row_at, margin_is}
 use Rattle.hyd_period_network.proofs.net.Net.margin.Goals as goal
 
 count_is : (c : goal.After-len) → c.len.result ≡ length (ties_from c.args.junction 0 c.self.inside.ends.items)

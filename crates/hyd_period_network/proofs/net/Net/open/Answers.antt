@@ -12,12 +12,12 @@ use Rattle.hyd_period_network.specs.NetView.{NetView}
 use Rattle.hyd_period_network.specs.Demands.{IsNetJunction, IsHeld}
 use Rattle.hyd_period_network.specs.LawsInSettings.{closed_setting}
 use Rattle.hyd_period_network.specs.NetInvariant.{AreHeads}
-use Rattle.hyd_period_network.specs.Periods.{ends_of, IsNetOf, IsFresh}
+use Rattle.hyd_period_network.specs.NetsSetToPeriods.{ends_of, IsNetOf, IsFresh}
 use Rattle.hyd_period_network.specs.LinkEnds.{AreRows}
 use Rattle.hyd_period_network.proofs.ClosedLaws.{closed_stand}
-use Rattle.hyd_period_network.proofs.Junctions.{nothing_held}
-use Rattle.hyd_period_network.proofs.Sounding.{sound_net}
-use Rattle.hyd_period_network.proofs.Writing.{all_copies, count_copies}
+use Rattle.hyd_period_network.proofs.DemandLawsInGrid.{nothing_held}
+use Rattle.hyd_period_network.proofs.NetOfSoundProject.{sound_net}
+use Rattle.hyd_period_network.proofs.ListsItemByItem.{all_copies, count_copies}
 use Rattle.hyd_period_network.proofs.net.Net.open.Goals as goal
 
 abbrev nothing : OutLaw

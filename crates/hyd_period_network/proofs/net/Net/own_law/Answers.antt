@@ -1,7 +1,7 @@
 use Rattle.std.proofs.Common.{length, refl, ap, arith}
 use Rattle.std.proofs.lemmas.Option.{slice_get_read}
 use Rattle.hyd_period_network.specs.NetView.{NetView}
-use Rattle.hyd_period_network.proofs.Reading.{own_at}
+use Rattle.hyd_period_network.proofs.NetItemsInGrid.{own_at}
 use Rattle.hyd_period_network.proofs.net.Net.own_law.Goals as goal
 
 pub returns-clause-stands : goal.returns-clause-stands

@@ -4,8 +4,8 @@ use Rattle.hyd_period_network.specs.NetView.{NetView}
 use Rattle.hyd_period_network.specs.NetInvariant.{IsSoundNet}
 use Rattle.hyd_period_network.specs.NetAsPeriodNetwork.{grid_of, node_count}
 use Rattle.hyd_period_network.specs.LinkEnds.{ties_from, ties_share, IsTie}
-use Rattle.hyd_period_network.proofs.Reading.{row_at}
-use Rattle.hyd_period_network.proofs.Summing.{sum_over_ties, count_of_ties}
+use Rattle.hyd_period_network.proofs.NetItemsInGrid.{row_at}
+use Rattle.hyd_period_network.proofs.SumsOverLinkEnds.{sum_over_ties, count_of_ties}
 use Rattle.hyd_period_network.proofs.TieLemmas.{few, are_ties}
 use Rattle.hyd_period_network.proofs.net.Net.row.Goals as goal
 

@@ -5,9 +5,9 @@ use Rattle.hyd_period_network.specs.Demands.{IsNetJunction}
 use Rattle.hyd_period_network.specs.LawsInSettings.{AreLaws}
 use Rattle.hyd_period_network.specs.NetInvariant.{IsSoundNet}
 use Rattle.hyd_period_network.specs.LinkEnds.{AreRowsOf}
-use Rattle.hyd_period_network.proofs.Gridding.{IsPut, grid_is, states_set, own_set, shut_set}
-use Rattle.hyd_period_network.proofs.Refilling.{refilled}
-use Rattle.hyd_period_network.proofs.Sounding.{sound_net}
+use Rattle.hyd_period_network.proofs.SetNetIsGrid.{IsPut, grid_is, states_set, own_set, shut_set}
+use Rattle.hyd_period_network.proofs.OverwrittenLists.{refilled}
+use Rattle.hyd_period_network.proofs.NetOfSoundProject.{sound_net}
 use Rattle.hyd_period_network.proofs.net.Net.set_period.Goals as goal
 
 pub set_links-requires-clause-stand : goal.set_links-requires-clause-stand

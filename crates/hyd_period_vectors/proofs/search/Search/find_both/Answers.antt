@@ -5,7 +5,7 @@ use Rattle.hyd_cert.specs.RecordView.{row_of}
 use Rattle.hyd_period_network.specs.NetAsPeriodNetwork.{grid_of}
 use Rattle.hyd_period_vectors.specs.Vectors.{Comes, EachBefore}
 use Rattle.hyd_lemmas.proofs.ListsOptionsAndResults.{on-ok}
-use Rattle.hyd_period_vectors.proofs.Coming.{next-turn, before-same}
+use Rattle.hyd_period_vectors.proofs.SearchGoesOn.{next-turn, before-same}
 use Rattle.hyd_period_vectors.proofs.search.Search.find_both.Goals as goal
 
 pub returns-clause-comes : goal.returns-clause-comes

@@ -1,5 +1,5 @@
 use Rattle.std.proofs.Common.{◌≡◌, ℕ, ap, subst, sym, ◌∙◌, List, ℤ, drop}
-use Rattle.hyd_period_network.proofs.Refilling.{refilled}
+use Rattle.hyd_period_network.proofs.OverwrittenLists.{refilled}
 use Rattle.std.specs.Prelude.{length}
 use Rattle.hyd_period_network.specs.NetAsPeriodNetwork.{grid_of}
 use Rattle.hyd_cert.specs.RecordView.{row_of, IsProblemOf}
@@ -8,8 +8,8 @@ use Rattle.hyd_spec_certificates.specs.PeriodNetwork.{opposite}
 use Rattle.hyd_spec_certificates.specs.RecordAndStanding.{vector_of}
 use Rattle.hyd_period_vectors.specs.OpenedSearch.{Room}
 use Rattle.hyd_period_vectors.specs.Vectors.{IsSought, Comes}
-use Rattle.hyd_period_vectors.proofs.Telling.{sought-certificate}
-use Rattle.hyd_period_vectors.proofs.Turning.{before-more}
+use Rattle.hyd_period_vectors.proofs.SoughtVectors.{sought-certificate}
+use Rattle.hyd_period_vectors.proofs.VectorsInTurn.{before-more}
 use Rattle.hyd_period_vectors.proofs.search.Search.find_vector.Goals as goal
 
 pub returns-clause-found : goal.returns-clause-found

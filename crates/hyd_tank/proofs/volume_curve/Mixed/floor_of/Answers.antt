@@ -1,7 +1,7 @@
 use Rattle.std.proofs.Common.{◌≡◌, ℕ, ◌/◌, ◌*◌, ℤ, pos, ◌*ℤ◌, ap, ◌∙◌, arith, to_z, of_z, w64}
 use Rattle.std.specs.Int.{w128}
 use Rattle.std.proofs.lemmas.Int.{ints}
-use Rattle.hyd_tank.proofs.Values.{floor_of_mixed, floor_fraction, times_whole}
+use Rattle.hyd_tank.proofs.MixedNumbers.{floor_of_mixed, floor_fraction, times_whole}
 use Rattle.hyd_tank.proofs.volume_curve.Mixed.floor_of.Goals as goal
 
 pub overflow_add-result : goal.overflow_add-result

@@ -1,5 +1,0 @@
-use Rattle.std.proofs.Common.{refl}
-use Rattle.hyd_cases_of_runs.proofs.town_ends.limit.Goals as goal
-
-pub returns : goal.returns
-returns c = refl

@@ -1,0 +1,18 @@
+use Rattle.std.proofs.Common.{ap}
+use Rattle.hyd_cases_of_runs.proofs.two_tank_town_ends.control_watched.Goals as goal
+use Rattle.hyd_cases_of_runs.proofs.TwoTankTownAsOneValue.{town_is}
+use Rattle.std.specs.Prelude.{map}
+use Rattle.hyd_spec_certificates.specs.Decided.{watch_of}
+use Rattle.hyd_cases_of_runs.specs.TwoTankTownPeriods.{standing_at_start, standing_at_two, standing_when_full}
+
+pub returns-clause-at_start : goal.returns-clause-at_start
+returns-clause-at_start c = λ project town. ap (λ project. map (watch_of standing_at_start.levels)
+    project.controls.list) (town_is town)
+
+pub returns-clause-at_two : goal.returns-clause-at_two
+returns-clause-at_two c = λ project town. ap (λ project. map (watch_of standing_at_two.levels) project.controls.list)
+    (town_is town)
+
+pub returns-clause-when_full : goal.returns-clause-when_full
+returns-clause-when_full c = λ project town. ap (λ project. map (watch_of standing_when_full.levels)
+    project.controls.list) (town_is town)

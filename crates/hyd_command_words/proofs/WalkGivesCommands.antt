@@ -1,0 +1,340 @@
+-- clap's walk over words gives the commands of what they say.
+use Rattle.std.proofs.Common.{◌≡◌, ◌⊎◌, ◌∙◌, ◌==◌, not, ◌&&◌, ◌||◌, Bool, true, false, cond, List, [], ◌∷◌, ◌++◌}
+use Rattle.std.proofs.Common.{length, Option, Some, None, IsUtf8, arith, refl, sym, ap, subst, inl, inr, codes}
+use Rattle.std.proofs.Common.{bytes_eq, option_map, option_and_then, ne_eqb, ◌^◌, pos}
+use Rattle.clap.specs.Kinds.{Kinds, or_else}
+use Rattle.clap.specs.Faults.{long_fault, settle_fault, step_fault}
+use Rattle.hyd_command_words.specs.ClapParser.{said_of}
+use Rattle.clap.specs.Walk.{Held, Row, Rule, Step, Text, Waiting, Walk, after_flag, after_step, arg_by_id, idle}
+use Rattle.clap.specs.Walk.{long_met, next, option, plain_word, positional, settled_rows}
+use Rattle.hyd_num.specs.Numeral.{is_numeral}
+use Rattle.hyd_command_words.specs.OptionsAndNames.{Word, Part, Kind, Said, sweeps, width, tight, name, wrong, says}
+use Rattle.hyd_command_words.specs.OptionsAndNames.{begins_with_dash}
+use Rattle.hyd_command_words.specs.OptionsAndNames.{kind_of, parts_from, parts_waiting, said, said_by}
+use Rattle.hyd_command_words.specs.CommandGrammar.{RunOrder, has_names_alone, is_sound, number_within, width_in_ticks}
+use Rattle.hyd_command_words.specs.CommandGrammar.{once, default_rounds, default_width}
+use Rattle.hyd_command_words.specs.CommandGrammar.{rounds_of}
+use Rattle.hyd_command_words.specs.CommandGrammar.{width_of, run, run_command, check_command, gen_command}
+use Rattle.hyd_command_words.proofs.SaidLemmas.{joined}
+use Rattle.hyd_command_words.proofs.MatchRowLemmas.{rules, used_by, sweeps_used, width_used, name_used, tight_used}
+use Rattle.hyd_command_words.proofs.SortsOfWords.{Lexed, closing, plain, short, long, IsPlain, IsLong, and_false}
+use Rattle.hyd_command_words.proofs.SortsOfWords.{kind_by}
+use Rattle.hyd_command_words.proofs.SortsOfWords.{lexed}
+use Rattle.hyd_command_words.proofs.SortsOfWords.{named_kind}
+use Rattle.hyd_command_words.proofs.WalkSteps.{shape, Pending, held, at, IsFree, IsWhole, IsFault, turn, step}
+use Rattle.hyd_command_words.proofs.WalkSteps.{name_held}
+use Rattle.hyd_command_words.proofs.WalkSteps.{name_step, name_fault, turn_from, step_from, plain_met, plain_fault}
+use Rattle.hyd_command_words.proofs.WalkSteps.{short_fails}
+use Rattle.hyd_command_words.proofs.WalkSteps.{long_fault_is, long_met_is, closing_turn, closing_step, first_faults}
+use Rattle.hyd_command_words.proofs.WalkEnds.{Comes, IsNeverOrder, IsNoOrder, ends_faulty, ends_whole, go_on, join_part}
+use Rattle.hyd_command_words.proofs.WalkEnds.{next_part, seen, trails, trails_faulty, wrong_here, wrong_word}
+
+-- ---- an option whose value is the next word
+
+pub data Valued : Type 0 where
+  of_sweeps : Valued
+  of_width : Valued
+
+abbrev pub id_of : Valued → Text
+id_of of_sweeps = codes "sweeps"
+id_of of_width = codes "width"
+
+abbrev pub make_of : Valued → Word → Part
+make_of of_sweeps value = sweeps value
+make_of of_width value = width value
+
+abbrev pub unvalued : Valued → Pending
+unvalued o = Some (id_of o, [])
+
+abbrev pub Free : List Word → Type 0
+Free words = (rows : List Row) (p : Pending) (waiting : Waiting) → IsFree waiting → IsWhole rows p
+    → Comes (at false rows p waiting) words (joined (seen rows p) (said words))
+
+abbrev pub Waits : List Word → Type 0
+Waits words = (o : Valued) (rows : List Row)
+    → Comes (at false rows (unvalued o) (option (id_of o))) words
+    (joined (said_of rows) (said_by (parts_waiting words (Some (make_of o)))))
+
+pub unvalued_faults : (o : Valued) (rows : List Row) → IsFault (settle_fault rules false (held rows (unvalued o)))
+unvalued_faults of_sweeps rows = tt
+unvalued_faults of_width rows = tt
+
+-- ---- an option by its name
+
+abbrev pub pick : (is_tight is_sweeps is_width : Bool) → Option Rule
+pick is_tight is_sweeps is_width = cond (is_tight || false) (arg_by_id rules (codes "tight"))
+    (cond (is_sweeps || false) (arg_by_id rules (codes "sweeps"))
+    (cond (is_width || false) (arg_by_id rules (codes "width")) None))
+
+module _ (rows : List Row) (p : Pending) (waiting : Waiting) (word : Word) where
+  abbrev met_by : Option Rule → Option Word → Held × Step
+  met_by o v = after_flag rules waiting word (long_met rules o v (held rows p)).0 (long_met rules o v (held rows p)).1
+
+  abbrev turn_by : Option Rule → Option Word → Kinds
+  turn_by o v = or_else (long_fault rules false o v (held rows p)) (step_fault shape 1 (met_by o v).0 (met_by o v).1)
+
+  abbrev step_by : Option Rule → Option Word → Walk
+  step_by o v = after_step rules word (at false rows p waiting) (met_by o v).0 (met_by o v).1
+
+  long_turn : (k : IsLong word) → turn (at false rows p waiting) word
+      ≡ turn_by (pick (bytes_eq (codes "tight") k.0) (bytes_eq (codes "sweeps") k.0) (bytes_eq (codes "width") k.0)) k.1
+  long_turn k = λ i. or_else (long_fault_is rows p waiting word k i)
+      (step_fault shape 1 (long_met_is rows p waiting word k i).0 (long_met_is rows p waiting word k i).1)
+
+  long_step : (k : IsLong word) → step (at false rows p waiting) word
+      ≡ step_by (pick (bytes_eq (codes "tight") k.0) (bytes_eq (codes "sweeps") k.0) (bytes_eq (codes "width") k.0)) k.1
+  long_step k = step_from rows p waiting word _ _ (long_met_is rows p waiting word k)
+
+  -- where no option waits
+  free_long : (a b c : Bool) (v : Option Word) (rest : List Word) → IsWhole rows p → Free rest → Waits rest
+      → turn (at false rows p waiting) word ≡ turn_by (pick a b c) v
+      → step (at false rows p waiting) word ≡ step_by (pick a b c) v
+      → Comes (at false rows p waiting) (word ∷ rest)
+      (joined (seen rows p) (said_by (parts_from (kind_by a b c v) rest (parts_waiting rest))))
+  free_long true b c None rest whole f q t s =
+      go_on _ (at false (used_by (codes "tight") [] (settled_rows rules p rows)) None idle) word rest
+      (joined (seen rows p) (said_by (tight ∷ parts_waiting rest None)))
+      (t ∙ (λ i. or_else (or_else (whole i) []) [])) s
+      (next_part _ rest (seen rows p) _ tight (parts_waiting rest None) (tight_used (settled_rows rules p rows))
+      (f (used_by (codes "tight") [] (settled_rows rules p rows)) None idle (λ w h. refl) refl))
+  free_long true b c (Some v) rest whole f q t s =
+      wrong_here _ word rest (seen rows p) (parts_waiting rest None) (subst IsFault (sym t) tt) refl
+  free_long false true c None rest whole f q t s =
+      go_on _ (at false (settled_rows rules p rows) (unvalued of_sweeps) (option (codes "sweeps"))) word rest
+      (joined (seen rows p) (said_by (parts_waiting rest (Some (make_of of_sweeps)))))
+      (t ∙ (λ i. or_else (whole i) [])) s (q of_sweeps (settled_rows rules p rows))
+  free_long false true c (Some v) rest whole f q t s =
+      go_on _ (at false (used_by (codes "sweeps") (v ∷ []) (settled_rows rules p rows)) None idle) word rest
+      (joined (seen rows p) (said_by (sweeps v ∷ parts_waiting rest None)))
+      (t ∙ (λ i. or_else (or_else (whole i) []) [])) s
+      (next_part _ rest (seen rows p) _ (sweeps v) (parts_waiting rest None) (sweeps_used v (settled_rows rules p rows))
+      (f (used_by (codes "sweeps") (v ∷ []) (settled_rows rules p rows)) None idle (λ w h. refl) refl))
+  free_long false false true None rest whole f q t s =
+      go_on _ (at false (settled_rows rules p rows) (unvalued of_width) (option (codes "width"))) word rest
+      (joined (seen rows p) (said_by (parts_waiting rest (Some (make_of of_width)))))
+      (t ∙ (λ i. or_else (whole i) [])) s (q of_width (settled_rows rules p rows))
+  free_long false false true (Some v) rest whole f q t s =
+      go_on _ (at false (used_by (codes "width") (v ∷ []) (settled_rows rules p rows)) None idle) word rest
+      (joined (seen rows p) (said_by (width v ∷ parts_waiting rest None)))
+      (t ∙ (λ i. or_else (or_else (whole i) []) [])) s
+      (next_part _ rest (seen rows p) _ (width v) (parts_waiting rest None) (width_used v (settled_rows rules p rows))
+      (f (used_by (codes "width") (v ∷ []) (settled_rows rules p rows)) None idle (λ w h. refl) refl))
+  free_long false false false None rest whole f q t s =
+      wrong_here _ word rest (seen rows p) (parts_waiting rest None) (subst IsFault (sym t) tt) refl
+  free_long false false false (Some v) rest whole f q t s =
+      wrong_here _ word rest (seen rows p) (parts_waiting rest None) (subst IsFault (sym t) tt) refl
+
+-- where an option waits
+pub waits_long : (a b c : Bool) (v : Option Word) (o : Valued) (rows : List Row)
+    → IsFault (long_fault rules false (pick a b c) v (held rows (unvalued o)))
+waits_long true b c None o rows = first_faults _ _ (unvalued_faults o rows)
+waits_long true b c (Some v) o rows = tt
+waits_long false true c None o rows = unvalued_faults o rows
+waits_long false true c (Some v) o rows = first_faults _ _ (unvalued_faults o rows)
+waits_long false false true None o rows = unvalued_faults o rows
+waits_long false false true (Some v) o rows = first_faults _ _ (unvalued_faults o rows)
+waits_long false false false v o rows = tt
+
+-- ---- `-` as a value, which is no number
+
+abbrev pub dash : Word
+dash = codes "-"
+
+pub dash_no_rounds : number_within 6 0 100000 dash ≡ None
+dash_no_rounds = refl
+
+pub dash_no_width : width_in_ticks dash ≡ None
+unfolding is_numeral
+dash_no_width = refl
+
+pub once_never : {X : Type 0} (default : X) (read : Word → Option X) (v : Word) (xs ys : List Word) → read v ≡ None
+    → once default read ((xs ++ v ∷ []) ++ ys) ≡ None
+once_never default read v [] [] e = e
+once_never default read v [] (y ∷ ys) e = refl
+once_never default read v (x ∷ []) ys e = refl
+once_never default read v (x ∷ z ∷ zs) ys e = refl
+
+pub stands : (xs ys : List Word) (v : Word) → (length ((xs ++ v ∷ []) ++ ys) == 0) ≡ false
+stands [] ys v = ne_eqb _ _ (λ e. omega (arith, e))
+stands (x ∷ xs) ys v = ne_eqb _ _ (λ e. omega (arith, e))
+
+pub no_run : {X : Type 0} (b : Bool) (o : Option X) (f : X → Option RunOrder) → o ≡ None
+    → option_map run (cond b (option_and_then f o) None) ≡ None
+no_run {X = X} true o f e = ap (λ (p : Option X). option_map run (option_and_then f p)) e
+no_run false o f e = refl
+
+pub no_run_within : {X Y : Type 0} (b : Bool) (o : Option Y) (x : Option X) (f : Y → X → Option RunOrder) → x ≡ None
+    → option_map run (cond b (option_and_then (λ y. option_and_then (f y) x) o) None) ≡ None
+no_run_within false o x f e = refl
+no_run_within true None x f e = refl
+no_run_within {X = X} true (Some y) x f e = ap (λ (p : Option X). option_map run (option_and_then (f y) p)) e
+
+pub no_order_by : (s : Said) → run_command s ≡ None → has_names_alone s ≡ false → IsNoOrder s
+no_order_by s e h word = go (bytes_eq word (codes "run")) (bytes_eq word (codes "check")) (bytes_eq word (codes "gen"))
+  where
+    go : (a b c : Bool) → cond a (run_command s) (cond b (check_command s) (cond c (gen_command s) None)) ≡ None
+    go true b c = e
+    go false true c = rw h refl
+    go false false true = rw h refl
+    go false false false = refl
+
+pub dash_never : (o : Valued) (s : Said) → IsNeverOrder (joined s (said_by (make_of o dash ∷ [])))
+dash_never of_sweeps s more =
+    let all = joined (joined s (said_by (sweeps dash ∷ []))) more in
+    let none : rounds_of all.sweeps_values ≡ None =
+    once_never default_rounds (number_within 6 0 100000) dash s.sweeps_values more.sweeps_values dash_no_rounds in
+    no_order_by all (no_run (is_sound all) (rounds_of all.sweeps_values) _ none)
+    (and_false (not all.has_wrong) _ (and_false (all.tight_count == 0) _
+    (ap (λ (b : Bool). b && (length all.width_values == 0)) (stands s.sweeps_values more.sweeps_values dash))))
+dash_never of_width s more =
+    let all = joined (joined s (said_by (width dash ∷ []))) more in
+    let none : width_of all.width_values ≡ None =
+    once_never default_width width_in_ticks dash s.width_values more.width_values dash_no_width in
+    no_order_by all (no_run_within (is_sound all) (rounds_of all.sweeps_values) (width_of all.width_values) _ none)
+    (and_false (not all.has_wrong) _ (and_false (all.tight_count == 0) _
+    (and_false (length all.sweeps_values == 0) _ (stands s.width_values more.width_values dash))))
+
+pub same_orders : (w : Walk) (words : List Word) (a b : Said) → IsNoOrder a → IsNoOrder b → Comes w words a
+    → Comes w words b
+same_orders w words a b no_a no_b h named = h named ∙ no_a named ∙ sym (no_b named)
+
+-- ---- one word more
+
+pub by_kind : (w : Walk) (word : Word) (rest : List Word) (s : Said) (k : Kind) → kind_of word ≡ k
+    → Comes w (word ∷ rest) (joined s (said_by (parts_from k rest (parts_waiting rest))))
+    → Comes w (word ∷ rest) (joined s (said (word ∷ rest)))
+by_kind w word rest s k e h =
+    subst (λ (j : Kind). Comes w (word ∷ rest) (joined s (said_by (parts_from j rest (parts_waiting rest))))) (sym e) h
+
+module _ (rest : List Word) (f : Free rest) (q : Waits rest) where
+  free_closing : (rows : List Row) (p : Pending) (waiting : Waiting) → IsWhole rows p
+      → Comes (at false rows p waiting) (codes "--" ∷ rest) (joined (seen rows p) (said (codes "--" ∷ rest)))
+  unfolding kind_of
+  free_closing rows p waiting whole =
+      go_on (at false rows p waiting) (at true rows p waiting) (codes "--") rest
+      (joined (seen rows p) (said (codes "--" ∷ rest))) (closing_turn rows p waiting) (closing_step rows p waiting)
+      (trails rest rows p waiting whole)
+
+  free_step : (word : Word) → Lexed word → (rows : List Row) (p : Pending) (waiting : Waiting) → IsFree waiting
+      → IsWhole rows p → Comes (at false rows p waiting) (word ∷ rest) (joined (seen rows p) (said (word ∷ rest)))
+  free_step word (closing e) rows p waiting free whole =
+      subst (λ (w : Word). Comes (at false rows p waiting) (w ∷ rest) (joined (seen rows p) (said (w ∷ rest)))) (sym e)
+      (free_closing rows p waiting whole)
+  free_step word (plain k) rows p waiting free whole =
+      let met = plain_met rows p waiting word k ∙ free word (held rows p) in
+      by_kind (at false rows p waiting) word rest (seen rows p) (says (name word)) k.3
+      (go_on (at false rows p waiting) (at false (settled_rows rules p rows) (name_held word) positional) word rest
+      (joined (seen rows p) (said_by (name word ∷ parts_waiting rest None)))
+      (turn_from rows p waiting word _ _ (plain_fault rows p waiting word k) met ∙ name_fault rows p ∙ whole)
+      (step_from rows p waiting word _ _ met ∙ name_step false rows p waiting word)
+      (next_part _ rest (seen rows p) (seen (settled_rows rules p rows) (name_held word)) (name word)
+      (parts_waiting rest None) (name_used word (settled_rows rules p rows))
+      (f (settled_rows rules p rows) (name_held word) positional (λ w h. refl) refl)))
+  free_step word (short k) rows p waiting free whole =
+      by_kind (at false rows p waiting) word rest (seen rows p) (says wrong) k.3.4
+      (wrong_here (at false rows p waiting) word rest (seen rows p) (parts_waiting rest None)
+      (short_fails rows p waiting word k) refl)
+  free_step word (long k) rows p waiting free whole =
+      by_kind (at false rows p waiting) word rest (seen rows p) (named_kind k.0 k.1) k.2.2
+      (free_long rows p waiting word (bytes_eq (codes "tight") k.0) (bytes_eq (codes "sweeps") k.0)
+      (bytes_eq (codes "width") k.0) k.1 rest whole f q (long_turn rows p waiting word k)
+      (long_step rows p waiting word k))
+
+  -- the word is the value that an option waits for
+  valued_met : (o : Valued) (rows : List Row) (word : Word)
+      → plain_word rules (option (id_of o)) word (held rows (unvalued o))
+      ≡ (held rows (Some (id_of o, word ∷ [])), next idle)
+  valued_met of_sweeps rows word = refl
+  valued_met of_width rows word = refl
+
+  valued_whole : (o : Valued) (rows : List Row) (word : Word) → IsWhole rows (Some (id_of o, word ∷ []))
+  valued_whole of_sweeps rows word = refl
+  valued_whole of_width rows word = refl
+
+  valued_used : (o : Valued) (rows : List Row) (word : Word)
+      → seen rows (Some (id_of o, word ∷ [])) ≡ joined (said_of rows) (said_by (make_of o word ∷ []))
+  valued_used of_sweeps rows word = sweeps_used word rows
+  valued_used of_width rows word = width_used word rows
+
+  valued_on : (o : Valued) (rows : List Row) (word : Word) → IsPlain word
+      → Comes (at false rows (unvalued o) (option (id_of o))) (word ∷ rest)
+      (joined (said_of rows) (said_by (make_of o word ∷ parts_waiting rest None)))
+  valued_on o rows word k =
+      let met = plain_met rows (unvalued o) (option (id_of o)) word k ∙ valued_met o rows word in
+      go_on (at false rows (unvalued o) (option (id_of o))) (at false rows (Some (id_of o, word ∷ [])) idle) word rest
+      (joined (said_of rows) (said_by (make_of o word ∷ parts_waiting rest None)))
+      (turn_from rows (unvalued o) (option (id_of o)) word _ _
+      (plain_fault rows (unvalued o) (option (id_of o)) word k) met)
+      (step_from rows (unvalued o) (option (id_of o)) word _ _ met)
+      (next_part _ rest (said_of rows) (seen rows (Some (id_of o, word ∷ []))) (make_of o word)
+      (parts_waiting rest None) (valued_used o rows word)
+      (f rows (Some (id_of o, word ∷ [])) idle (λ w h. refl) (valued_whole o rows word)))
+
+  -- the value begins with `-`
+  waits_wrong : (o : Valued) (rows : List Row) (word : Word) → begins_with_dash word ≡ true
+      → Comes (at false rows (unvalued o) (option (id_of o))) (word ∷ rest)
+      (joined (said_of rows) (said_by (wrong ∷ parts_waiting rest None)))
+      → Comes (at false rows (unvalued o) (option (id_of o))) (word ∷ rest)
+      (joined (said_of rows) (said_by (parts_waiting (word ∷ rest) (Some (make_of o)))))
+  waits_wrong o rows word e h = subst (λ (b : Bool). Comes (at false rows (unvalued o) (option (id_of o))) (word ∷ rest)
+      (joined (said_of rows) (said_by (cond b wrong (make_of o word) ∷ parts_waiting rest None)))) (sym e) h
+
+  waits_plain : (o : Valued) (rows : List Row) (word : Word) → IsPlain word
+      → ((begins_with_dash word ≡ false) ⊎ (word ≡ codes "-"))
+      → Comes (at false rows (unvalued o) (option (id_of o))) (word ∷ rest)
+      (joined (said_of rows) (said_by (parts_waiting (word ∷ rest) (Some (make_of o)))))
+  waits_plain o rows word k (inl e) = subst (λ (b : Bool).
+      Comes (at false rows (unvalued o) (option (id_of o))) (word ∷ rest)
+      (joined (said_of rows) (said_by (cond b wrong (make_of o word) ∷ parts_waiting rest None)))) (sym e)
+      (valued_on o rows word k)
+  waits_plain o rows word k (inr e) =
+      let never : IsNoOrder (joined (said_of rows) (said_by (make_of o word ∷ parts_waiting rest None))) =
+      subst (λ (w : Word). IsNoOrder (joined (said_of rows) (said_by (make_of o w ∷ parts_waiting rest None)))) (sym e)
+      (subst IsNoOrder (join_part (said_of rows) (make_of o dash) (parts_waiting rest None))
+      (dash_never o (said_of rows) (said_by (parts_waiting rest None)))) in
+      waits_wrong o rows word (ap begins_with_dash e)
+      (same_orders (at false rows (unvalued o) (option (id_of o))) (word ∷ rest)
+      (joined (said_of rows) (said_by (make_of o word ∷ parts_waiting rest None)))
+      (joined (said_of rows) (said_by (wrong ∷ parts_waiting rest None))) never
+      (wrong_word (said_of rows) (parts_waiting rest None) refl) (valued_on o rows word k))
+
+  waits_step : (word : Word) → Lexed word → (o : Valued) (rows : List Row)
+      → Comes (at false rows (unvalued o) (option (id_of o))) (word ∷ rest)
+      (joined (said_of rows) (said_by (parts_waiting (word ∷ rest) (Some (make_of o)))))
+  waits_step word (closing e) o rows =
+      waits_wrong o rows word (ap begins_with_dash e)
+      (subst (λ (w : Word). Comes (at false rows (unvalued o) (option (id_of o))) (w ∷ rest)
+      (joined (said_of rows) (said_by (wrong ∷ parts_waiting rest None)))) (sym e)
+      (go_on (at false rows (unvalued o) (option (id_of o))) (at true rows (unvalued o) (option (id_of o)))
+      (codes "--") rest
+      (joined (said_of rows) (said_by (wrong ∷ parts_waiting rest None)))
+      (closing_turn rows (unvalued o) (option (id_of o))) (closing_step rows (unvalued o) (option (id_of o)))
+      (trails_faulty rest rows (unvalued o) (option (id_of o))
+      (joined (said_of rows) (said_by (wrong ∷ parts_waiting rest None)))
+      (unvalued_faults o rows) (wrong_word (said_of rows) (parts_waiting rest None) refl))))
+  waits_step word (plain k) o rows = waits_plain o rows word k k.4
+  waits_step word (short k) o rows = waits_wrong o rows word k.3.5
+      (wrong_here (at false rows (unvalued o) (option (id_of o))) word rest (said_of rows) (parts_waiting rest None)
+      (short_fails rows (unvalued o) (option (id_of o)) word k) refl)
+  waits_step word (long k) o rows = waits_wrong o rows word k.2.3
+      (wrong_here (at false rows (unvalued o) (option (id_of o))) word rest (said_of rows) (parts_waiting rest None)
+      (subst IsFault (sym (long_turn rows (unvalued o) (option (id_of o)) word k)) (first_faults _ _
+      (waits_long (bytes_eq (codes "tight") k.0) (bytes_eq (codes "sweeps") k.0) (bytes_eq (codes "width") k.0) k.1 o
+      rows))) refl)
+
+-- ---- all the words
+
+abbrev pub AreTexts : List Word → Type 0
+AreTexts [] = Unit {0}
+AreTexts (word ∷ rest) = IsUtf8 word × AreTexts rest
+
+pub simulated : (words : List Word) → AreTexts words → Free words × Waits words
+simulated [] u = (
+  λ rows p waiting free whole. ends_whole false rows p waiting whole,
+  λ o rows. ends_faulty false rows (unvalued o) (option (id_of o)) (joined (said_of rows) (said_by (wrong ∷ [])))
+      (unvalued_faults o rows) (wrong_word (said_of rows) [] refl),
+)
+simulated (word ∷ rest) u =
+    let later = simulated rest u.1 in
+    let is = lexed word u.0 in
+    (free_step rest later.0 later.1 word is, waits_step rest later.0 later.1 word is)

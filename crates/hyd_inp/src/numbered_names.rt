@@ -1,0 +1,49 @@
+//! The numbers of nodes, tanks, links and patterns.
+#![tactic(auto)]
+
+ghost use Rattle.std.specs.Prelude.{◌≤◌, ◌^◌, length, IfOk};
+ghost use Rattle.std.specs.List.{All};
+ghost use Rattle.hyd_spec_lines.specs.Lines.{LiesIn};
+ghost use Rattle.hyd_spec_input.specs.SingleRows.{IsWrongByItself};
+ghost use Rattle.hyd_spec_input.specs.Faults.{NoneIs, IsWrongWithOthers};
+ghost use Rattle.hyd_rows_and_tables.specs.FirstWrongRow.{rows_at};
+ghost use Rattle.hyd_inp.specs.Parts.{AreNumbers};
+
+use hyd_build_ids_and_options::{link_ids, node_ids, pattern_ids, tank_ids};
+use hyd_lex::{Line, Lines};
+use hyd_net::{Names, OutOfMemory};
+use std::alloc::Global;
+
+/// IDs in the order of their numbers.
+#[derive(Drop)]
+pub(crate) struct Numbers {
+    pub(crate) nodes: Names,
+    /// The tanks among the nodes, numbered apart.
+    pub(crate) tanks: Names,
+    pub(crate) links: Names,
+    pub(crate) patterns: Names,
+}
+
+/// Numbers the names of a file without a fault.
+pub(crate) fn number(
+    alloc: Global,
+    text: &Lines<'_>,
+    lines: &[Line],
+) -> Result<Numbers, OutOfMemory>
+    requires few { length lines.now ≤ 2 ^ 26 }
+    requires lie { All (LiesIn text.now.text) lines.now }
+    requires by_itself { NoneIs (IsWrongByItself (rows_at text.now.text lines.now)) }
+    requires with_others { NoneIs (IsWrongWithOthers (rows_at text.now.text lines.now)) }
+    ensures { IfOk result (AreNumbers (rows_at text.now.text lines.now)) }
+{
+    let nodes = node_ids(alloc, text, lines)?;
+    let tanks = tank_ids(alloc, text, lines)?;
+    let links = link_ids(alloc, text, lines)?;
+    let patterns = pattern_ids(alloc, text, lines)?;
+    Ok(Numbers {
+        nodes,
+        tanks,
+        links,
+        patterns,
+    })
+}

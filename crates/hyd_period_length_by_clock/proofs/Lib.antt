@@ -1,0 +1,3 @@
+pub mod NextReportTime
+pub mod TimeControlsSoFar
+pub mod FirstClockInstant

@@ -1,0 +1,35 @@
+use Rattle.std.proofs.Common.{◌≡◌, ◌<◌, ◌∙◌, sym, subst, w64, to_z, of_z, arith, ℤ, length}
+use Rattle.std.specs.Prelude.{slice_set}
+use Rattle.std.proofs.lemmas.Int.{ints}
+use Rattle.std.proofs.lemmas.Bool.{false≢true}
+use Rattle.hyd_spec.specs.Assignment.{head_at}
+use Rattle.hyd_spec_certificates.specs.Certificate.{Passes}
+use Rattle.hyd_spec_certificates.specs.PeriodNetwork.{GridJunction}
+use Rattle.hyd_period_network.specs.NetAsPeriodNetwork.{grid_of}
+use Rattle.hyd_lemmas.proofs.ListsOptionsAndResults.{same_item, item_there}
+use Rattle.hyd_period_vectors.specs.TurnsTowardProposedHeads.{AreInTurn}
+use Rattle.hyd_period_vectors.proofs.BurningTest.{turns-more}
+use Rattle.hyd_period_vectors.proofs.search_start.take_turn.Goals as goal
+
+pub returns : goal.returns
+returns c =
+    let grid = grid_of c.args.net.now in
+    let problem = c.args.problem in
+    let side = c.args.side in
+    let v = c.args.to.now in
+    let y = c.args.heads.now in
+    let i = c.args.i in
+    let long : length v ≡ length grid.junctions = c.requires.one_each ∙ sym c.junctions-junctions.ensures.each in
+    let a = c.if-i-junctions.false in
+    let e = c.requires.one_each in
+    let b = c.junctions-junctions.ensures.count in
+    let inside : i < length v = omega (arith, a, b, e) in
+    let at = item_there grid.junctions i (omega (arith, inside, long)) in
+    let read : to_z w64 (of_z w64 c.head_of.result) ≡ c.head_of.result = omega (arith, ints) in
+    let head : to_z w64 (of_z w64 c.head_of.result) ≡ head_at v i = read ∙ c.head_of.ensures in
+    subst (λ (x : ℤ). AreInTurn grid problem side v (slice_set y i x)) (sym head)
+    (turns-more grid problem side c.junctions-junctions.ensures.steady v y i at.0 long inside at.1
+    (λ passes. false≢true (sym c.if-passes.false ∙ c.passes.ensures.1 (λ other there.
+    subst (λ (j : GridJunction). Passes grid problem side y i j)
+    (same_item GridJunction at.0 other (sym at.1 ∙ there)) passes)))
+    c.requires.turns)

@@ -1,8 +1,0 @@
-use Rattle.std.proofs.Common.{◌≡◌, ◌<◌, ℕ}
-use Rattle.hyd_spec.specs.Assignment.{head_at}
-use Rattle.hyd_period_vectors.proofs.starting.are_same.Given as goal
-
-abbrev pub invariant-loop-i : goal.invariant-loop-i
-invariant-loop-i l = record {
-  same : (k : ℕ) → k < l.i → head_at l.heads k ≡ head_at l.to k;
-}

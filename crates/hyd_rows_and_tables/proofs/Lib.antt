@@ -1,0 +1,6 @@
+pub mod FoundLemmas
+pub mod LeastLemmas
+pub mod TableLemmas
+pub mod SectionLemmas
+pub mod RowsSoFar
+pub mod LastLines

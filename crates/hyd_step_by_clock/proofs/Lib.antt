@@ -1,3 +1,0 @@
-pub mod Stepping
-pub mod Coming
-pub mod Clocking

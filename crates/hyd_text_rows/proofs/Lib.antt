@@ -1,5 +1,0 @@
-pub mod FoundLemmas
-pub mod LeastLemmas
-pub mod TableLemmas
-pub mod SectionLemmas
-pub mod Gathering

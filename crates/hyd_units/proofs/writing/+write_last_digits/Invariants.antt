@@ -1,4 +1,0 @@
-use Rattle.hyd_units.proofs.writing.+write_last_digits.Given as goal
-
-abbrev pub decreases-write_last_digits : goal.decreases-write_last_digits
-decreases-write_last_digits l = l.places

@@ -1,4 +1,0 @@
-use Rattle.hyd_units.proofs.writing.+write_whole.Given as goal
-
-abbrev pub decreases-write_whole : goal.decreases-write_whole
-decreases-write_whole l = l.n
