@@ -1,6 +1,6 @@
 -- How what a check leaves at a desk in memory follows from what the calls in it leave.
 use Rattle.std.proofs.Common.{◌≡◌, ℕ, List, ◌++◌, Some, inr, ◌⊎◌, ◌∙◌, sym, ap}
-use Rattle.hyd_io.specs.Memory.{Memory}
+use Rattle.hyd_io.specs.DeskInMemory.{Memory}
 use Rattle.hyd_io.specs.DeskBytes.{append_known}
 use Rattle.hyd_spec.specs.ProgramTypes.{Project}
 use Rattle.hyd_cert_check.specs.Checks.{CheckEnds, CheckBreaksOff}

@@ -1,7 +1,7 @@
 -- What a step that did no period says of the run.
 use Rattle.std.proofs.Common.{◌≢◌, refl}
 use Rattle.hyd_sim.specs.Steps.{StepGives}
-use Rattle.hyd_sim.specs.View.{SimView}
+use Rattle.hyd_sim.specs.RunView.{SimView}
 use Rattle.hyd_sim.specs.declared.steps.Step.{Step}
 use Rattle.hyd_sim.specs.declared.steps.Step.TheVariants.{Period, Finished, Stop}
 use Rattle.hyd_as_library.specs.Periods.{HasNoPeriod, over, stopped}

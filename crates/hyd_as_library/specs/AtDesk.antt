@@ -3,7 +3,7 @@
 use Rattle.std.specs.Prelude.{◌≡◌, ◌≢◌, ℕ, ◌⊎◌, List, ◌++◌, Some}
 use Rattle.hyd_io.specs.declared.desk.Faults.{Faults}
 use Rattle.hyd_io.specs.declared.output.OutFault.{OutFault}
-use Rattle.hyd_io.specs.Memory.{Memory}
+use Rattle.hyd_io.specs.DeskInMemory.{Memory}
 use Rattle.hyd_spec.specs.ProgramTypes.{Project}
 use Rattle.hyd_spec_reports.specs.PromisesOfRunsAndChecks.{RunWrites, RunBreaksOff}
 use Rattle.hyd_sim.specs.declared.settings.Settings.{Settings}

@@ -3,7 +3,7 @@
 use Rattle.std.specs.Prelude.{◌≡◌}
 use Rattle.hyd_spec_reports.specs.declared.StopCause.{StopCause}
 use Rattle.hyd_sim.specs.Steps.{IsPeriod, StepGives}
-use Rattle.hyd_sim.specs.View.{SimView}
+use Rattle.hyd_sim.specs.RunView.{SimView}
 use Rattle.hyd_sim.specs.declared.steps.Step.TheVariants as steps
 use Rattle.hyd_as_library.specs.declared.Ended.{Ended}
 use Rattle.hyd_as_library.specs.declared.Ended.TheVariants.{OutOfMemory, NoPeriod, Desk, Print}

@@ -4,12 +4,12 @@
 
 ghost use Rattle.std.specs.Prelude.{◌≡◌, ◌≢◌, ◌⊎◌, ℕ, List, Some, None, IsTrue, IsFalse, IfOk, IfErr, OnOk, IsErrOf};
 ghost use Rattle.hyd_net.specs.Sound.{IsSound};
-ghost use Rattle.hyd_io.specs.FailureCounts.{with_opened, with_created};
-ghost use Rattle.hyd_io.specs.MemoryView.{memory};
+ghost use Rattle.hyd_io.specs.DeskCounts.{with_opened, with_created};
+ghost use Rattle.hyd_io.specs.DeskInMemoryView.{memory};
 ghost use Rattle.hyd_spec_certificates.specs.RecordAndStanding.{initial_standing};
 ghost use Rattle.hyd_cert.specs.RecordView.{header_of};
 ghost use Rattle.hyd_sim.specs.Steps.{IsPeriod};
-ghost use Rattle.hyd_sim.specs.View.{header_for, standing_of};
+ghost use Rattle.hyd_sim.specs.RunView.{header_for, standing_of};
 ghost use Rattle.hyd_run.specs.Pens.{told, LeavesRest, OneRose};
 ghost use Rattle.hyd_run.specs.Runs.{IsPutOut, IsBrokenOff, outcome_of};
 ghost use Rattle.hyd_cert_check.specs.Checks.{CheckEnds, CheckBreaksOff};

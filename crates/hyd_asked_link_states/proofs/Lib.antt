@@ -1,4 +1,4 @@
-pub mod StateLemmas
-pub mod SettingLemmas
+pub mod FaultLemmas
+pub mod StateAndValveLawLemmas
 pub mod RightLinks
 pub mod RangeLemmas

@@ -5,16 +5,16 @@ use Rattle.std.proofs.lemmas.Int.{ints}
 use Rattle.hyd_num.specs.CapacityRange.{IsRefused}
 use Rattle.hyd_num.specs.declared.link_capacities.Origin.TheVariants.{Pipe}
 use Rattle.hyd_num.specs.declared.decimals.Decimal.{Decimal}
-use Rattle.hyd_net.proofs.Equal.{Decimal-equal}
+use Rattle.hyd_net.proofs.EqualValues.{Decimal-equal}
 use Rattle.hyd_net.specs.NumberRanges.{Lies, IsUpTo}
-use Rattle.hyd_capacities.specs.Ranges.{IsPositiveUpTo, IsMinorCoefficient}
+use Rattle.hyd_capacities.specs.FileNumberRanges.{IsPositiveUpTo, IsMinorCoefficient}
 use Rattle.hyd_spec_input.specs.CapacitiesOutOfRange.{IsRefusedPipe}
 use Rattle.hyd_spec_input.specs.Columns.{up_to, word, amount, units, is_option_keyword}
-use Rattle.hyd_spec_input.specs.NetworkRows as alone
-use Rattle.hyd_theorems_on_input.proofs.Faultless.{needed_none, within}
-use Rattle.hyd_theorems_on_input.proofs.InForce.{keyword_same}
+use Rattle.hyd_spec_input.specs.NodeAndLinkRows as alone
+use Rattle.hyd_theorems_on_input.proofs.RowsWithoutFault.{needed_none, within}
+use Rattle.hyd_theorems_on_input.proofs.OptionsAndTimesInForce.{keyword_same}
 use Rattle.hyd_theorems_on_input.proofs.LinkKinds.{valve_numbers}
-use Rattle.hyd_asked_link_states.specs.AskedLinks.{IsThrottleCoefficient}
+use Rattle.hyd_asked_link_states.specs.AskedStatesOfLinks.{IsThrottleCoefficient}
 use Rattle.hyd_theorems_on_input.proofs.OneProject.{general_not_throttle}
 
 -- ---- numbers

@@ -7,11 +7,11 @@ use Rattle.hyd_spec_lines.specs.declared.section.Section.TheVariants.{Pipes, Pum
 use Rattle.hyd_spec_input.specs.SingleRows as itself
 use Rattle.hyd_spec_input.specs.SingleRows.{IsWrongByItself}
 use Rattle.hyd_spec_input.specs.Faults.{NoneIs}
-use Rattle.hyd_spec_input.specs.Tables.{place, is_link, link_rows, link_named}
+use Rattle.hyd_spec_input.specs.SectionsAndTables.{place, is_link, link_rows, link_named}
 use Rattle.hyd_theorems_on_input.proofs.Names.{named_stands}
 use Rattle.hyd_theorems_on_input.proofs.ListsByPlace.{kept_stands, kept_passes}
-use Rattle.hyd_asked_link_states.specs.AskedLinks.{IsRightLink}
-use Rattle.hyd_theorems_on_input.proofs.Faultless.{none_from}
+use Rattle.hyd_asked_link_states.specs.AskedStatesOfLinks.{IsRightLink}
+use Rattle.hyd_theorems_on_input.proofs.RowsWithoutFault.{none_from}
 
 -- what is asked of a link doesn't depend on the lines of rules
 alone : (section : Section) (earlier : List (List (List ℕ))) (words : List (List ℕ)) (later : List (List (List ℕ)))

@@ -1,1 +1,1 @@
-pub mod AskedLinks
+pub mod AskedStatesOfLinks

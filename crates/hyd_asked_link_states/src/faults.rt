@@ -3,11 +3,11 @@
 
 ghost use Rattle.std.specs.Prelude.{◌≡◌, ℕ, List, Some, IfNone};
 ghost use Rattle.hyd_spec_lines.specs.Lines.{LiesIn, Row, row_of};
-ghost use Rattle.hyd_option_and_rule_lines.specs.Meanings.{IsAsked};
-ghost use Rattle.hyd_spec_input.specs.InForce as force;
-ghost use Rattle.hyd_spec_input.specs.RowsTogether as others;
-ghost use Rattle.hyd_asked_link_states.specs.AskedLinks as states;
-ghost use Rattle.hyd_asked_link_states.specs.AskedLinks.{IsRightLink, IsAllowed};
+ghost use Rattle.hyd_option_and_rule_lines.specs.WhatLinesSay.{IsAsked};
+ghost use Rattle.hyd_spec_input.specs.OptionsAndTimesInForce as force;
+ghost use Rattle.hyd_spec_input.specs.FaultsWithOtherRows as others;
+ghost use Rattle.hyd_asked_link_states.specs.AskedStatesOfLinks as states;
+ghost use Rattle.hyd_asked_link_states.specs.AskedStatesOfLinks.{IsRightLink, IsAllowed};
 
 use crate::link_types::{LinkType, link_type};
 use hyd_lex::{Line, Lines};

@@ -4,8 +4,8 @@
 ghost use Rattle.std.specs.Prelude.{◌≡◌, None, if◌then◌else◌};
 ghost use Rattle.hyd_spec_lines.specs.Lines.{LiesIn, row_of};
 ghost use Rattle.hyd_row_words.specs.FaultOrValue.{words_at};
-ghost use Rattle.hyd_spec_input.specs.NetworkRows as row;
-ghost use Rattle.hyd_asked_link_states.specs.AskedLinks.{IsRightLink, IsType};
+ghost use Rattle.hyd_spec_input.specs.NodeAndLinkRows as row;
+ghost use Rattle.hyd_asked_link_states.specs.AskedStatesOfLinks.{IsRightLink, IsType};
 
 use hyd_lex::{Line, Lines, Section};
 use hyd_network_rows::{PipeStatus, read_pipe};

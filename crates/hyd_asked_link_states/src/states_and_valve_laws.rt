@@ -1,21 +1,22 @@
-//! States that links are set to.
+//! The states that links are set to, which of them are refused, and the laws of valves that are set to coefficients.
 #![tactic(auto)]
 
 ghost use Rattle.std.specs.Prelude.{◌≡◌, ◌↔◌, ℕ, true, None, List, Some};
 ghost use Rattle.hyd_num.specs.FileQuantity as quantity;
 ghost use Rattle.hyd_spec_lines.specs.Lines.{LiesIn, Row, row_of};
 ghost use Rattle.hyd_row_words.specs.FaultOrValue.{words_at};
-ghost use Rattle.hyd_option_and_rule_lines.specs.Meanings.{IsAsked};
-ghost use Rattle.hyd_capacities.specs.Ranges.{IsDiameter};
+ghost use Rattle.hyd_option_and_rule_lines.specs.WhatLinesSay.{IsAsked};
+ghost use Rattle.hyd_capacities.specs.FileNumberRanges.{IsDiameter};
 ghost use Rattle.hyd_spec_input.specs.CapacitiesOutOfRange.{IsRefusedSetting, IsRefusedValve};
 ghost use Rattle.hyd_spec_input.specs.Columns.{amount};
-ghost use Rattle.hyd_spec_input.specs.InForce as force;
-ghost use Rattle.hyd_spec_input.specs.NetworkRows as row;
+ghost use Rattle.hyd_spec_input.specs.OptionsAndTimesInForce as force;
+ghost use Rattle.hyd_spec_input.specs.NodeAndLinkRows as row;
 ghost use Rattle.hyd_spec_input.specs.Project as project;
 ghost use Rattle.hyd_spec_input.specs.Project.{IsState, IsNumberState, IsOpenValve};
-ghost use Rattle.hyd_asked_link_states.specs.AskedLinks as states;
-ghost use Rattle.hyd_asked_link_states.specs.AskedLinks.{IsRightLink, IsAllowed, IsSettable, IsThrottleCoefficient};
-ghost use Rattle.hyd_asked_link_states.specs.AskedLinks.{IsThrottled};
+ghost use Rattle.hyd_asked_link_states.specs.AskedStatesOfLinks as states;
+ghost use Rattle.hyd_asked_link_states.specs.AskedStatesOfLinks.{IsRightLink, IsAllowed, IsSettable};
+ghost use Rattle.hyd_asked_link_states.specs.AskedStatesOfLinks.{IsThrottleCoefficient};
+ghost use Rattle.hyd_asked_link_states.specs.AskedStatesOfLinks.{IsThrottled};
 
 use crate::link_types::{LinkType, link_type};
 use hyd_capacities::valve_capacity;

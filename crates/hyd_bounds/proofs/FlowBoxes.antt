@@ -3,15 +3,15 @@ use Rattle.std.proofs.Common.{◌≡◌, ◌≤◌, ℕ, zero, suc, ℤ, pos, �
 use Rattle.std.proofs.Common.{length, map}
 use Rattle.std.specs.Prelude.{Option, slice_get, slice_set, Some}
 use Rattle.std.specs.Option.{IfSome}
-use Rattle.hyd_num.specs.declared.decimals.Span.{Span}
+use Rattle.hyd_num.specs.declared.spans.Span.{Span}
 use Rattle.hyd_spec.specs.Assignment.{head_at}
 use Rattle.hyd_spec.specs.Scale.{missed_flow_ticks}
 use Rattle.hyd_spec_certificates.specs.EnclosingFunctions.{low, high}
 use Rattle.hyd_spec_certificates.specs.PeriodNetwork.{GridLink}
 use Rattle.hyd_spec_certificates.specs.FlowIntervals.{flow_box}
 use Rattle.hyd_law.specs.LinkLaws.{link_low, link_high}
-use Rattle.hyd_law.specs.declared.link_law.LinkLaw.{LinkLaw}
-use Rattle.hyd_period_network.specs.declared.net_types.Ends.{Ends}
+use Rattle.hyd_law.specs.declared.link_law_kinds.LinkLaw.{LinkLaw}
+use Rattle.hyd_period_network.specs.declared.junctions_ends_and_settings.Ends.{Ends}
 use Rattle.hyd_period_network.specs.ExactLaw.{exact_law}
 use Rattle.hyd_vector_check.proofs.FlowsOfLinkEnds.{StandsFor}
 use Rattle.hyd_bounds.specs.VectorsInOrder.{IsSpan}

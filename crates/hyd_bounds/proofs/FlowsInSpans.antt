@@ -5,15 +5,15 @@ use Rattle.std.specs.Prelude.{Option, Some, slice_get}
 use Rattle.std.specs.Option.{IfSome}
 use Rattle.std.proofs.lemmas.Int.{ints}
 use Rattle.std.proofs.lemmas.List.{length-map}
-use Rattle.hyd_num.specs.declared.decimals.Span.{Span}
+use Rattle.hyd_num.specs.declared.spans.Span.{Span}
 use Rattle.hyd_num.proofs.Integers.{times_minus}
 use Rattle.hyd_net.specs.ListView.{ListView}
 use Rattle.hyd_spec.specs.ProgramTypes.{HeadPoint, LinkKind, LinkState}
 use Rattle.hyd_spec.specs.Scale.{at_scale}
 use Rattle.hyd_spec.specs.NodeNumbers.{tank_node}
-use Rattle.hyd_spec.specs.DemandsReservoirHeadsAndCurves.{reservoir_head}
+use Rattle.hyd_spec.specs.DemandsHeadsAndPumpLifts.{reservoir_head}
 use Rattle.hyd_spec.specs.Assignment.{head_at, node_heads}
-use Rattle.hyd_spec_certificates.specs.Spans.{flows_of}
+use Rattle.hyd_spec_certificates.specs.SpansAsIntervals.{flows_of}
 use Rattle.hyd_spec_certificates.specs.declared.Problem.TheVariants.{Main, Pinned}
 use Rattle.hyd_spec_certificates.specs.declared.Side.TheVariants.{Upper, Lower}
 use Rattle.hyd_spec_certificates.specs.Interval.{Interval}
@@ -22,13 +22,13 @@ use Rattle.hyd_spec_certificates.specs.FlowIntervals.{difference, flow_box, out_
 use Rattle.hyd_spec_reports.specs.Report.{status_of}
 use Rattle.hyd_spec_reports.specs.declared.StatusWord.{StatusWord}
 use Rattle.hyd_spec_reports.specs.Claims.{StatusHolds}
-use Rattle.hyd_theorems_on_definitions.specs.TermsOfTheorems.{LiesIn, LieBetween}
+use Rattle.hyd_theorems_on_definitions.specs.LyingInIntervals.{LiesIn, LieBetween}
 use Rattle.hyd_theorems_on_definitions.proofs.FlowsInBoxes.{heads_between, flow_lies, outflow_lies}
-use Rattle.hyd_theorems_on_definitions.proofs.Comparison.{one_each}
+use Rattle.hyd_theorems_on_definitions.proofs.ComparisonPrinciple.{one_each}
 use Rattle.hyd_theorems_on_definitions.proofs.PinnedTankInflows.{inflow_lies}
 use Rattle.hyd_theorems_on_definitions.proofs.StatusWords.{status_holds}
 use Rattle.hyd_bounds.specs.VectorsInOrder.{IsSpan}
-use Rattle.hyd_bounds.specs.Enclosed.{HoldsFlow, HoldsOutflow, HoldsInflow, HoldsStatus}
+use Rattle.hyd_bounds.specs.FlowsAndStatusesOfAssignments.{HoldsFlow, HoldsOutflow, HoldsInflow, HoldsStatus}
 use Rattle.hyd_lemmas.proofs.ListsOptionsAndResults.{item_there}
 
 -- what lies in an interval lies in its span

@@ -13,7 +13,7 @@ use Rattle.hyd_spec_certificates.specs.Interval.{Interval, exactly, width}
 use Rattle.hyd_spec_certificates.specs.EnclosingFunctions.{low, high}
 use Rattle.hyd_spec_certificates.specs.PeriodNetwork.{Grid, end_on, opposite, tank_side, fixed_heads, all_heads}
 use Rattle.hyd_spec_certificates.specs.NetOutflow.{net}
-use Rattle.hyd_theorems_on_definitions.specs.TermsOfTheorems.{IsSteady}
+use Rattle.hyd_theorems_on_definitions.specs.SoundLawsAndGrids.{IsSteady}
 use Rattle.hyd_theorems_on_definitions.proofs.NetOutflowsRise.{low-rises, high-rises, IsTop, net-rises, net-ordered}
 use Rattle.hyd_bounds.specs.VectorsInOrder.{AreInOrder}
 

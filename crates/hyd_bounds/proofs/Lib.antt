@@ -3,4 +3,4 @@ pub mod InflowsInOrder
 pub mod OutflowBoxes
 pub mod StatusWordByOwnLaw
 pub mod FlowsInSpans
-pub mod Pinned
+pub mod PinnedInOrder

@@ -3,14 +3,14 @@ use Rattle.std.proofs.Common.{◌≡◌, ℕ, ◌*◌, ◌<◌, ℤ, pos, ◌+�
 use Rattle.std.specs.Prelude.{Option, Some, None, is_some, slice_get, if◌then◌else◌}
 use Rattle.std.specs.Option.{IfSome}
 use Rattle.std.proofs.lemmas.Int.{ints}
-use Rattle.hyd_num.specs.declared.decimals.Span.{Span}
+use Rattle.hyd_num.specs.declared.spans.Span.{Span}
 use Rattle.hyd_spec.specs.ProgramTypes.{Capacity}
 use Rattle.hyd_spec.specs.Scale.{missed_flow_ticks}
 use Rattle.hyd_spec_certificates.specs.EnclosingFunctions.{DemandLaw}
 use Rattle.hyd_spec_certificates.specs.PeriodNetwork.{Grid, GridJunction}
 use Rattle.hyd_spec_certificates.specs.NetOutflow.{outflow_low, outflow_high}
 use Rattle.hyd_spec_certificates.specs.FlowIntervals.{out_box}
-use Rattle.hyd_theorems_on_definitions.specs.TermsOfTheorems.{IsSteady}
+use Rattle.hyd_theorems_on_definitions.specs.SoundLawsAndGrids.{IsSteady}
 use Rattle.hyd_theorems_on_definitions.proofs.NetOutflowsRise.{demand-at, outflow-rises}
 use Rattle.hyd_bounds.specs.VectorsInOrder.{IsSpan}
 use Rattle.hyd_lemmas.proofs.ListsOptionsAndResults.{item_there}

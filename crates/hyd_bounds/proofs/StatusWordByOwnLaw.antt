@@ -4,7 +4,7 @@ use Rattle.std.specs.Prelude.{int_le, int_lt, if◌then◌else◌}
 use Rattle.std.proofs.lemmas.Int.{ints}
 use Rattle.hyd_num.specs.Rational.{Rational, ceiling}
 use Rattle.hyd_net.specs.ListView.{ListView}
-use Rattle.hyd_net.specs.States.{CanHave}
+use Rattle.hyd_net.specs.LinkStates.{CanHave}
 use Rattle.hyd_net.specs.Curves.{Knot, value_at}
 use Rattle.hyd_net.specs.declared.curves.HeadPoint.{HeadPoint}
 use Rattle.hyd_spec.specs.ProgramTypes.{LinkKind, PipeLink, CheckPipe, PumpLink, CurvePump, Tcv, Fcv, Gpv, Quadratic}

@@ -1,3 +1,3 @@
 pub mod VectorsInOrder
 pub mod StatusWords
-pub mod Enclosed
+pub mod FlowsAndStatusesOfAssignments

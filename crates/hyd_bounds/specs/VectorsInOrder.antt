@@ -1,6 +1,6 @@
--- What bounds are between: vectors below and above.
+-- Vectors below and above, between which bounds lie, in order; how wide tanks are; the nodes of tanks.
 use Rattle.std.specs.Prelude.{◌≡◌, ℕ, ◌+◌, ℤ, pos, ◌+ℤ◌, ◌≤ℤ◌, List, length, All, slice_index_or}
-use Rattle.hyd_num.specs.declared.decimals.Span.{Span}
+use Rattle.hyd_num.specs.declared.spans.Span.{Span}
 use Rattle.hyd_spec.specs.Assignment.{head_at}
 use Rattle.hyd_spec_certificates.specs.Interval.{Interval, exactly, width}
 use Rattle.hyd_spec_certificates.specs.PeriodNetwork.{Grid}

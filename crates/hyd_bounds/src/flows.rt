@@ -11,7 +11,7 @@ ghost use Rattle.hyd_spec_certificates.specs.FlowIntervals.{flow_box};
 ghost use Rattle.hyd_period_network.specs.NetAsPeriodNetwork.{grid_of};
 ghost use Rattle.hyd_law.specs.LinkLaws.{link_low, link_high, IsSoundLink, LinkAccepts};
 ghost use Rattle.hyd_bounds.specs.VectorsInOrder.{IsSpan, IsVector, AreInOrder};
-ghost use Rattle.hyd_bounds.specs.Enclosed.{HoldsFlow};
+ghost use Rattle.hyd_bounds.specs.FlowsAndStatusesOfAssignments.{HoldsFlow};
 
 use crate::heads::node_head;
 use hyd_law::{Law, LinkLaw};

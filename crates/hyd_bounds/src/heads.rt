@@ -6,7 +6,7 @@ ghost use Rattle.hyd_spec.specs.Assignment.{head_at};
 ghost use Rattle.hyd_spec_certificates.specs.PeriodNetwork.{all_heads};
 ghost use Rattle.hyd_spec_certificates.specs.Certificate.{box_limit};
 ghost use Rattle.hyd_period_network.specs.NetAsPeriodNetwork.{grid_of, node_count};
-ghost use Rattle.hyd_period_network.specs.NetInvariant.{HasProblem};
+ghost use Rattle.hyd_period_network.specs.SoundNets.{HasProblem};
 ghost use Rattle.hyd_bounds.specs.VectorsInOrder.{IsVector};
 
 use hyd_period_network::Net;

@@ -1,16 +1,16 @@
 //! Inflows of tanks.
 #![tactic(auto)]
 
-ghost use Rattle.std.specs.Prelude.{◌≡◌, ◌<◌, ◌≤◌, ◌*◌, ◌^◌, ℕ, ℤ, List, pos, length, unsigned_abs};
+ghost use Rattle.std.specs.Prelude.{◌≡◌, ◌<◌, ◌≤◌, ◌*◌, ◌^◌, ℕ, ℤ, List, length, unsigned_abs};
 ghost use Rattle.hyd_spec_certificates.specs.declared.Problem.TheVariants.{Pinned};
 ghost use Rattle.hyd_spec_certificates.specs.declared.Side.TheVariants.{Upper, Lower};
 ghost use Rattle.hyd_spec_certificates.specs.PeriodNetwork.{Grid, all_heads};
 ghost use Rattle.hyd_spec_certificates.specs.FlowIntervals.{inflow_box};
 ghost use Rattle.hyd_period_network.specs.NetAsPeriodNetwork.{grid_of};
 ghost use Rattle.hyd_bounds.specs.VectorsInOrder.{IsSpan, IsVector, AreInOrder, tank_width, tank_node_of};
-ghost use Rattle.hyd_bounds.specs.Enclosed.{HoldsInflow};
+ghost use Rattle.hyd_bounds.specs.FlowsAndStatusesOfAssignments.{HoldsInflow};
 ghost use Rattle.hyd_spec_certificates.specs.Certificate.{IsCertificate};
-ghost use Rattle.hyd_theorems_on_definitions.specs.TermsOfTheorems.{IsSteady, TanksInOrder};
+ghost use Rattle.hyd_theorems_on_definitions.specs.SoundLawsAndGrids.{IsSteady, TanksInOrder};
 ghost use Rattle.hyd_vector_check.specs.NetOutflowBySide.{flows_out};
 ghost use Rattle.hyd_vector_check.specs.ComparisonPrinciple.{FixedWithin};
 

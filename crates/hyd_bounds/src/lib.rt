@@ -6,9 +6,9 @@ mod flows;
 mod heads;
 mod inflows;
 mod outflows;
-mod status;
+mod status_words;
 
 pub use flows::flow_box;
 pub use inflows::{pinned_in_order, tank_inflow};
 pub use outflows::out_box;
-pub use status::status_of;
+pub use status_words::status_of;

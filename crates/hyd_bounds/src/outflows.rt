@@ -9,7 +9,7 @@ ghost use Rattle.hyd_spec_certificates.specs.Certificate.{IsInBox};
 ghost use Rattle.hyd_spec_certificates.specs.FlowIntervals.{out_box};
 ghost use Rattle.hyd_period_network.specs.NetAsPeriodNetwork.{grid_of, capacity_of};
 ghost use Rattle.hyd_bounds.specs.VectorsInOrder.{IsSpan};
-ghost use Rattle.hyd_bounds.specs.Enclosed.{HoldsOutflow};
+ghost use Rattle.hyd_bounds.specs.FlowsAndStatusesOfAssignments.{HoldsOutflow};
 
 use crate::flows::TOLERANCE;
 use hyd_law::Quad;

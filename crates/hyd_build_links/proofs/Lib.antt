@@ -1,8 +1,8 @@
-pub mod SourceLemmas
+pub mod RightRowsToBuildLinksFrom
 pub mod NumberLemmas
 pub mod PipeLemmas
 pub mod PumpLemmas
 pub mod StatusLemmas
-pub mod RowLemmas
-pub mod StartLemmas
-pub mod BuiltLemmas
+pub mod PipePumpAndValveFacts
+pub mod InitialStateLemmas
+pub mod LinksBuiltSoFarLemmas

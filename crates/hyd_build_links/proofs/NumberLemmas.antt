@@ -11,20 +11,22 @@ use Rattle.std.proofs.lemmas.Option.{slice_get-map}
 use Rattle.hyd_spec_lines.specs.Lines.{Row}
 use Rattle.hyd_spec_lines.specs.declared.line.Line.{Line}
 use Rattle.hyd_spec_lines.specs.declared.section.Section.TheVariants.{Junctions, Reservoirs, Tanks, Pumps, Valves}
-use Rattle.hyd_spec_input.specs.NetworkRows.{pump_curve, valve_curve}
+use Rattle.hyd_spec_input.specs.NodeAndLinkRows.{pump_curve, valve_curve}
 use Rattle.hyd_spec_input.specs.MeaningsAcrossRows.{node_ids, number_in, is_among, as_list, bent_name, bend_names}
 use Rattle.hyd_spec_input.specs.Curves.{is_bent}
-use Rattle.hyd_spec_input.specs.Tables.{is_of, is_node, is_link, rows_of, node_rows, link_rows, node_named, row_with}
-use Rattle.hyd_spec_input.specs.Tables.{own_id, curve_named}
-use Rattle.hyd_spec_input.specs.RowsTogether.{known_as, known_node}
-use Rattle.hyd_theorems_on_input.proofs.Faultless.{AreRight}
+use Rattle.hyd_spec_input.specs.SectionsAndTables.{is_of, is_node, is_link, rows_of, node_rows, link_rows, node_named}
+use Rattle.hyd_spec_input.specs.SectionsAndTables.{row_with}
+use Rattle.hyd_spec_input.specs.SectionsAndTables.{own_id, curve_named}
+use Rattle.hyd_spec_input.specs.FaultsWithOtherRows.{known_as, known_node}
+use Rattle.hyd_theorems_on_input.proofs.RowsWithoutFault.{AreRight}
 use Rattle.hyd_theorems_on_input.proofs.Names.{First, Second, Third, one_of_three, node_ids_are, own_ids, row_named}
 use Rattle.hyd_theorems_on_input.proofs.Names.{link_new, named_stands}
-use Rattle.hyd_theorems_on_input.proofs.Occurs.{itself, occurs, occurs_append, occurs_at, has_number, kept_once}
+use Rattle.hyd_theorems_on_input.proofs.OccurrencesOfNames.{itself, occurs, occurs_append, occurs_at, has_number}
+use Rattle.hyd_theorems_on_input.proofs.OccurrencesOfNames.{kept_once}
 use Rattle.hyd_theorems_on_input.proofs.ListsByPlace.{kept_stands, kept_passes}
-use Rattle.hyd_rows_and_tables.specs.FirstWrongRow.{rows_at}
+use Rattle.hyd_rows_and_tables.specs.RowsOfLines.{rows_at}
 use Rattle.hyd_rows_and_tables.specs.IdTables.{AreFirsts}
-use Rattle.hyd_build_links.specs.CheckedRows.{HasNumber}
+use Rattle.hyd_build_links.specs.RowsToBuildLinksFrom.{HasNumber}
 
 -- a name that occurs has a number
 pub numbered : (names : List (List ℕ)) (name : List ℕ) → 1 ≤ occurs name names → HasNumber names name

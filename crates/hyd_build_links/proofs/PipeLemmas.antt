@@ -10,9 +10,9 @@ use Rattle.hyd_network_rows.specs.declared.pipes.PipeRow.{PipeRow}
 use Rattle.hyd_network_rows.specs.declared.pipes.PipeStatus.{PipeStatus}
 use Rattle.hyd_network_rows.specs.declared.pipes.PipeStatus.TheVariants.{Open, Closed, CheckValve}
 use Rattle.hyd_spec_input.specs.Columns.{amount}
-use Rattle.hyd_spec_input.specs.NetworkRows.{has_check_valve, is_closed_pipe, pipe_minor}
+use Rattle.hyd_spec_input.specs.NodeAndLinkRows.{has_check_valve, is_closed_pipe, pipe_minor}
 use Rattle.hyd_spec_input.specs.Project.{IsPipeOf}
-use Rattle.hyd_spec_input.specs.RowsTogether as others
+use Rattle.hyd_spec_input.specs.FaultsWithOtherRows as others
 
 pub pipe_made : (rows : List Row) (row : Row) (us : Bool) (pipe : PipeRow) (cap : Capacity) → us ≡ others.us rows
     → IsPipeRow row.words pipe → IsMade cap

@@ -12,18 +12,18 @@ use Rattle.hyd_num.specs.CapacityRange.{IsRefused}
 use Rattle.hyd_num.specs.declared.link_capacities.Capacity.{Capacity}
 use Rattle.hyd_num.specs.declared.link_capacities.Origin.TheVariants.{Pump as PumpOrigin}
 use Rattle.hyd_num.specs.declared.decimals.Decimal.{Decimal}
-use Rattle.hyd_num.specs.declared.decimals.Span.{Span}
+use Rattle.hyd_num.specs.declared.spans.Span.{Span}
 use Rattle.hyd_num.specs.declared.flow_units.FlowUnit.{FlowUnit}
 use Rattle.hyd_net.specs.RoundedFileNumbers.{IsRounded, IsExactly}
 use Rattle.hyd_net.specs.declared.links.ShutoffHead.TheVariants.{FourThirds, Given}
 use Rattle.hyd_spec_lines.specs.Lines.{Row}
 use Rattle.hyd_net.specs.declared.links.LinkKind.TheVariants.{Pump}
 use Rattle.hyd_spec_input.specs.Curves.{square, is_bent}
-use Rattle.hyd_spec_input.specs.InForce as force
+use Rattle.hyd_spec_input.specs.OptionsAndTimesInForce as force
 use Rattle.hyd_spec_input.specs.MeaningsAcrossRows.{pattern_number}
-use Rattle.hyd_spec_input.specs.NetworkRows.{pump_curve, pump_pattern}
+use Rattle.hyd_spec_input.specs.NodeAndLinkRows.{pump_curve, pump_pattern}
 use Rattle.hyd_spec_input.specs.Project.{IsPumpKind}
-use Rattle.hyd_spec_input.specs.Tables.{curve_named}
+use Rattle.hyd_spec_input.specs.SectionsAndTables.{curve_named}
 use Rattle.hyd_lemmas.proofs.BooleanTests.{lt_z-yes}
 use Rattle.hyd_build_links.specs.Pumps.{ArePumpPoints, IsPumpLaw}
 use Rattle.hyd_curves.specs.Points.{points_in}

@@ -12,14 +12,14 @@ use Rattle.hyd_spec_lines.specs.Lines.{Row, LiesIn, row_of}
 use Rattle.hyd_spec_lines.specs.declared.line.Line.{Line}
 use Rattle.hyd_spec_lines.specs.declared.section.Section.TheVariants.{Status}
 use Rattle.hyd_spec_input.specs.MeaningsAcrossRows.{number_in, last_naming}
-use Rattle.hyd_spec_input.specs.Tables.{is_of, rows_of, own_id}
-use Rattle.hyd_rows_and_tables.proofs.FoundLemmas.{filter_more, filter_same}
-use Rattle.hyd_rows_and_tables.proofs.SectionLemmas.{all_rows}
-use Rattle.hyd_rows_and_tables.specs.FirstWrongRow.{rows_at, row_in}
+use Rattle.hyd_spec_input.specs.SectionsAndTables.{is_of, rows_of, own_id}
+use Rattle.hyd_rows_and_tables.proofs.FirstWrongRowLemmas.{filter_more, filter_same}
+use Rattle.hyd_rows_and_tables.proofs.WrongInSectionLemmas.{all_rows}
+use Rattle.hyd_rows_and_tables.specs.RowsOfLines.{rows_at, row_in}
 use Rattle.hyd_rows_and_tables.specs.IdTables.{AreNone}
-use Rattle.hyd_theorems_on_input.proofs.Occurs.{same_name, itself, number_names}
+use Rattle.hyd_theorems_on_input.proofs.OccurrencesOfNames.{same_name, itself, number_names}
 use Rattle.hyd_build_links.specs.Statuses.{AreStatuses}
-use Rattle.hyd_theorems_on_input.proofs.InForce.{last_where_push}
+use Rattle.hyd_theorems_on_input.proofs.OptionsAndTimesInForce.{last_where_push}
 
 -- ---- the last row that passes, one row more
 

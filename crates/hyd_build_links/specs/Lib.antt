@@ -1,4 +1,4 @@
-pub mod CheckedRows
+pub mod RowsToBuildLinksFrom
 pub mod Pumps
 pub mod Statuses
-pub mod Built
+pub mod LinksBuiltSoFar

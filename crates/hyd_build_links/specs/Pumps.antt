@@ -6,7 +6,7 @@ use Rattle.hyd_net.specs.RoundedFileNumbers.{IsShutoffMade}
 use Rattle.hyd_spec_input.specs.CapacitiesOutOfRange.{IsRefusedPump}
 use Rattle.hyd_spec_input.specs.Curves.{drop_of, is_bent, is_pump_curve, are_flows, has_shutoff}
 use Rattle.hyd_spec_input.specs.Project.{IsPumpOf, IsShutoffOf}
-use Rattle.hyd_spec_input.specs.Tables.{Point}
+use Rattle.hyd_spec_input.specs.SectionsAndTables.{Point}
 use Rattle.hyd_build_links.specs.declared.pump_laws.PumpLaw.{PumpLaw}
 
 -- the points of a curve of one point or three that a pump can have

@@ -5,8 +5,8 @@ use Rattle.hyd_spec_lines.specs.Lines.{Row, LiesIn}
 use Rattle.hyd_spec_lines.specs.declared.line.Line.{Line}
 use Rattle.hyd_spec_lines.specs.declared.section.Section.TheVariants.{Status}
 use Rattle.hyd_spec_input.specs.MeaningsAcrossRows.{number_in, last_naming}
-use Rattle.hyd_spec_input.specs.Tables.{rows_of}
-use Rattle.hyd_rows_and_tables.specs.FirstWrongRow.{row_in}
+use Rattle.hyd_spec_input.specs.SectionsAndTables.{rows_of}
+use Rattle.hyd_rows_and_tables.specs.RowsOfLines.{row_in}
 
 -- for each name that has a number, the line of its last row of [STATUS] among the first rows
 pub record AreStatuses (text : List ℕ) (rows : List Row) (k : ℕ) (names : List (List ℕ))

@@ -2,15 +2,15 @@
 //! [VALVES] and [STATUS]), of a file whose rows are right by themselves and with the others.
 #![tactic(auto)]
 
-mod link_source;
+mod initial_states;
 mod links;
 mod name_numbers;
 mod pipes;
 mod pump_laws;
 mod pumps;
-mod starts;
+mod rows_to_build_links_from;
 mod statuses;
 mod valves;
 
-pub use link_source::LinkSource;
 pub use links::build_links;
+pub use rows_to_build_links_from::RowsForLinks;

@@ -1,20 +1,20 @@
-//! All links.
+//! The links of a network: its pipes, then its pumps, then its valves.
 #![tactic(auto)]
 
 ghost use Rattle.std.specs.Prelude.{◌≡◌, ◌<◌, ◌+◌, ◌++◌, List, true, length, IfOk, OnOk};
 ghost use Rattle.hyd_spec_lines.specs.Lines.{Row, row_of};
 ghost use Rattle.hyd_spec_input.specs.Project.{IsKind, IsLink, Match, numbered_links};
-ghost use Rattle.hyd_spec_input.specs.Tables.{place as section_place, is_link, rows_of};
-ghost use Rattle.hyd_build_links.specs.CheckedRows.{IsRightSource, IsRowOf, rows_from};
+ghost use Rattle.hyd_spec_input.specs.SectionsAndTables.{place as section_place, is_link, rows_of};
+ghost use Rattle.hyd_build_links.specs.RowsToBuildLinksFrom.{AreRightRowsForLinks, IsRowOf, rows_from};
 ghost use Rattle.hyd_build_links.specs.Statuses.{AreStatuses};
-ghost use Rattle.hyd_asked_link_states.specs.AskedLinks.{is_link_section};
-ghost use Rattle.hyd_build_links.specs.Built.{AreBuilt};
+ghost use Rattle.hyd_asked_link_states.specs.AskedStatesOfLinks.{is_link_section};
+ghost use Rattle.hyd_build_links.specs.LinksBuiltSoFar.{AreBuilt};
 
-use crate::link_source::LinkSource;
+use crate::initial_states::start_of;
 use crate::name_numbers::number;
 use crate::pipes::pipe_kind;
 use crate::pumps::pump_kind;
-use crate::starts::start_of;
+use crate::rows_to_build_links_from::RowsForLinks;
 use crate::statuses::gather_statuses;
 use crate::valves::valve_kind;
 use hyd_lex::{Line, Lines, Section};
@@ -23,29 +23,29 @@ use hyd_row_words::or_empty;
 use std::alloc::Global;
 
 // What the link of a row is.
-fn kind_of(text: &Lines<'_>, line: &Line, source: &LinkSource<'_>) -> LinkKind
-    requires { IsRowOf is_link text.now.text source.now line.now }
-    ensures { IsKind (rows_from text.now.text source.now) (row_of text.now.text line.now) result }
+fn kind_of(text: &Lines<'_>, line: &Line, given: &RowsForLinks<'_>) -> LinkKind
+    requires { IsRowOf is_link text.now.text given.now line.now }
+    ensures { IsKind (rows_from text.now.text given.now) (row_of text.now.text line.now) result }
 {
     match line.section {
-        Section::Pipes => pipe_kind(text, line, source),
-        Section::Pumps => pump_kind(text, line, source),
-        _ => valve_kind(text, line, source),
+        Section::Pipes => pipe_kind(text, line, given),
+        Section::Pumps => pump_kind(text, line, given),
+        _ => valve_kind(text, line, given),
     }
 }
 
 // The link of a row.
-fn link_of(text: &Lines<'_>, line: &Line, source: &LinkSource<'_>, last: &[Option<Line>]) -> Link
-    requires row { IsRowOf is_link text.now.text source.now line.now }
-    requires statuses { AreStatuses text.now.text (rows_from text.now.text source.now) (length source.now.lines.now)
-        source.now.links.now.names last.now }
-    ensures { IsLink (rows_from text.now.text source.now) (row_of text.now.text line.now) result }
+fn link_of(text: &Lines<'_>, line: &Line, given: &RowsForLinks<'_>, last: &[Option<Line>]) -> Link
+    requires row { IsRowOf is_link text.now.text given.now line.now }
+    requires statuses { AreStatuses text.now.text (rows_from text.now.text given.now) (length given.now.lines.now)
+        given.now.links.now.names last.now }
+    ensures { IsLink (rows_from text.now.text given.now) (row_of text.now.text line.now) result }
 {
     Link {
-        from: number(source.nodes, or_empty(text, line, 1)),
-        to: number(source.nodes, or_empty(text, line, 2)),
-        kind: kind_of(text, line, source),
-        start: start_of(text, line, source, last),
+        from: number(given.nodes, or_empty(text, line, 1)),
+        to: number(given.nodes, or_empty(text, line, 2)),
+        kind: kind_of(text, line, given),
+        start: start_of(text, line, given, last),
     }
 }
 
@@ -77,23 +77,23 @@ fn add(
     text: &Lines<'_>,
     section: Section,
     place: usize,
-    source: &LinkSource<'_>,
+    given: &RowsForLinks<'_>,
     last: &[Option<Line>],
 ) -> Result<(), OutOfMemory>
-    requires within { place < length source.now.lines.now }
-    requires right { IsRightSource text.now.text source.now }
+    requires within { place < length given.now.lines.now }
+    requires right { AreRightRowsForLinks text.now.text given.now }
     requires section { is_link_section section ≡ true }
-    requires statuses { AreStatuses text.now.text (rows_from text.now.text source.now) (length source.now.lines.now)
-        source.now.links.now.names last.now }
+    requires statuses { AreStatuses text.now.text (rows_from text.now.text given.now) (length given.now.lines.now)
+        given.now.links.now.names last.now }
     ensures { (before : List Row)
-        → AreBuilt (rows_from text.now.text source.now) before section place links.old.list
-        → OnOk result (AreBuilt (rows_from text.now.text source.now) before section (place + 1) links.new.list) }
+        → AreBuilt (rows_from text.now.text given.now) before section place links.old.list
+        → OnOk result (AreBuilt (rows_from text.now.text given.now) before section (place + 1) links.new.list) }
 {
-    let line = &source.lines[place];
+    let line = &given.lines[place];
     if number_of(line.section) != number_of(section) {
         return Ok(());
     }
-    links.push(link_of(text, line, source, last))?;
+    links.push(link_of(text, line, given, last))?;
     Ok(())
 }
 
@@ -102,19 +102,19 @@ fn add_section(
     links: &mut hyd_net::List<Link>,
     text: &Lines<'_>,
     section: Section,
-    source: &LinkSource<'_>,
+    given: &RowsForLinks<'_>,
     last: &[Option<Line>],
 ) -> Result<(), OutOfMemory>
-    requires right { IsRightSource text.now.text source.now }
+    requires right { AreRightRowsForLinks text.now.text given.now }
     requires section { is_link_section section ≡ true }
-    requires statuses { AreStatuses text.now.text (rows_from text.now.text source.now) (length source.now.lines.now)
-        source.now.links.now.names last.now }
-    ensures { (before : List Row) → Match (IsLink (rows_from text.now.text source.now)) before links.old.list
-        → OnOk result (Match (IsLink (rows_from text.now.text source.now))
-        (before ++ rows_of section (rows_from text.now.text source.now)) links.new.list) }
+    requires statuses { AreStatuses text.now.text (rows_from text.now.text given.now) (length given.now.lines.now)
+        given.now.links.now.names last.now }
+    ensures { (before : List Row) → Match (IsLink (rows_from text.now.text given.now)) before links.old.list
+        → OnOk result (Match (IsLink (rows_from text.now.text given.now))
+        (before ++ rows_of section (rows_from text.now.text given.now)) links.new.list) }
 {
-    for place in 0..source.lines.len() {
-        add(links, text, section, place, source, last)?;
+    for place in 0..given.lines.len() {
+        add(links, text, section, place, given, last)?;
     }
     Ok(())
 }
@@ -125,16 +125,16 @@ fn add_section(
 pub fn build_links(
     alloc: Global,
     text: &Lines<'_>,
-    source: &LinkSource<'_>,
+    given: &RowsForLinks<'_>,
 ) -> Result<hyd_net::List<Link>, OutOfMemory>
-    requires { IsRightSource text.now.text source.now }
-    ensures { IfOk result (λ links. Match (IsLink (rows_from text.now.text source.now))
-        (numbered_links (rows_from text.now.text source.now)) links.list) }
+    requires { AreRightRowsForLinks text.now.text given.now }
+    ensures { IfOk result (λ links. Match (IsLink (rows_from text.now.text given.now))
+        (numbered_links (rows_from text.now.text given.now)) links.list) }
 {
-    let last = gather_statuses(alloc, text, source.lines, source.links)?;
+    let last = gather_statuses(alloc, text, given.lines, given.links)?;
     let mut links = hyd_net::List::new(alloc);
-    add_section(&mut links, text, Section::Pipes, source, last.as_slice())?;
-    add_section(&mut links, text, Section::Pumps, source, last.as_slice())?;
-    add_section(&mut links, text, Section::Valves, source, last.as_slice())?;
+    add_section(&mut links, text, Section::Pipes, given, last.as_slice())?;
+    add_section(&mut links, text, Section::Pumps, given, last.as_slice())?;
+    add_section(&mut links, text, Section::Valves, given, last.as_slice())?;
     Ok(links)
 }

@@ -5,7 +5,7 @@ ghost use Rattle.std.specs.Prelude.{◌≡◌, List, Some};
 ghost use Rattle.hyd_spec_lines.specs.WordsOfLines.{text_of};
 ghost use Rattle.hyd_spec_lines.specs.Lines.{Row};
 ghost use Rattle.hyd_spec_input.specs.MeaningsAcrossRows.{number_in, pattern_ids, pattern_number as number_of_pattern};
-ghost use Rattle.hyd_build_links.specs.CheckedRows.{HasNumber};
+ghost use Rattle.hyd_build_links.specs.RowsToBuildLinksFrom.{HasNumber};
 
 use hyd_net::Names;
 

@@ -1,18 +1,18 @@
-//! Pipes.
+//! Pipes as their rows make them, with a check valve or without.
 #![tactic(auto)]
 
 ghost use Rattle.std.specs.Prelude.{◌≡◌, List};
 ghost use Rattle.hyd_spec_lines.specs.Lines.{Row, row_of};
 ghost use Rattle.hyd_spec_lines.specs.declared.section.Section.TheVariants.{Pipes};
-ghost use Rattle.hyd_capacities.specs.Ranges.{IsLength, IsDiameter, IsRoughness, IsMinorCoefficient};
+ghost use Rattle.hyd_capacities.specs.FileNumberRanges.{IsLength, IsDiameter, IsRoughness, IsMinorCoefficient};
 ghost use Rattle.hyd_network_rows.specs.Rows.{IsPipeRow};
 ghost use Rattle.hyd_spec_input.specs.CapacitiesOutOfRange.{IsRefusedPipe};
 ghost use Rattle.hyd_spec_input.specs.Project.{IsPipeKind};
-ghost use Rattle.hyd_spec_input.specs.Tables.{is_of};
-ghost use Rattle.hyd_spec_input.specs.RowsTogether as others;
-ghost use Rattle.hyd_build_links.specs.CheckedRows.{IsRowOf, rows_from};
+ghost use Rattle.hyd_spec_input.specs.SectionsAndTables.{is_of};
+ghost use Rattle.hyd_spec_input.specs.FaultsWithOtherRows as others;
+ghost use Rattle.hyd_build_links.specs.RowsToBuildLinksFrom.{IsRowOf, rows_from};
 
-use crate::link_source::LinkSource;
+use crate::rows_to_build_links_from::RowsForLinks;
 use hyd_capacities::pipe_capacity;
 use hyd_lex::{Line, Lines};
 use hyd_net::LinkKind;
@@ -39,12 +39,12 @@ pub(crate) fn pipe_of(pipe: &PipeRow<'_>, us: bool) -> LinkKind
 }
 
 /// What the pipe of a row is.
-pub(crate) fn pipe_kind(text: &Lines<'_>, line: &Line, source: &LinkSource<'_>) -> LinkKind
-    requires { IsRowOf (is_of Pipes) text.now.text source.now line.now }
-    ensures { IsPipeKind (rows_from text.now.text source.now) (row_of text.now.text line.now) result }
+pub(crate) fn pipe_kind(text: &Lines<'_>, line: &Line, given: &RowsForLinks<'_>) -> LinkKind
+    requires { IsRowOf (is_of Pipes) text.now.text given.now line.now }
+    ensures { IsPipeKind (rows_from text.now.text given.now) (row_of text.now.text line.now) result }
 {
     let Ok(pipe) = read_pipe(text, line) else {
         unreachable!()
     };
-    pipe_of(&pipe, source.unit.is_us())
+    pipe_of(&pipe, given.unit.is_us())
 }

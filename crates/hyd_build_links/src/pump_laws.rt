@@ -7,7 +7,7 @@ ghost use Rattle.hyd_num.specs.declared.link_capacities.Origin.TheVariants as or
 ghost use Rattle.hyd_num.specs.CapacityPairs.{IsMade};
 ghost use Rattle.hyd_num.specs.CapacityRange.{IsRefused};
 ghost use Rattle.hyd_net.specs.RoundedFileNumbers.{IsRounded, IsExactly};
-ghost use Rattle.hyd_capacities.specs.Ranges.{IsCurveFlow};
+ghost use Rattle.hyd_capacities.specs.FileNumberRanges.{IsCurveFlow};
 ghost use Rattle.hyd_build_links.specs.Pumps.{ArePumpPoints, IsPumpLaw};
 ghost use Rattle.hyd_curves.specs.Points.{points_in};
 

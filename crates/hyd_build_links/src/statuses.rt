@@ -6,10 +6,10 @@ ghost use Rattle.std.specs.List.{All};
 ghost use Rattle.hyd_spec_lines.specs.Lines.{LiesIn, Row};
 ghost use Rattle.hyd_spec_input.specs.MeaningsAcrossRows.{last_naming};
 ghost use Rattle.hyd_spec_lines.specs.declared.section.Section.TheVariants.{Status};
-ghost use Rattle.hyd_spec_input.specs.Tables.{rows_of};
-ghost use Rattle.hyd_rows_and_tables.specs.FirstWrongRow.{rows_at, row_in};
+ghost use Rattle.hyd_spec_input.specs.SectionsAndTables.{rows_of};
+ghost use Rattle.hyd_rows_and_tables.specs.RowsOfLines.{rows_at, row_in};
 ghost use Rattle.hyd_rows_and_tables.specs.IdTables.{IsEven, AreNone};
-ghost use Rattle.hyd_build_links.specs.CheckedRows.{HasNumber};
+ghost use Rattle.hyd_build_links.specs.RowsToBuildLinksFrom.{HasNumber};
 ghost use Rattle.hyd_build_links.specs.Statuses.{AreStatuses};
 
 use hyd_lex::{Line, Lines};

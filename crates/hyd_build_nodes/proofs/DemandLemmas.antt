@@ -18,24 +18,24 @@ use Rattle.hyd_net.specs.ListView.{ListView}
 use Rattle.hyd_net.specs.NumberRanges.{IsFlow}
 use Rattle.hyd_net.specs.declared.nodes.Demand.{Demand}
 use Rattle.hyd_network_rows.specs.Rows.{IsDemandRow}
-use Rattle.hyd_network_rows.specs.declared.demands_curves_and_statuses.DemandRow.{DemandRow}
+use Rattle.hyd_network_rows.specs.declared.demands_emitters_curves_and_statuses.DemandRow.{DemandRow}
 use Rattle.hyd_spec_input.specs.Columns.{amount, word, or_empty}
 use Rattle.hyd_spec_input.specs.Faults.{NoneIs, IsWrongWithOthers}
-use Rattle.hyd_spec_input.specs.InForce as force
+use Rattle.hyd_spec_input.specs.OptionsAndTimesInForce as force
 use Rattle.hyd_spec_input.specs.MeaningsAcrossRows.{number_in, pattern_ids, demand_of_row}
-use Rattle.hyd_spec_input.specs.Tables.{is_of, rows_of, rows_with, own_id, node_rows}
-use Rattle.hyd_spec_input.specs.RowsTogether as others
-use Rattle.hyd_theorems_on_input.proofs.Faultless.{all_none}
+use Rattle.hyd_spec_input.specs.SectionsAndTables.{is_of, rows_of, rows_with, own_id, node_rows}
+use Rattle.hyd_spec_input.specs.FaultsWithOtherRows as others
+use Rattle.hyd_theorems_on_input.proofs.RowsWithoutFault.{all_none}
 use Rattle.hyd_theorems_on_input.proofs.NodeRanges.{flow_right}
-use Rattle.hyd_rows_and_tables.specs.FirstWrongRow.{rows_at}
+use Rattle.hyd_rows_and_tables.specs.RowsOfLines.{rows_at}
 use Rattle.hyd_rows_and_tables.specs.IdTables.{AreFirsts, AreEmpty}
-use Rattle.hyd_rows_and_tables.proofs.FoundLemmas.{filter_more, filter_same}
-use Rattle.hyd_rows_and_tables.proofs.SectionLemmas.{all_rows}
+use Rattle.hyd_rows_and_tables.proofs.FirstWrongRowLemmas.{filter_more, filter_same}
+use Rattle.hyd_rows_and_tables.proofs.WrongInSectionLemmas.{all_rows}
 use Rattle.hyd_rows_and_tables.proofs.TableLemmas.{even}
 use Rattle.hyd_build_nodes.specs.DemandsAndEmitters.{demand_by, each, IsSetAt, value_of, AreDemands}
 use Rattle.hyd_build_nodes.proofs.RowsWithoutFault.{among}
 use Rattle.hyd_build_nodes.proofs.ReservoirLemmas.{pattern_is}
-use Rattle.hyd_build_nodes.proofs.GatherLemmas.{set_named, default_at, known_there}
+use Rattle.hyd_build_nodes.proofs.ValuesByNameNumber.{set_named, default_at, known_there}
 
 -- ---- lists
 

@@ -14,27 +14,27 @@ use Rattle.hyd_spec_lines.specs.declared.section.Section.TheVariants.{Emitters}
 use Rattle.hyd_net.specs.NumberRanges.{Lies}
 use Rattle.hyd_net.specs.declared.refusal_cause.Cause.TheVariants.{Limit}
 use Rattle.hyd_network_rows.specs.Rows.{IsEmitterRow}
-use Rattle.hyd_network_rows.specs.declared.demands_curves_and_statuses.EmitterRow.{EmitterRow}
+use Rattle.hyd_network_rows.specs.declared.demands_emitters_curves_and_statuses.EmitterRow.{EmitterRow}
 use Rattle.hyd_spec_input.specs.SingleRows.{IsWrongByItself}
 use Rattle.hyd_spec_input.specs.CapacitiesOutOfRange.{IsRefusedEmitter, IsRefusedIn}
 use Rattle.hyd_spec_input.specs.Columns.{amount, word, or_empty, needed, id, up_to, ends, units}
 use Rattle.hyd_spec_input.specs.Faults.{NoneIs, IsWrongWithOthers}
-use Rattle.hyd_spec_input.specs.InForce as force
-use Rattle.hyd_spec_input.specs.InForce.{last_where}
+use Rattle.hyd_spec_input.specs.OptionsAndTimesInForce as force
+use Rattle.hyd_spec_input.specs.OptionsAndTimesInForce.{last_where}
 use Rattle.hyd_spec_input.specs.MeaningsAcrossRows.{number_in, last_naming, coefficient}
 use Rattle.hyd_spec_input.specs.Project.{IsEmitter}
-use Rattle.hyd_spec_input.specs.Tables.{is_of, rows_of, own_id, node_rows}
-use Rattle.hyd_spec_input.specs.RowsTogether as others
-use Rattle.hyd_theorems_on_input.proofs.Faultless.{all_none, needed_none, within, section_is, none_from}
-use Rattle.hyd_rows_and_tables.specs.FirstWrongRow.{rows_at}
+use Rattle.hyd_spec_input.specs.SectionsAndTables.{is_of, rows_of, own_id, node_rows}
+use Rattle.hyd_spec_input.specs.FaultsWithOtherRows as others
+use Rattle.hyd_theorems_on_input.proofs.RowsWithoutFault.{all_none, needed_none, within, section_is, none_from}
+use Rattle.hyd_rows_and_tables.specs.RowsOfLines.{rows_at}
 use Rattle.hyd_rows_and_tables.specs.IdTables.{AreFirsts, AreNone}
-use Rattle.hyd_rows_and_tables.proofs.FoundLemmas.{filter_more, filter_same}
-use Rattle.hyd_rows_and_tables.proofs.SectionLemmas.{all_rows}
+use Rattle.hyd_rows_and_tables.proofs.FirstWrongRowLemmas.{filter_more, filter_same}
+use Rattle.hyd_rows_and_tables.proofs.WrongInSectionLemmas.{all_rows}
 use Rattle.hyd_rows_and_tables.proofs.TableLemmas.{even}
 use Rattle.hyd_build_nodes.specs.DemandsAndEmitters.{IsSetAt, value_of, AreEmitters}
-use Rattle.hyd_theorems_on_input.proofs.InForce.{last_where_push}
+use Rattle.hyd_theorems_on_input.proofs.OptionsAndTimesInForce.{last_where_push}
 use Rattle.hyd_build_nodes.proofs.RowsWithoutFault.{alone, among}
-use Rattle.hyd_build_nodes.proofs.GatherLemmas.{set_named, default_at, known_there}
+use Rattle.hyd_build_nodes.proofs.ValuesByNameNumber.{set_named, default_at, known_there}
 
 -- ---- the last row that names a junction, one row more
 

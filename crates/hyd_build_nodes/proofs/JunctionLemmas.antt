@@ -16,17 +16,17 @@ use Rattle.hyd_net.specs.ListView.{ListView}
 use Rattle.hyd_net.specs.declared.nodes.Demand.{Demand}
 use Rattle.hyd_net.specs.declared.nodes.Junction.{Junction}
 use Rattle.hyd_network_rows.specs.Rows.{IsJunctionRow}
-use Rattle.hyd_network_rows.specs.declared.nodes.JunctionRow.{JunctionRow}
+use Rattle.hyd_network_rows.specs.declared.junctions_and_reservoirs.JunctionRow.{JunctionRow}
 use Rattle.hyd_spec_input.specs.Columns.{amount, amount_or, word, or_empty}
 use Rattle.hyd_spec_input.specs.Faults.{NoneIs, IsWrongWithOthers}
-use Rattle.hyd_spec_input.specs.InForce as force
+use Rattle.hyd_spec_input.specs.OptionsAndTimesInForce as force
 use Rattle.hyd_spec_input.specs.MeaningsAcrossRows.{pattern_ids, or_own, own_demand, emitter_of, demand_of_row}
 use Rattle.hyd_spec_input.specs.MeaningsAcrossRows.{last_naming}
 use Rattle.hyd_spec_input.specs.MeaningsAcrossRows.{coefficient}
 use Rattle.hyd_spec_input.specs.Project.{Match, IsJunction, IsEmitter}
-use Rattle.hyd_spec_input.specs.Tables.{is_of, is_node, rows_of, rows_with, own_id, node_rows}
-use Rattle.hyd_spec_input.specs.RowsTogether as others
-use Rattle.hyd_theorems_on_input.proofs.Faultless.{all_none}
+use Rattle.hyd_spec_input.specs.SectionsAndTables.{is_of, is_node, rows_of, rows_with, own_id, node_rows}
+use Rattle.hyd_spec_input.specs.FaultsWithOtherRows as others
+use Rattle.hyd_theorems_on_input.proofs.RowsWithoutFault.{all_none}
 use Rattle.hyd_theorems_on_input.proofs.NodeRanges.{head_right, flow_right}
 use Rattle.hyd_rows_and_tables.specs.IdTables.{AreFirsts}
 use Rattle.hyd_build_nodes.specs.ReservoirsAndTanks.{IsSmall}
@@ -35,7 +35,7 @@ use Rattle.hyd_build_nodes.specs.WholeJunctions.{IsJunctionBy, AreParts}
 use Rattle.hyd_build_nodes.specs.declared.junctions.Parts.{Parts}
 use Rattle.hyd_build_nodes.proofs.RowsWithoutFault.{among, small_head, built_more}
 use Rattle.hyd_build_nodes.proofs.ReservoirLemmas.{pattern_is}
-use Rattle.hyd_build_nodes.proofs.GatherLemmas.{own_there}
+use Rattle.hyd_build_nodes.proofs.ValuesByNameNumber.{own_there}
 use Rattle.hyd_build_nodes.proofs.DemandLemmas.{small_flow, demands_in}
 
 -- ---- a row of junctions

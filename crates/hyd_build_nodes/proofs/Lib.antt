@@ -1,7 +1,7 @@
 pub mod RowsWithoutFault
 pub mod ReservoirLemmas
 pub mod TankLemmas
-pub mod GatherLemmas
+pub mod ValuesByNameNumber
 pub mod DemandLemmas
 pub mod EmitterLemmas
 pub mod JunctionLemmas

@@ -8,12 +8,12 @@ use Rattle.hyd_spec_lines.specs.declared.section.Section.TheVariants.{Reservoirs
 use Rattle.hyd_net.specs.declared.nodes.Reservoir.{Reservoir}
 use Rattle.hyd_spec_input.specs.Columns.{amount}
 use Rattle.hyd_spec_input.specs.Faults.{NoneIs, IsWrongWithOthers}
-use Rattle.hyd_spec_input.specs.InForce as force
+use Rattle.hyd_spec_input.specs.OptionsAndTimesInForce as force
 use Rattle.hyd_spec_input.specs.MeaningsAcrossRows.{pattern_ids, pattern_number}
 use Rattle.hyd_spec_input.specs.Project.{IsReservoir}
-use Rattle.hyd_spec_input.specs.Tables.{is_of}
-use Rattle.hyd_spec_input.specs.RowsTogether as others
-use Rattle.hyd_theorems_on_input.proofs.Faultless.{all_none}
+use Rattle.hyd_spec_input.specs.SectionsAndTables.{is_of}
+use Rattle.hyd_spec_input.specs.FaultsWithOtherRows as others
+use Rattle.hyd_theorems_on_input.proofs.RowsWithoutFault.{all_none}
 use Rattle.hyd_theorems_on_input.proofs.NodeRanges.{head_right}
 use Rattle.hyd_build_nodes.specs.ReservoirsAndTanks.{number_of, IsReservoirOf}
 use Rattle.hyd_build_nodes.proofs.RowsWithoutFault.{among, small_head}

@@ -11,13 +11,13 @@ use Rattle.hyd_net.specs.NumberRanges.{IsHead}
 use Rattle.hyd_spec_input.specs.SingleRows as itself
 use Rattle.hyd_spec_input.specs.SingleRows.{IsWrongByItself}
 use Rattle.hyd_spec_input.specs.Faults.{NoneIs, IsWrongWithOthers}
-use Rattle.hyd_spec_input.specs.Tables.{is_of, rows_of, words_of}
-use Rattle.hyd_spec_input.specs.RowsTogether as others
+use Rattle.hyd_spec_input.specs.SectionsAndTables.{is_of, rows_of, words_of}
+use Rattle.hyd_spec_input.specs.FaultsWithOtherRows as others
 use Rattle.hyd_spec_input.specs.Project.{Match}
-use Rattle.hyd_theorems_on_input.proofs.Faultless.{section_is, none_from}
-use Rattle.hyd_rows_and_tables.specs.FirstWrongRow.{rows_at}
-use Rattle.hyd_rows_and_tables.proofs.FoundLemmas.{filter_more, filter_same}
-use Rattle.hyd_rows_and_tables.proofs.SectionLemmas.{all_rows}
+use Rattle.hyd_theorems_on_input.proofs.RowsWithoutFault.{section_is, none_from}
+use Rattle.hyd_rows_and_tables.specs.RowsOfLines.{rows_at}
+use Rattle.hyd_rows_and_tables.proofs.FirstWrongRowLemmas.{filter_more, filter_same}
+use Rattle.hyd_rows_and_tables.proofs.WrongInSectionLemmas.{all_rows}
 use Rattle.hyd_theorems_on_input.proofs.MatchedLists.{match_push}
 
 -- ---- rows

@@ -14,15 +14,15 @@ use Rattle.hyd_net.specs.declared.nodes.Tank.{Tank}
 use Rattle.hyd_spec_input.specs.SingleRows.{IsWrongByItself}
 use Rattle.hyd_spec_input.specs.Columns.{needed, optional, ends, id, number, not_negative, one_of, word, amount, units}
 use Rattle.hyd_spec_input.specs.Faults.{NoneIs, IsWrongWithOthers}
-use Rattle.hyd_spec_input.specs.InForce as force
+use Rattle.hyd_spec_input.specs.OptionsAndTimesInForce as force
 use Rattle.hyd_spec_input.specs.MeaningsAcrossRows.{shape_names}
-use Rattle.hyd_spec_input.specs.NetworkRows as form
+use Rattle.hyd_spec_input.specs.NodeAndLinkRows as form
 use Rattle.hyd_spec_input.specs.Project.{Match, IsTank, shape_number}
-use Rattle.hyd_spec_input.specs.Tables.{is_of, rows_of}
-use Rattle.hyd_spec_input.specs.RowsTogether as others
-use Rattle.hyd_spec_input.specs.RowsTogether.{us}
+use Rattle.hyd_spec_input.specs.SectionsAndTables.{is_of, rows_of}
+use Rattle.hyd_spec_input.specs.FaultsWithOtherRows as others
+use Rattle.hyd_spec_input.specs.FaultsWithOtherRows.{us}
 use Rattle.hyd_lemmas.proofs.BooleanTests.{le_z-yes}
-use Rattle.hyd_theorems_on_input.proofs.Faultless.{all_none, needed_none, in_range, within}
+use Rattle.hyd_theorems_on_input.proofs.RowsWithoutFault.{all_none, needed_none, in_range, within}
 use Rattle.hyd_theorems_on_input.proofs.NodeRanges.{head_right, head_rises, head_sum}
 use Rattle.hyd_build_nodes.specs.ReservoirsAndTanks.{number_of, AreSmall, IsTankOf, HasTankMore}
 use Rattle.hyd_theorems_on_input.proofs.CurvePoints.{no_head}

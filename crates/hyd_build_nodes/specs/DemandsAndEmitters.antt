@@ -7,10 +7,10 @@ use Rattle.hyd_spec_lines.specs.Lines.{Row}
 use Rattle.hyd_spec_lines.specs.declared.section.Section.TheVariants.{Demands, Emitters}
 use Rattle.hyd_net.specs.ListView.{ListView}
 use Rattle.hyd_net.specs.declared.nodes.Demand.{Demand}
-use Rattle.hyd_spec_input.specs.InForce as force
+use Rattle.hyd_spec_input.specs.OptionsAndTimesInForce as force
 use Rattle.hyd_spec_input.specs.MeaningsAcrossRows.{number_in, demand_of_row, last_naming, coefficient}
 use Rattle.hyd_spec_input.specs.Project.{IsEmitter}
-use Rattle.hyd_spec_input.specs.Tables.{rows_of, rows_with}
+use Rattle.hyd_spec_input.specs.SectionsAndTables.{rows_of, rows_with}
 use Rattle.hyd_build_nodes.specs.ReservoirsAndTanks.{number_of}
 
 -- a demand of a base and a pattern's name

@@ -1,4 +1,4 @@
--- Nodes as their rows make them.
+-- Reservoirs and tanks as their rows make them, and the numbers of names.
 use Rattle.std.specs.Prelude.{◌≡◌, ℕ, ◌≤◌, ◌*◌, ◌^◌, List, [], ◌∷◌, ◌++◌, Option, Some, None, slice_get, ℤ, pos, ◌≤ℤ◌}
 use Rattle.std.specs.Prelude.{unsigned_abs}
 use Rattle.hyd_num.specs.FileQuantity.{is_us_unit, head_ticks}

@@ -7,10 +7,10 @@ use Rattle.hyd_spec_lines.specs.WordsOfLines.{text_of}
 use Rattle.hyd_spec_lines.specs.Lines.{Row}
 use Rattle.hyd_net.specs.declared.nodes.Demand.{Demand}
 use Rattle.hyd_net.specs.declared.nodes.Junction.{Junction}
-use Rattle.hyd_network_rows.specs.declared.nodes.JunctionRow.{JunctionRow}
-use Rattle.hyd_spec_input.specs.InForce as force
+use Rattle.hyd_network_rows.specs.declared.junctions_and_reservoirs.JunctionRow.{JunctionRow}
+use Rattle.hyd_spec_input.specs.OptionsAndTimesInForce as force
 use Rattle.hyd_spec_input.specs.MeaningsAcrossRows.{pattern_ids, or_own}
-use Rattle.hyd_spec_input.specs.Tables.{node_rows}
+use Rattle.hyd_spec_input.specs.SectionsAndTables.{node_rows}
 use Rattle.hyd_rows_and_tables.specs.IdTables.{IsTable}
 use Rattle.hyd_build_nodes.specs.DemandsAndEmitters.{demand_by, each, AreDemands, AreEmitters}
 use Rattle.hyd_build_nodes.specs.declared.junctions.Parts.{Parts}

@@ -7,10 +7,10 @@ ghost use Rattle.hyd_spec_lines.specs.Lines.{LiesIn};
 ghost use Rattle.hyd_spec_input.specs.SingleRows.{IsWrongByItself};
 ghost use Rattle.hyd_spec_input.specs.CapacitiesOutOfRange.{IsRefusedEmitter};
 ghost use Rattle.hyd_spec_input.specs.Faults.{NoneIs, IsWrongWithOthers};
-ghost use Rattle.hyd_spec_input.specs.InForce as force;
+ghost use Rattle.hyd_spec_input.specs.OptionsAndTimesInForce as force;
 ghost use Rattle.hyd_spec_input.specs.Project.{IsEmitter};
-ghost use Rattle.hyd_spec_input.specs.Tables.{node_rows};
-ghost use Rattle.hyd_rows_and_tables.specs.FirstWrongRow.{rows_at};
+ghost use Rattle.hyd_spec_input.specs.SectionsAndTables.{node_rows};
+ghost use Rattle.hyd_rows_and_tables.specs.RowsOfLines.{rows_at};
 ghost use Rattle.hyd_rows_and_tables.specs.IdTables.{IsTable, AreNone};
 ghost use Rattle.hyd_build_nodes.specs.DemandsAndEmitters.{AreEmitters};
 

@@ -1,22 +1,20 @@
-//! Junctions.
+//! Junctions, each with its demands and its emitter.
 #![tactic(auto)]
 
-ghost use Rattle.std.specs.Prelude.{◌≡◌, ◌<◌, ◌≤◌, ◌+◌, ◌*◌, length, take, unsigned_abs, IfOk, OnOk};
+ghost use Rattle.std.specs.Prelude.{◌≡◌, ◌<◌, ◌≤◌, ◌+◌, length, take, unsigned_abs, IfOk, OnOk};
 ghost use Rattle.std.specs.List.{All};
 ghost use Rattle.hyd_num.specs.FileQuantity as quantity;
-ghost use Rattle.hyd_num.specs.FileQuantity.{is_us_unit};
 ghost use Rattle.hyd_net.specs.NumberRanges.{flow_limit};
-ghost use Rattle.hyd_spec_lines.specs.WordsOfLines.{text_of};
 ghost use Rattle.hyd_spec_lines.specs.Lines.{LiesIn};
 ghost use Rattle.hyd_spec_lines.specs.declared.section.Section.TheVariants.{Junctions};
 ghost use Rattle.hyd_spec_input.specs.SingleRows.{IsWrongByItself};
 ghost use Rattle.hyd_spec_input.specs.Faults.{NoneIs, IsWrongWithOthers};
-ghost use Rattle.hyd_spec_input.specs.InForce as force;
+ghost use Rattle.hyd_spec_input.specs.OptionsAndTimesInForce as force;
 ghost use Rattle.hyd_spec_input.specs.MeaningsAcrossRows as across;
 ghost use Rattle.hyd_spec_input.specs.MeaningsAcrossRows.{pattern_ids};
 ghost use Rattle.hyd_spec_input.specs.Project.{Match, IsJunction};
-ghost use Rattle.hyd_spec_input.specs.Tables.{rows_of, node_rows};
-ghost use Rattle.hyd_rows_and_tables.specs.FirstWrongRow.{rows_at};
+ghost use Rattle.hyd_spec_input.specs.SectionsAndTables.{rows_of, node_rows};
+ghost use Rattle.hyd_rows_and_tables.specs.RowsOfLines.{rows_at};
 ghost use Rattle.hyd_rows_and_tables.specs.IdTables.{IsTable};
 ghost use Rattle.hyd_build_nodes.specs.ReservoirsAndTanks.{IsSmall};
 ghost use Rattle.hyd_build_nodes.specs.DemandsAndEmitters as gathered;
@@ -24,7 +22,7 @@ ghost use Rattle.hyd_build_nodes.specs.WholeJunctions.{AreParts, IsJunctionBy};
 
 use crate::demands::{demand_by, gather_demands};
 use crate::emitters::gather_emitters;
-use crate::quantities::head_of;
+use crate::name_numbers_and_ticks::head_of;
 use hyd_lex::{Line, Lines};
 use hyd_net::{Demand, Junction, List, Names, OutOfMemory};
 use hyd_network_rows::{JunctionRow, read_junction};

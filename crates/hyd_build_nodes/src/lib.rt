@@ -5,7 +5,7 @@
 mod demands;
 mod emitters;
 mod junctions;
-mod quantities;
+mod name_numbers_and_ticks;
 mod reservoirs;
 mod tanks;
 

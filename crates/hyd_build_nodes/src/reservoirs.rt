@@ -1,4 +1,4 @@
-//! Reservoirs.
+//! Reservoirs, each with its head and its pattern.
 #![tactic(auto)]
 
 ghost use Rattle.std.specs.Prelude.{◌≡◌, ◌<◌, ◌≤◌, ◌+◌, ◌*◌, ◌==◌, None, length, take, unsigned_abs, IfOk, OnOk};
@@ -6,21 +6,21 @@ ghost use Rattle.std.specs.List.{All};
 ghost use Rattle.hyd_num.specs.FileQuantity as quantity;
 ghost use Rattle.hyd_num.specs.FileQuantity.{is_us_unit};
 ghost use Rattle.hyd_net.specs.NumberRanges.{head_limit};
-ghost use Rattle.hyd_spec_lines.specs.Lines.{LiesIn, row_of};
+ghost use Rattle.hyd_spec_lines.specs.Lines.{LiesIn};
 ghost use Rattle.hyd_spec_lines.specs.declared.section.Section.TheVariants.{Reservoirs};
 ghost use Rattle.hyd_row_words.specs.FaultOrValue.{words_at};
 ghost use Rattle.hyd_spec_input.specs.SingleRows.{IsWrongByItself};
 ghost use Rattle.hyd_spec_input.specs.Columns.{amount};
 ghost use Rattle.hyd_spec_input.specs.Faults.{NoneIs, IsWrongWithOthers};
-ghost use Rattle.hyd_spec_input.specs.InForce as force;
+ghost use Rattle.hyd_spec_input.specs.OptionsAndTimesInForce as force;
 ghost use Rattle.hyd_spec_input.specs.MeaningsAcrossRows.{pattern_ids};
-ghost use Rattle.hyd_spec_input.specs.NetworkRows as row;
+ghost use Rattle.hyd_spec_input.specs.NodeAndLinkRows as row;
 ghost use Rattle.hyd_spec_input.specs.Project.{Match, IsReservoir};
-ghost use Rattle.hyd_spec_input.specs.Tables.{place as section_place, rows_of};
-ghost use Rattle.hyd_rows_and_tables.specs.FirstWrongRow.{rows_at};
+ghost use Rattle.hyd_spec_input.specs.SectionsAndTables.{place as section_place, rows_of};
+ghost use Rattle.hyd_rows_and_tables.specs.RowsOfLines.{rows_at};
 ghost use Rattle.hyd_build_nodes.specs.ReservoirsAndTanks.{IsReservoirOf};
 
-use crate::quantities::{head_of, number_named};
+use crate::name_numbers_and_ticks::{head_of, number_named};
 use hyd_lex::{Line, Lines, Section};
 use hyd_net::{List, Names, OutOfMemory, Reservoir};
 use hyd_network_rows::read_reservoir;

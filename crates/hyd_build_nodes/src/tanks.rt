@@ -1,4 +1,4 @@
-//! Tanks.
+//! Tanks, each with its levels and its area or its volume curve.
 #![tactic(auto)]
 
 ghost use Rattle.std.specs.Prelude.{◌≡◌, ◌<◌, ◌≤◌, ◌+◌, ◌*◌, ◌/◌, ◌^◌, ◌≤ℤ◌, pos, ◌*ℤ◌, None, length, take};
@@ -6,20 +6,20 @@ ghost use Rattle.std.specs.Prelude.{unsigned_abs, IfOk, OnOk};
 ghost use Rattle.std.specs.List.{All};
 ghost use Rattle.hyd_num.specs.FileQuantity.{is_us_unit, head_ticks};
 ghost use Rattle.hyd_num.specs.QuotientsAndRoots.{IsFloor};
-ghost use Rattle.hyd_spec_lines.specs.Lines.{LiesIn, row_of};
+ghost use Rattle.hyd_spec_lines.specs.Lines.{LiesIn};
 ghost use Rattle.hyd_spec_lines.specs.declared.section.Section.TheVariants.{Tanks};
 ghost use Rattle.hyd_row_words.specs.FaultOrValue.{words_at};
 ghost use Rattle.hyd_spec_input.specs.SingleRows.{IsWrongByItself};
 ghost use Rattle.hyd_spec_input.specs.Faults.{NoneIs, IsWrongWithOthers};
-ghost use Rattle.hyd_spec_input.specs.InForce as force;
+ghost use Rattle.hyd_spec_input.specs.OptionsAndTimesInForce as force;
 ghost use Rattle.hyd_spec_input.specs.MeaningsAcrossRows.{shape_names};
-ghost use Rattle.hyd_spec_input.specs.NetworkRows as row;
+ghost use Rattle.hyd_spec_input.specs.NodeAndLinkRows as row;
 ghost use Rattle.hyd_spec_input.specs.Project.{Match, IsTank};
-ghost use Rattle.hyd_spec_input.specs.Tables.{rows_of};
-ghost use Rattle.hyd_rows_and_tables.specs.FirstWrongRow.{rows_at};
+ghost use Rattle.hyd_spec_input.specs.SectionsAndTables.{rows_of};
+ghost use Rattle.hyd_rows_and_tables.specs.RowsOfLines.{rows_at};
 ghost use Rattle.hyd_build_nodes.specs.ReservoirsAndTanks.{AreSmall, HasTankMore, IsSmall, IsTankBy};
 
-use crate::quantities::{head_of, number_named};
+use crate::name_numbers_and_ticks::{head_of, number_named};
 use hyd_lex::{Line, Lines};
 use hyd_net::{List, Names, OutOfMemory, Tank};
 use hyd_network_rows::{TankRow, read_tank};

@@ -1,11 +1,10 @@
-//! Numbers of a file as pairs.
+//! Numbers of a file as pairs, and the capacity of what loses so many feet.
 #![tactic(auto)]
 
 ghost use Rattle.std.specs.Prelude.{◌≡◌, ◌≤◌, ◌<◌, ◌^◌, pos, ◌≤ℤ◌, ◌<ℤ◌};
 ghost use Rattle.hyd_num.specs.FileQuantity.{billionths, feet, feet_across, ordinary};
 ghost use Rattle.hyd_num.specs.Pairs.{pair_reach};
-ghost use Rattle.hyd_num.specs.CapacityPairs.{IsPairOf, IsUnitPair, IsUnitOver};
-ghost use Rattle.hyd_capacities.specs.Ranges.{IsPositiveUpTo};
+ghost use Rattle.hyd_num.specs.CapacityPairs.{IsPairOf, IsUnitOver};
 
 use hyd_num::{Decimal, Pair, TEN_THOUSANDTHS_OF_METRE_IN_FOOT, div, ratio};
 

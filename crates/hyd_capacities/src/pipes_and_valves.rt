@@ -2,15 +2,16 @@
 //! Analysis Algorithms).
 #![tactic(auto)]
 
-ghost use Rattle.std.specs.Prelude.{◌≡◌, ◌≤◌, ◌<◌, ◌^◌, pos, ◌≤ℤ◌, ◌<ℤ◌, IfOk, OnOk, OnErr};
+ghost use Rattle.std.specs.Prelude.{◌≡◌, ◌≤◌, ◌<◌, ◌^◌, pos, ◌<ℤ◌, IfOk, OnOk, OnErr};
 ghost use Rattle.hyd_num.specs.Pairs.{pair_reach};
 ghost use Rattle.hyd_num.specs.CapacityPairs.{IsMinorPair, IsFrictionPair, IsMade};
 ghost use Rattle.hyd_spec.specs.CapacityEnclosure.{IsEnclosure, IsSharp};
-ghost use Rattle.hyd_capacities.specs.Ranges.{IsLength, IsDiameter, IsRoughness, IsMinorCoefficient, IsCoefficient};
+ghost use Rattle.hyd_capacities.specs.FileNumberRanges.{IsLength, IsDiameter, IsRoughness, IsMinorCoefficient};
+ghost use Rattle.hyd_capacities.specs.FileNumberRanges.{IsCoefficient};
 ghost use Rattle.hyd_num.specs.CapacityRange.{IsRefused};
 
+use crate::capacity_range::{CapRange, capacity};
 use crate::file_numbers::{as_pair, diameter_in_feet, length_in_feet, unit_over};
-use crate::range::{CapRange, capacity};
 use hyd_num::{Capacity, Decimal, Origin, Pair, add, div, mul, pow, ratio, root533};
 
 /// The capacity of a valve that is fully open, or throttled to the coefficient `k`: it loses

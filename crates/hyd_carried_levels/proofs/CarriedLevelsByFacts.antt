@@ -10,9 +10,9 @@ use Rattle.hyd_spec_certificates.specs.RecordAndStanding.{Record, Standing}
 use Rattle.hyd_spec_certificates.specs.Stocks.{Stocks, carried_levels}
 use Rattle.hyd_spec_certificates.specs.Decided.{stocks_of_tank, inflow_of_tank, carried_at}
 use Rattle.hyd_period_facts.specs.declared.facts.Facts.{Facts}
-use Rattle.hyd_watched_levels.specs.FactsBeforeEnd.{AreStarted, inflow_in}
+use Rattle.hyd_period_facts.specs.FactsBeforeEnd.{AreStarted, inflow_in}
 use Rattle.hyd_lemmas.proofs.ListsOptionsAndResults.{same_from}
-use Rattle.hyd_watched_levels.proofs.FirstSecondsByFacts.{stocks_are, inflow_is}
+use Rattle.hyd_period_facts.proofs.StocksAndInflowsByFacts.{stocks_are, inflow_is}
 use Rattle.hyd_carried_levels.specs.Carried.{carried_in}
 
 at_first : (k : ℕ) → 0 + k ≡ k

@@ -6,7 +6,7 @@ use Rattle.hyd_spec.specs.Tank.{walls_of}
 use Rattle.hyd_spec_certificates.specs.Interval.{Interval}
 use Rattle.hyd_spec_certificates.specs.Stocks.{carried_levels}
 use Rattle.hyd_period_facts.specs.declared.facts.Facts.{Facts}
-use Rattle.hyd_watched_levels.specs.FactsBeforeEnd.{stocks_in, inflow_in}
+use Rattle.hyd_period_facts.specs.FactsBeforeEnd.{stocks_in, inflow_in}
 
 -- the levels of a tank some seconds after the start of the period of some facts
 abbrev pub carried_in : Project → Facts → ℕ → ℕ → Tank → Interval

@@ -5,17 +5,16 @@ ghost use Rattle.std.specs.Prelude.{◌≡◌, ◌<◌, ◌≤◌, ◌+◌, ◌^
 ghost use Rattle.hyd_net.specs.Sound.{IsSound};
 ghost use Rattle.hyd_spec.specs.ProgramTypes.{Tank};
 ghost use Rattle.hyd_spec.specs.NodeNumbers.{tank_count};
-ghost use Rattle.hyd_spec_certificates.specs.Spans.{levels_of};
+ghost use Rattle.hyd_spec_certificates.specs.SpansAsIntervals.{levels_of};
 ghost use Rattle.hyd_spec_certificates.specs.PeriodNetwork.{Grid};
 ghost use Rattle.hyd_spec_certificates.specs.RecordAndStanding.{Record, Standing};
 ghost use Rattle.hyd_spec_certificates.specs.Decided.{carried_at};
-ghost use Rattle.hyd_watched_levels.specs.FactsBeforeEnd.{HaveTanks, AreStarted};
+ghost use Rattle.hyd_period_facts.specs.FactsBeforeEnd.{HaveTanks, AreStarted};
 ghost use Rattle.hyd_carried_levels.specs.Carried.{carried_in};
 
 use hyd_net::{List, Project};
-use hyd_period_facts::{Facts, add_level};
+use hyd_period_facts::{Facts, add_level, inflow_at, stock_at};
 use hyd_spec_certificates::LevelSpan;
-use hyd_watched_levels::{inflow_at, stock_at};
 
 // The carried levels of one tank.
 fn carried_of(project: &Project, facts: &Facts, tank: u32, seconds: u32) -> LevelSpan

@@ -16,10 +16,10 @@ use Rattle.hyd_net.specs.declared.refusal_cause.Cause.{Cause}
 use Rattle.hyd_net.specs.declared.refusal_cause.Cause.TheVariants.{Limit}
 use Rattle.hyd_spec_input.specs.Keywords.{flow_unit, option_word, time_word, link_word, node_word, object_word}
 use Rattle.hyd_spec_input.specs.Keywords.{attribute_word, relation_word, rule_word}
-use Rattle.hyd_spec_input.specs.Moments.{unit_seconds}
+use Rattle.hyd_spec_input.specs.TimesAndClockTimes.{unit_seconds}
 use Rattle.hyd_spec_input.specs.SingleRows as itself
 use Rattle.hyd_spec_input.specs.SingleRows.{IsWrongByItself}
-use Rattle.hyd_spec_input.specs.RowsTogether as others
+use Rattle.hyd_spec_input.specs.FaultsWithOtherRows as others
 use Rattle.hyd_spec_input.specs.CapacitiesOutOfRange.{IsRefusedEmitter, IsRefusedRow}
 use Rattle.hyd_spec_input.specs.Faults.{IsWrongWithOthers, NoneIs, IsFirst, IsFault}
 use Rattle.hyd_cases_of_definitions.specs.Input.{great_emitter}

@@ -6,7 +6,7 @@ use Rattle.hyd_spec_lines.specs.Lines.{Row, items_of, rows_in, fault_in}
 use Rattle.hyd_spec_lines.specs.declared.fault.LexFault.{LexFault}
 use Rattle.hyd_spec_lines.specs.Headings.{either}
 use Rattle.hyd_spec_input.specs.SingleRows as itself
-use Rattle.hyd_spec_input.specs.RowsTogether as others
+use Rattle.hyd_spec_input.specs.FaultsWithOtherRows as others
 use Rattle.hyd_spec_input.specs.Faults.{line_cause, lack}
 use Rattle.hyd_net.specs.declared.refusal_cause.Cause.{Cause}
 

@@ -5,8 +5,8 @@ use Rattle.hyd_spec_lines.specs.declared.section.Section.TheVariants.{Junctions,
 use Rattle.hyd_spec_input.specs.Columns.{amount}
 use Rattle.hyd_spec_input.specs.Curves.{Drop, drop_of}
 use Rattle.hyd_spec_input.specs.MeaningsAcrossRows.{emitter_of}
-use Rattle.hyd_spec_input.specs.NetworkRows.{pipe_minor, valve_minor}
-use Rattle.hyd_spec_input.specs.Tables.{rows_of, curve_named}
+use Rattle.hyd_spec_input.specs.NodeAndLinkRows.{pipe_minor, valve_minor}
+use Rattle.hyd_spec_input.specs.SectionsAndTables.{rows_of, curve_named}
 use Rattle.hyd_cases_of_definitions.specs.Input.{front}
 
 -- three pipes, two pumps, two valves and two emitters at one junction

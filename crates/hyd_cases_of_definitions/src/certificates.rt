@@ -1,7 +1,7 @@
 //! Certificates: the tight vectors pass, and a tick less (UPPER) or more (LOWER) at any junction doesn't.
 #![tactic(auto)]
 
-ghost use Rattle.std.specs.Prelude.{◌≡◌, pos, ℤ, List, [], ◌∷◌};
+ghost use Rattle.std.specs.Prelude.{pos, ℤ, List, [], ◌∷◌};
 ghost use Rattle.hyd_spec.specs.ProgramTypes.{Capacity};
 ghost use Rattle.hyd_spec_certificates.specs.declared.Problem.TheVariants.{Main, Pinned};
 ghost use Rattle.hyd_spec_certificates.specs.declared.Side.TheVariants.{Upper, Lower};

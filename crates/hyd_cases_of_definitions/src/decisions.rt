@@ -2,7 +2,7 @@
 #![tactic(auto)]
 
 ghost use Rattle.std.specs.Prelude.{◌≡◌, pos, neg_ℤ, [], ◌∷◌, map, length, ℤ};
-ghost use Rattle.hyd_num.specs.declared.decimals.Span.{Span};
+ghost use Rattle.hyd_num.specs.declared.spans.Span.{Span};
 ghost use Rattle.hyd_spec.specs.ProgramTypes.{Project, Decimal, Rule, And, Or, Less, NotMore, More, NotLess, Head};
 ghost use Rattle.hyd_spec.specs.ProgramTypes.{Level};
 ghost use Rattle.hyd_spec.specs.ProgramTypes.{Flow, Amount};

@@ -2,7 +2,7 @@
 #![tactic(auto)]
 
 ghost use Rattle.std.specs.Prelude.{◌≡◌, ℕ, pos, neg_ℤ, [], ◌∷◌, map, length, Option, true, false};
-ghost use Rattle.hyd_num.specs.declared.decimals.Span.{Span};
+ghost use Rattle.hyd_num.specs.declared.spans.Span.{Span};
 ghost use Rattle.hyd_spec.specs.ProgramTypes.{Project, Decimal, Tank, Origin, Cmd};
 ghost use Rattle.hyd_spec.specs.ProgramTypes.{PipeLink, CheckPipe, PumpLink, Tcv, Fcv, Quadratic, Linear, FourThirds};
 ghost use Rattle.hyd_spec.specs.ProgramTypes.{Open};

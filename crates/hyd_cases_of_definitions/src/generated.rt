@@ -1,7 +1,7 @@
 //! Texts of generated networks.
 #![tactic(auto)]
 
-ghost use Rattle.std.specs.Prelude.{◌≡◌, [], ◌∷◌, map, length, codes};
+ghost use Rattle.std.specs.Prelude.{◌≡◌, [], ◌∷◌, map, codes};
 ghost use Rattle.std.specs.List.{flat_map};
 ghost use Rattle.hyd_spec_reports.specs.CertificateText.{line};
 ghost use Rattle.hyd_spec_generated.specs.Sequence.{drawn};

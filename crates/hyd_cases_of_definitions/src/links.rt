@@ -3,7 +3,7 @@
 #![tactic(auto)]
 
 ghost use Rattle.std.specs.Prelude.{◌≡◌, ℕ, pos, neg_ℤ, true, false, [], ◌∷◌, map, length, Option};
-ghost use Rattle.hyd_num.specs.declared.decimals.Span.{Span};
+ghost use Rattle.hyd_num.specs.declared.spans.Span.{Span};
 ghost use Rattle.hyd_spec.specs.ProgramTypes.{Project, Decimal, Capacity, PipeLink, CheckPipe, PumpLink, Tcv, Fcv};
 ghost use Rattle.hyd_spec.specs.ProgramTypes.{Quadratic};
 ghost use Rattle.hyd_spec.specs.ProgramTypes.{Linear};

@@ -5,7 +5,7 @@ ghost use Rattle.std.specs.Prelude.{◌≡◌, pos, neg_ℤ, true, false, [], �
 ghost use Rattle.hyd_num.specs.declared.flow_units.FlowUnit.TheVariants.{Gpm, Cmd};
 ghost use Rattle.hyd_num.specs.Rational.{floor, ceiling};
 ghost use Rattle.hyd_spec.specs.ProgramTypes.{Project, Tcv, Fcv, Linear, Open, Closed, Throttle, Limit};
-ghost use Rattle.hyd_spec.specs.DemandsReservoirHeadsAndCurves.{minimum_pressure, required_pressure};
+ghost use Rattle.hyd_spec.specs.DemandsHeadsAndPumpLifts.{minimum_pressure, required_pressure};
 ghost use Rattle.hyd_spec.specs.Outflow.{is_pressure_driven};
 ghost use Rattle.hyd_spec.specs.LinkLaw.{own_law};
 ghost use Rattle.hyd_spec_certificates.specs.EnclosingFunctions.{low, high};

@@ -1,15 +1,15 @@
 //! What rows of links, of emitters and of times of day mean, as an independent reader has it.
-#![tactic(auto, unfolding(hyd_spec_lines::specs::Lines::items_of, hyd_spec_lines::specs::Lines::kind_of, hyd_spec_lines::specs::Headings::read_section, hyd_spec_lines::specs::Headings::is_passed_over, hyd_spec_lines::specs::Headings::heading_kind, hyd_spec_lines::specs::WordsOfLines::words_in, hyd_spec_lines::specs::WordsOfLines::is_keyword, hyd_num::specs::Numeral::is_numeral, hyd_num::specs::Numeral::magnitude_of, hyd_num::specs::Numeral::nano_of, hyd_spec_input::specs::Keywords::flow_unit, hyd_spec_input::specs::Keywords::option_word, hyd_spec_input::specs::Keywords::time_word, hyd_spec_input::specs::Keywords::link_word, hyd_spec_input::specs::Keywords::node_word, hyd_spec_input::specs::Keywords::object_word, hyd_spec_input::specs::Keywords::attribute_word, hyd_spec_input::specs::Keywords::relation_word, hyd_spec_input::specs::Keywords::rule_word, hyd_spec_input::specs::Moments::unit_seconds))]
+#![tactic(auto, unfolding(hyd_spec_lines::specs::Lines::items_of, hyd_spec_lines::specs::Lines::kind_of, hyd_spec_lines::specs::Headings::read_section, hyd_spec_lines::specs::Headings::is_passed_over, hyd_spec_lines::specs::Headings::heading_kind, hyd_spec_lines::specs::WordsOfLines::words_in, hyd_spec_lines::specs::WordsOfLines::is_keyword, hyd_num::specs::Numeral::is_numeral, hyd_num::specs::Numeral::magnitude_of, hyd_num::specs::Numeral::nano_of, hyd_spec_input::specs::Keywords::flow_unit, hyd_spec_input::specs::Keywords::option_word, hyd_spec_input::specs::Keywords::time_word, hyd_spec_input::specs::Keywords::link_word, hyd_spec_input::specs::Keywords::node_word, hyd_spec_input::specs::Keywords::object_word, hyd_spec_input::specs::Keywords::attribute_word, hyd_spec_input::specs::Keywords::relation_word, hyd_spec_input::specs::Keywords::rule_word, hyd_spec_input::specs::TimesAndClockTimes::unit_seconds))]
 
 ghost use Rattle.std.specs.Prelude.{◌≡◌, pos, true, false, [], ◌∷◌, map, codes, None};
 ghost use Rattle.hyd_spec_lines.specs.WordsOfLines.{words_in};
 ghost use Rattle.hyd_spec_lines.specs.declared.section.Section.TheVariants.{Pipes, Pumps, Valves};
 ghost use Rattle.hyd_net.specs.declared.links.LinkState.TheVariants.{Closed, Speed};
-ghost use Rattle.hyd_spec_input.specs.Moments.{clock_seconds};
-ghost use Rattle.hyd_spec_input.specs.NetworkRows.{has_check_valve, is_closed_pipe, pump_speed, is_throttle};
-ghost use Rattle.hyd_spec_input.specs.NetworkRows.{is_general};
+ghost use Rattle.hyd_spec_input.specs.TimesAndClockTimes.{clock_seconds};
+ghost use Rattle.hyd_spec_input.specs.NodeAndLinkRows.{has_check_valve, is_closed_pipe, pump_speed, is_throttle};
+ghost use Rattle.hyd_spec_input.specs.NodeAndLinkRows.{is_general};
 ghost use Rattle.hyd_spec_input.specs.Project.{speed_state};
-ghost use Rattle.hyd_spec_input.specs.Tables.{rows_of};
+ghost use Rattle.hyd_spec_input.specs.SectionsAndTables.{rows_of};
 ghost use Rattle.hyd_cases_of_definitions.specs.Input.{fault_of};
 ghost use Rattle.hyd_cases_of_definitions.specs.TextOfLinks.{plant, plant_rows, pipe_numbers, valve_numbers};
 ghost use Rattle.hyd_cases_of_definitions.specs.TextOfLinks.{plant_drop};

@@ -3,7 +3,7 @@
 
 ghost use Rattle.std.specs.Prelude.{◌≡◌, pos, neg_ℤ, true, false, [], ◌∷◌, map, Some, None};
 ghost use Rattle.hyd_num.specs.Rational.{whole};
-ghost use Rattle.hyd_num.specs.declared.decimals.Span.{Span};
+ghost use Rattle.hyd_num.specs.declared.spans.Span.{Span};
 ghost use Rattle.hyd_spec.specs.ProgramTypes.{Project, Decimal, Rule, Clause, And, Or, Less, NotMore, More, NotLess};
 ghost use Rattle.hyd_spec.specs.ProgramTypes.{Equal};
 ghost use Rattle.hyd_spec.specs.ProgramTypes.{Unequal, Time, Clock, Amount, ValueOpen, ValueClosed, ValueActive};

@@ -4,10 +4,12 @@
 ghost use Rattle.std.specs.Prelude.{◌≡◌, pos, neg_ℤ, true, false, [], ◌∷◌, map, Some, None};
 ghost use Rattle.hyd_num.specs.Rational.{floor, ceiling};
 ghost use Rattle.hyd_spec.specs.ProgramTypes.{Project, Decimal, FourThirds, Given, Demand, Junction, Reservoir};
-ghost use Rattle.hyd_spec.specs.Scale.{at_scale, tolerance, total, cut};
-ghost use Rattle.hyd_spec.specs.DemandsReservoirHeadsAndCurves.{lift_of, multipliers_of, multiplier_at};
-ghost use Rattle.hyd_spec.specs.DemandsReservoirHeadsAndCurves.{category_demand, demand_of};
-ghost use Rattle.hyd_spec.specs.DemandsReservoirHeadsAndCurves.{reservoir_head};
+ghost use Rattle.hyd_spec.specs.Scale.{at_scale, tolerance};
+ghost use Rattle.hyd_spec.specs.WholeNumbers.{cut};
+ghost use Rattle.hyd_spec.specs.Lists.{total};
+ghost use Rattle.hyd_spec.specs.DemandsHeadsAndPumpLifts.{lift_of, multipliers_of, multiplier_at};
+ghost use Rattle.hyd_spec.specs.DemandsHeadsAndPumpLifts.{category_demand, demand_of};
+ghost use Rattle.hyd_spec.specs.DemandsHeadsAndPumpLifts.{reservoir_head};
 
 /// Quotients cut toward zero.
 pub fn cuts()

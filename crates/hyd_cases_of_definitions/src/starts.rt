@@ -5,14 +5,15 @@ ghost use Rattle.std.specs.Prelude.{◌≡◌, pos, neg_ℤ, true, false, List, 
 ghost use Rattle.hyd_spec.specs.ProgramTypes.{Project, Capacity, ShutoffHead, Control, PumpLink, Tcv, Linear, Open};
 ghost use Rattle.hyd_spec.specs.ProgramTypes.{Closed};
 ghost use Rattle.hyd_spec.specs.ProgramTypes.{Speed, AtLevel, AtTime, AtClock};
-ghost use Rattle.hyd_spec.specs.DemandsReservoirHeadsAndCurves.{multipliers_of};
+ghost use Rattle.hyd_spec.specs.DemandsHeadsAndPumpLifts.{multipliers_of};
 ghost use Rattle.hyd_spec.specs.PumpPatternsAndSimpleControls.{clock_at, speed_state, is_pattern_boundary, patterned};
 ghost use Rattle.hyd_spec.specs.PumpPatternsAndSimpleControls.{controlled};
 ghost use Rattle.hyd_spec.specs.declared.Source.TheVariants.{Control as ByControl};
 ghost use Rattle.hyd_spec_certificates.specs.declared.Verdict.TheVariants.{Yes, No, Unknown};
 ghost use Rattle.hyd_spec_certificates.specs.Decided.{control_truth, acts_on};
-ghost use Rattle.hyd_spec_reports.specs.Report.{control_changes, is_report_time};
-ghost use Rattle.hyd_num.specs.declared.decimals.Span.{Span};
+ghost use Rattle.hyd_spec_reports.specs.Report.{is_report_time};
+ghost use Rattle.hyd_spec_reports.specs.ChangesAtStart.{control_changes};
+ghost use Rattle.hyd_num.specs.declared.spans.Span.{Span};
 
 /// A pump at speed 0 or below is closed.
 pub fn speeds()

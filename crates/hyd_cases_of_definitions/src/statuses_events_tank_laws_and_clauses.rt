@@ -2,7 +2,7 @@
 #![tactic(auto)]
 
 ghost use Rattle.std.specs.Prelude.{◌≡◌, pos, neg_ℤ, true, false, [], ◌∷◌, map, length, slice_get, Some, None};
-ghost use Rattle.hyd_num.specs.declared.decimals.Span.{Span};
+ghost use Rattle.hyd_num.specs.declared.spans.Span.{Span};
 ghost use Rattle.hyd_num.specs.declared.flow_units.FlowUnit.TheVariants.{Gpm, Cmd};
 ghost use Rattle.hyd_num.specs.Rational.{whole};
 ghost use Rattle.hyd_spec.specs.ProgramTypes.{Project, Decimal, Capacity, Junction, Tank, Amount, Less, NotMore, More};

@@ -1,12 +1,12 @@
 //! Tanks with a volume curve: levels and volumes, stocks after some seconds, and when they reach a target.
 #![tactic(auto)]
 
-ghost use Rattle.std.specs.Prelude.{◌≡◌, ℤ, pos, neg_ℤ, true, false, [], ◌∷◌, map, Some};
+ghost use Rattle.std.specs.Prelude.{◌≡◌, ℤ, pos, neg_ℤ, true, false, [], ◌∷◌, map};
 ghost use Rattle.hyd_net.specs.Curves.{volume_at};
 ghost use Rattle.hyd_num.specs.Rational.{floor, ceiling, whole};
-ghost use Rattle.hyd_spec.specs.ProgramTypes.{Decimal, Project, Tank};
-ghost use Rattle.hyd_spec.specs.Tank.{Curve, Cylinder, walls_of, level_bounds, content_bounds, exact_content};
-ghost use Rattle.hyd_spec.specs.Tank.{level_at_volume, carried_level, has_reached};
+ghost use Rattle.hyd_spec.specs.ProgramTypes.{Decimal};
+ghost use Rattle.hyd_spec.specs.Tank.{content_bounds};
+ghost use Rattle.hyd_spec.specs.Tank.{level_at_volume};
 ghost use Rattle.hyd_spec_certificates.specs.Stocks.{next_stocks, carried_stocks, carried_levels, may_reach};
 ghost use Rattle.hyd_spec_certificates.specs.Stocks.{must_reach};
 ghost use Rattle.hyd_cases_of_definitions.specs.TankWithVolumeCurve.{flask, flask_points, flask_walls, stocks, between};

@@ -10,7 +10,7 @@ use Rattle.hyd_net.specs.Ids.{AreDistinct, IsId}
 use Rattle.hyd_net.specs.Sound.{HasIds, HasEnds, IsWithinLimits, IsPattern, IsSound}
 use Rattle.hyd_net.specs.NetworkRanges.{HasOptions, IsJunction, IsReservoir, IsTank, HasSizes, HasQuantities}
 use Rattle.hyd_net.specs.NumberRanges.{IsHead}
-use Rattle.hyd_net.specs.States.{CanHave}
+use Rattle.hyd_net.specs.LinkStates.{CanHave}
 use Rattle.hyd_net.specs.ControlsAndRules.{IsControl, IsRule}
 use Rattle.hyd_net.specs.RoundedFileNumbers.{IsAreaMade, IsKindMade, IsStateMade, IsRuleMade, IsKindAcross}
 use Rattle.hyd_net.specs.RoundedFileNumbers.{IsStateAcross, IsAcross, IsAllMade}

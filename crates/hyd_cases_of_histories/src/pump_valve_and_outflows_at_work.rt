@@ -2,7 +2,7 @@
 //! whole, so histories go up to the tolerance above and below it, and none goes farther.
 #![tactic(auto)]
 
-ghost use Rattle.std.specs.Prelude.{pos, neg_ℤ, [], ◌∷◌};
+ghost use Rattle.std.specs.Prelude.{pos, [], ◌∷◌};
 ghost use Rattle.hyd_spec.specs.History.{IsHistory};
 ghost use Rattle.hyd_cases_of_histories.specs.OneLink.{network_of, period_of};
 ghost use Rattle.hyd_cases_of_histories.specs.Spurs.{pump_spur, setting_spur, emitter_spur, driven_spur};

@@ -2,7 +2,7 @@
 #![tactic(auto)]
 
 ghost use Rattle.std.specs.Prelude.{ℕ, ℤ, pos, neg_ℤ, Bool, false, List, Option};
-ghost use Rattle.hyd_num.specs.declared.decimals.Span.{Span};
+ghost use Rattle.hyd_num.specs.declared.spans.Span.{Span};
 ghost use Rattle.hyd_net.specs.ListView.{ListView};
 ghost use Rattle.hyd_spec.specs.ProgramTypes.{Capacity, HeadPoint, OpenValve, PipeLink, CheckPipe, PumpLink, CurvePump};
 ghost use Rattle.hyd_spec.specs.ProgramTypes.{Tcv};

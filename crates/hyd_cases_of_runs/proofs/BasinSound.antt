@@ -11,7 +11,7 @@ use Rattle.hyd_net.specs.Curves.{AreRising, IsVolumeCurve}
 use Rattle.hyd_net.specs.NumberRanges.{Lies, IsHead}
 use Rattle.hyd_net.specs.Sound.{HasIds, HasEnds, IsPattern, IsSound}
 use Rattle.hyd_net.specs.NetworkRanges.{IsJunction, IsReservoir, IsTank, IsShapeOf, HasSizes, HasQuantities}
-use Rattle.hyd_net.specs.States.{CanHave}
+use Rattle.hyd_net.specs.LinkStates.{CanHave}
 use Rattle.hyd_net.specs.ControlsAndRules.{node_count, IsControl, IsRule}
 use Rattle.hyd_net.specs.RoundedFileNumbers.{IsAreaMade, IsKindMade, IsStateMade, IsRuleMade, IsKindAcross}
 use Rattle.hyd_net.specs.RoundedFileNumbers.{IsStateAcross, IsAcross, IsAllMade}

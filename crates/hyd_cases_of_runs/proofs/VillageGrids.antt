@@ -3,7 +3,7 @@ use Rattle.std.proofs.Common.{◌≡◌, ℤ, Bool, MatchBool, [], ◌∷◌, re
 use Rattle.std.specs.Prelude.{ℕ, pos}
 use Rattle.hyd_spec.specs.ProgramTypes.{Junction}
 use Rattle.hyd_spec_certificates.specs.Interval.{Interval}
-use Rattle.hyd_spec.specs.DemandsReservoirHeadsAndCurves.{demand_of}
+use Rattle.hyd_spec.specs.DemandsHeadsAndPumpLifts.{demand_of}
 use Rattle.hyd_spec.specs.Outflow.{is_pressure_driven}
 use Rattle.hyd_spec.specs.Law.{Law}
 use Rattle.hyd_spec_certificates.specs.EnclosingFunctions.{Fixed}

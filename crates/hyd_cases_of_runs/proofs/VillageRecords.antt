@@ -5,7 +5,7 @@ use Rattle.std.specs.Prelude.{true, slice_index_or}
 use Rattle.std.proofs.lemmas.List.Elements.{All-nil, All-cons}
 use Rattle.hyd_spec.specs.ProgramTypes.{Junction}
 use Rattle.hyd_spec_certificates.specs.Interval.{Interval}
-use Rattle.hyd_spec.specs.DemandsReservoirHeadsAndCurves.{demand_of}
+use Rattle.hyd_spec.specs.DemandsHeadsAndPumpLifts.{demand_of}
 use Rattle.hyd_spec_certificates.specs.ThreeValuedLogic.{is_unknown}
 use Rattle.hyd_spec_certificates.specs.Decided.{nowhere, control_truth}
 use Rattle.hyd_spec_certificates.specs.Valid.{DemandsAreInRange, demand_limit, ControlsAreDecided, by_rules, by_clock}

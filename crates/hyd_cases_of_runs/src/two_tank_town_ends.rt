@@ -4,12 +4,13 @@
 ghost use Rattle.std.specs.Prelude.{◌≡◌, pos, neg_ℤ, true, false, [], ◌∷◌, map, codes, Some, None};
 ghost use Rattle.hyd_spec.specs.ProgramTypes.{Project};
 ghost use Rattle.hyd_spec_certificates.specs.declared.Side.TheVariants.{Upper, Lower};
-ghost use Rattle.hyd_spec.specs.DemandsReservoirHeadsAndCurves.{demand_of, reservoir_head};
+ghost use Rattle.hyd_spec.specs.DemandsHeadsAndPumpLifts.{demand_of, reservoir_head};
 ghost use Rattle.hyd_spec_certificates.specs.PeriodNetwork.{grid_links, tank_intervals};
 ghost use Rattle.hyd_spec_certificates.specs.Decided.{links_at, flow_boxes, inflow_boxes, watch_of, tank_watches};
 ghost use Rattle.hyd_spec_certificates.specs.Decided.{watches, carried_at};
 ghost use Rattle.hyd_spec_certificates.specs.Valid.{levels_next, demand_limit};
-ghost use Rattle.hyd_spec_reports.specs.Stops.{open_states, is_open_control, beginning};
+ghost use Rattle.hyd_spec_reports.specs.Stops.{open_states, is_open_control};
+ghost use Rattle.hyd_spec_reports.specs.TurnsOfProblems.{beginning};
 ghost use Rattle.hyd_spec_reports.specs.Report.{tank_events, events_of, event_line};
 ghost use Rattle.hyd_spec_reports.specs.declared.EventKind.TheVariants.{Full as BecomesFull, Empty as BecomesEmpty};
 ghost use Rattle.hyd_spec_reports.specs.ReportLine.{FilledLine, EmptiedLine, ReachedLine, line_text};

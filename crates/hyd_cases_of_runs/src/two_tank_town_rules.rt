@@ -11,12 +11,12 @@ ghost use Rattle.hyd_spec.specs.Rules.{head_of, pressure_of, state_of_link, rule
 ghost use Rattle.hyd_spec.specs.Rules.{higher, change_of, rule_changes, acted};
 ghost use Rattle.hyd_spec_certificates.specs.Decided.{links_at, readings_below, readings_above, rule_truths};
 ghost use Rattle.hyd_spec_certificates.specs.Decided.{decided_changes};
-ghost use Rattle.hyd_spec_reports.specs.Report.{change_line};
+ghost use Rattle.hyd_spec_reports.specs.ChangesAtStart.{change_line};
 ghost use Rattle.hyd_spec_reports.specs.ReportLine.{RuleLine, line_text};
 ghost use Rattle.hyd_cases_of_runs.specs.TwoTankTown.{IsTown, numbers, earlier, later, filling, fast_filling};
 ghost use Rattle.hyd_cases_of_runs.specs.TwoTankTown.{narrow_main};
 ghost use Rattle.hyd_cases_of_runs.specs.TwoTankTown.{night_main, wide_main, unthrottled};
-ghost use Rattle.hyd_cases_of_runs.specs.TwoTankTownPeriods.{standing_at_one, standing_at_two, standing_when_full};
+ghost use Rattle.hyd_cases_of_runs.specs.TwoTankTownPeriods.{standing_at_two, standing_when_full};
 ghost use Rattle.hyd_cases_of_runs.specs.TwoTankTownPeriods.{grid_at_two};
 ghost use Rattle.hyd_cases_of_runs.specs.TwoTankTownPeriods.{grid_when_full, row_at_two, row_when_full};
 ghost use Rattle.hyd_cases_of_runs.specs.TwoTankTownReadings.{readings_none, readings_three, readings_edges};

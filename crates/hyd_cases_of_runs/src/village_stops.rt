@@ -2,7 +2,7 @@
 //! last line is the one that it prints.
 #![tactic(auto)]
 
-ghost use Rattle.std.specs.Prelude.{◌≡◌, pos, [], ◌∷◌, codes};
+ghost use Rattle.std.specs.Prelude.{◌≡◌, pos, codes};
 ghost use Rattle.hyd_spec_certificates.specs.declared.Problem.TheVariants.{Main};
 ghost use Rattle.hyd_spec_certificates.specs.declared.Side.TheVariants.{Upper, Lower};
 ghost use Rattle.hyd_spec_reports.specs.Stops.{Stops};

@@ -17,7 +17,7 @@ use Rattle.hyd_cert.specs.Lines.{Header, header_text, IsHeaderLine, IsPeriodLine
 use Rattle.hyd_cert.specs.Lines.{header_words}
 use Rattle.hyd_cert.specs.PlacesOfLines.{Place, First, Between, Head, Over, CanStand, IsFault, later, front_at}
 use Rattle.hyd_cert.specs.PlacesOfLines.{heads_in, place_after, head_text, Goes, ends, goes}
-use Rattle.hyd_cert.specs.Vectors.{AreVectors, two_vectors, behind_two, problems_in}
+use Rattle.hyd_cert.specs.VectorsOfRecord.{AreVectors, two_vectors, behind_two, problems_in}
 use Rattle.hyd_cert.specs.FaultyLine.{IsCertificate, lines_of, BeginsWith}
 use Rattle.hyd_lemmas.proofs.BooleanTests.{nat-lt-no}
 use Rattle.hyd_cert.proofs.HeadLemmas.{place_head, period_is, end_is}

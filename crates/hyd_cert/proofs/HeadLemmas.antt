@@ -10,16 +10,16 @@ use Rattle.std.proofs.lemmas.Bool.Decides.{Decides-ltb}
 use Rattle.hyd_io.specs.DeskBytes.{prepend_known}
 use Rattle.hyd_io.proofs.MovedBytesLemmas.{prepend_known-prepend_known}
 use Rattle.hyd_io.specs.declared.desk.Faults.{Faults}
-use Rattle.hyd_io.specs.FailureCounts.{with_read_fault}
+use Rattle.hyd_io.specs.DeskCounts.{with_read_fault}
 use Rattle.hyd_spec_certificates.specs.Certificate.{IsInBox}
-use Rattle.hyd_cert.specs.declared.answers.CertNext.{CertNext}
-use Rattle.hyd_cert.specs.declared.answers.CertFault.{CertFault}
-use Rattle.hyd_cert.specs.declared.answers.CertFault.TheVariants.{Read, Grammar, Count}
+use Rattle.hyd_cert.specs.declared.answers_of_reader.CertNext.{CertNext}
+use Rattle.hyd_cert.specs.declared.answers_of_reader.CertFault.{CertFault}
+use Rattle.hyd_cert.specs.declared.answers_of_reader.CertFault.TheVariants.{Read, Grammar, Count}
 use Rattle.hyd_spec_reports.specs.CertificateText.{words}
 use Rattle.hyd_theorems_on_definitions.proofs.CertificateLines.{header-short}
 use Rattle.hyd_cert.specs.TextsWithoutLine.{HasNo}
 use Rattle.hyd_cert.proofs.LineLemmas.{header_is_line}
-use Rattle.hyd_cert.specs.NextLine.{IsPeriodOrEnd}
+use Rattle.hyd_cert.specs.PeriodOrEndLine.{IsPeriodOrEnd}
 use Rattle.hyd_cert.specs.Lines.{Header, IsHeaderLine, IsHeadLine, IsPeriodLine, IsEndLine, end_word}
 use Rattle.hyd_cert.specs.PlacesOfLines.{Place, here, later, Head, Over, Between, First, CanStand, IsFault, front_of}
 use Rattle.hyd_cert.specs.PlacesOfLines.{front_at}

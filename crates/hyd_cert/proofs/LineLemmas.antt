@@ -12,12 +12,12 @@ use Rattle.hyd_spec_certificates.specs.Certificate.{IsInBox}
 use Rattle.hyd_cert.specs.TextsWithoutLine.{HasNo}
 use Rattle.hyd_io.specs.DeskBytes.{prepend_known}
 use Rattle.hyd_io.specs.declared.desk.Faults.{Faults}
-use Rattle.hyd_cert.specs.declared.answers.CertFault.{CertFault}
-use Rattle.hyd_cert.specs.declared.answers.CertFault.TheVariants.{Read, Grammar, Count}
+use Rattle.hyd_cert.specs.declared.answers_of_reader.CertFault.{CertFault}
+use Rattle.hyd_cert.specs.declared.answers_of_reader.CertFault.TheVariants.{Read, Grammar, Count}
 use lib.Signed.{mag}
 use Rattle.hyd_cert.specs.PlacesOfLines.{Lacks}
 use Rattle.hyd_cert.specs.Faults.{IsFront, IsLineFault}
-use Rattle.hyd_cert.specs.NextLine.{IsPeriodOrEnd}
+use Rattle.hyd_cert.specs.PeriodOrEndLine.{IsPeriodOrEnd}
 use Rattle.hyd_cert.specs.Lines.{Header, IsHeadLine, IsPeriodLine, IsEndLine, IsHeaderLine, end_word}
 use Rattle.hyd_lemmas.proofs.ListsOptionsAndResults.{same_item}
 use Rattle.hyd_cert.proofs.Numerals.{short_numeral}

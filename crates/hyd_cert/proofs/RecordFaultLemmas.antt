@@ -12,15 +12,15 @@ use Rattle.hyd_spec_certificates.specs.RecordAndStanding.{Record as Row}
 use Rattle.hyd_spec_reports.specs.CertificateText.{IsRow, record_text, words}
 use Rattle.hyd_cert.specs.Faults.{IsLineFault, IsHeadsFault, IsHeaderFault, LacksRecord, OnGrammar}
 use Rattle.hyd_cert.specs.Lines.{Header, IsHeaderLine, IsPeriodLine, IsEndLine, header_text}
-use Rattle.hyd_cert.specs.NextLine.{IsPeriodOrEnd}
+use Rattle.hyd_cert.specs.PeriodOrEndLine.{IsPeriodOrEnd}
 use Rattle.hyd_cert.specs.PlacesOfLines.{Place, Between, Head, here, later, CanStand, MayStand, IsFault, front_at}
 use Rattle.hyd_cert.specs.PlacesOfLines.{heads_in}
 use Rattle.hyd_cert.specs.PlacesOfLines.{place_after, head_text}
-use Rattle.hyd_cert.specs.declared.answers.CertFault.{CertFault}
-use Rattle.hyd_cert.specs.declared.answers.CertFault.TheVariants.{Read, Grammar, Count}
-use Rattle.hyd_cert.specs.declared.answers.CertNext.{CertNext}
-use Rattle.hyd_cert.specs.declared.answers.Stand.{Stand}
-use Rattle.hyd_cert.specs.declared.answers.Stand.TheVariants as stand
+use Rattle.hyd_cert.specs.declared.answers_of_reader.CertFault.{CertFault}
+use Rattle.hyd_cert.specs.declared.answers_of_reader.CertFault.TheVariants.{Read, Grammar, Count}
+use Rattle.hyd_cert.specs.declared.answers_of_reader.CertNext.{CertNext}
+use Rattle.hyd_cert.specs.declared.answers_of_reader.Stand.{Stand}
+use Rattle.hyd_cert.specs.declared.answers_of_reader.Stand.TheVariants as stand
 use Rattle.hyd_cert.proofs.SplitTexts.{split-same}
 use Rattle.hyd_cert.proofs.HeadLemmas.{place_head, period_is}
 use Rattle.hyd_cert.proofs.TextsAtFault.{stands_alone, may_stand, next_same, has_rest}

@@ -23,7 +23,7 @@ use Rattle.hyd_spec_certificates.specs.RecordAndStanding.{Record as Row, Vectors
 use Rattle.hyd_spec_reports.specs.CertificateText.{line, head_lines, vectors_text, period_line, record_text, IsVector}
 use Rattle.hyd_spec_reports.specs.CertificateText.{IsRow}
 use Rattle.hyd_cert.specs.PlacesOfLines.{front_of, front_at, heads_in, head_text}
-use Rattle.hyd_cert.specs.Vectors.{AreVectors, two_vectors, behind_two, problems_in, place_in}
+use Rattle.hyd_cert.specs.VectorsOfRecord.{AreVectors, two_vectors, behind_two, problems_in, place_in}
 use Rattle.hyd_cert.specs.RecordView.{IsProblemOf}
 use Rattle.hyd_theorems_on_definitions.proofs.CertificateLines.{IsPair, pinned_lines}
 

@@ -1,4 +1,4 @@
--- Whether one of the tanks is of the second version.
+-- Whether some tank asks for the second version of certificates.
 use Rattle.std.proofs.Common.{◌≡◌, Bool, false, if◌then◌else◌, sym, ap, ◌||◌}
 use Rattle.std.specs.Prelude.{is_some}
 use Rattle.std.specs.List.{All}

@@ -5,7 +5,7 @@ use Rattle.std.specs.Fmt.{signed_decimal}
 use Rattle.std.proofs.lemmas.List.{take_more, length-take-le, take-append-drop}
 use Rattle.hyd_spec_reports.specs.CertificateText.{period_line, record_text}
 use Rattle.hyd_cert.specs.PlacesOfLines.{front_at, head_text}
-use Rattle.hyd_cert.specs.Vectors.{AreVectors}
+use Rattle.hyd_cert.specs.VectorsOfRecord.{AreVectors}
 use Rattle.hyd_cert.proofs.HeadLemmas.{head_text-push}
 use Rattle.hyd_cert.proofs.VectorLemmas.{head_text-append, row_with, row_text}
 

@@ -2,16 +2,16 @@
 use Rattle.std.specs.Prelude.{◌≡◌, ◌≢◌, ℕ, ◌+◌, ◌-◌, ◌^◌, ◌<◌, ◌≤◌, min, List, [], ◌∷◌, ◌++◌, length, Option, Some}
 use Rattle.hyd_io.specs.DeskBytes.{prepend_known}
 use Rattle.hyd_io.specs.declared.desk.Faults.{Faults}
-use Rattle.hyd_io.specs.FailureCounts.{with_read_fault}
+use Rattle.hyd_io.specs.DeskCounts.{with_read_fault}
 use Rattle.hyd_spec_certificates.specs.RecordAndStanding.{Record}
 use Rattle.hyd_spec_reports.specs.CertificateText.{IsRow, record_text}
 use Rattle.hyd_cert.specs.TextsWithoutLine.{HasNo}
 use Rattle.hyd_cert.specs.Lines.{Header, IsHeaderLine}
 use Rattle.hyd_cert.specs.PlacesOfLines.{Place, First, Lacks, IsFault, heads_in, place_after}
 use Rattle.hyd_cert.specs.ReaderView.{lead}
-use Rattle.hyd_cert.specs.declared.answers.Stand.{Stand}
-use Rattle.hyd_cert.specs.declared.answers.CertFault.{CertFault}
-use Rattle.hyd_cert.specs.declared.answers.CertFault.TheVariants.{Read, Grammar, Count}
+use Rattle.hyd_cert.specs.declared.answers_of_reader.Stand.{Stand}
+use Rattle.hyd_cert.specs.declared.answers_of_reader.CertFault.{CertFault}
+use Rattle.hyd_cert.specs.declared.answers_of_reader.CertFault.TheVariants.{Read, Grammar, Count}
 
 -- So many lines further, up to the last number that a line can have.
 abbrev pub lines_on : ℕ → ℕ → ℕ

@@ -1,9 +1,9 @@
 pub mod TextsWithoutLine
 pub mod Faults
 pub mod Lines
-pub mod NextLine
+pub mod PeriodOrEndLine
 pub mod PlacesOfLines
 pub mod ReaderView
 pub mod RecordView
 pub mod FaultyLine
-pub mod Vectors
+pub mod VectorsOfRecord

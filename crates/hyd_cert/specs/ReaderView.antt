@@ -3,11 +3,11 @@ use Rattle.std.specs.Prelude.{ℕ, Bool, List, [], Option, Result, Ok, Err}
 use Rattle.hyd_io.specs.DeskBytes.{prepend_known}
 use Rattle.hyd_cert.specs.Lines.{Header, header_text}
 use Rattle.hyd_cert.specs.PlacesOfLines.{Place, First as AtFirst, Between as AtBetween, Over as AtOver}
-use Rattle.hyd_cert.specs.declared.answers.Stand.{Stand}
-use Rattle.hyd_cert.specs.declared.answers.Stand.TheVariants.{First, Between, Over, Stuck}
-use Rattle.hyd_cert.specs.declared.answers.CertFault.{CertFault}
-use Rattle.hyd_cert.specs.declared.answers.CertNext.{CertNext}
-use Rattle.hyd_cert.specs.declared.answers.CertNext.TheVariants.{Record, End}
+use Rattle.hyd_cert.specs.declared.answers_of_reader.Stand.{Stand}
+use Rattle.hyd_cert.specs.declared.answers_of_reader.Stand.TheVariants.{First, Between, Over, Stuck}
+use Rattle.hyd_cert.specs.declared.answers_of_reader.CertFault.{CertFault}
+use Rattle.hyd_cert.specs.declared.answers_of_reader.CertNext.{CertNext}
+use Rattle.hyd_cert.specs.declared.answers_of_reader.CertNext.TheVariants.{Record, End}
 
 -- Where it stands, how many lines it passed, and the bytes that it read ahead.
 pub record ReaderView : Type 0 where

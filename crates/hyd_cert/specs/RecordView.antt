@@ -4,7 +4,7 @@ use Rattle.hyd_spec_certificates.specs.declared.Problem.{Problem}
 use Rattle.hyd_spec_certificates.specs.declared.Problem.TheVariants.{Main, Pinned}
 use Rattle.hyd_spec_certificates.specs.RecordAndStanding.{Record as Row}
 use Rattle.hyd_cert.specs.Lines.{Header}
-use Rattle.hyd_cert.specs.Vectors.{two_vectors, behind_two, problems_in}
+use Rattle.hyd_cert.specs.VectorsOfRecord.{two_vectors, behind_two, problems_in}
 use Rattle.hyd_cert.specs.declared.record.Record.{Record}
 
 -- The header of the texts that it can stand in.

@@ -2,25 +2,25 @@
 //! fault; and the version of a network's certificates.
 #![tactic(auto)]
 
-mod answers;
+mod answers_of_reader;
 mod certificate_version;
 mod line_reader;
 mod lines;
 mod reader;
 mod record;
-mod theorems;
+mod theorems_on_texts_and_faults;
 mod words;
 mod writer;
 
-pub use answers::{CertFault, CertNext, EndLine, Stand};
+pub use answers_of_reader::{CertFault, CertNext, EndLine, Stand};
 pub use certificate_version::version_of;
 pub use reader::CertReader;
 pub use record::{Record, has_small_numbers};
-pub use theorems::{
+pub use theorems_on_texts_and_faults::{
     certificates_by_lines, fault_behind_records, fault_is_first, first_fault_is_one,
     reading_is_whole, record_has_a_header, refused_is_no_certificate,
 };
-pub use writer::{put_end, put_head, put_record};
+pub use writer::{put_end, put_header, put_record};
 
 /// The error of a call that found no memory.
 pub use std::alloc::AllocError as OutOfMemory;

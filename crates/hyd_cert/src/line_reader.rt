@@ -4,7 +4,7 @@ ghost use Rattle.std.specs.Prelude.{◌≡◌, ◌≢◌, ℕ, ◌+◌, ◌-◌,
 ghost use Rattle.std.specs.Prelude.{slice_index, false, IsTrue, Some, IfSome, IfNone, IfOk, OnOk, OnErr};
 ghost use Rattle.hyd_io.specs.Buffers.{buffer_bytes};
 ghost use Rattle.hyd_io.specs.DeskBytes.{where_told, prepend_known};
-ghost use Rattle.hyd_io.specs.FailureCounts.{with_read_fault};
+ghost use Rattle.hyd_io.specs.DeskCounts.{with_read_fault};
 ghost use Rattle.hyd_io.specs.LeftAsItWas.{KeepsOutput};
 ghost use Rattle.hyd_cert.specs.TextsWithoutLine.{HasNo, HasNoLine};
 

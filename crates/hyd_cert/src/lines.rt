@@ -1,13 +1,13 @@
 //! The lines of a certificate text, each without its line feed.
 
-ghost use Rattle.std.specs.Prelude.{◌≡◌, ◌≢◌, ℕ, ◌<◌, ◌≤◌, ◌^◌, ◌⊎◌, ℤ, Bool, false, IsTrue, List, [], ◌∷◌, ◌++◌};
-ghost use Rattle.std.specs.Prelude.{length, IfSome, IfNone, decimal, codes, if◌then◌else◌};
+ghost use Rattle.std.specs.Prelude.{◌≡◌, ◌≢◌, ℕ, ◌<◌, ◌^◌, ◌⊎◌, false, IsTrue, List, [], ◌∷◌, ◌++◌};
+ghost use Rattle.std.specs.Prelude.{length, IfSome, IfNone, decimal, codes};
 ghost use Rattle.std.specs.Fmt.{signed_decimal};
 ghost use Rattle.hyd_spec_certificates.specs.Certificate.{IsInBox};
-ghost use Rattle.hyd_cert.specs.NextLine.{next_text, NextFits, IsPeriodOrEnd};
+ghost use Rattle.hyd_cert.specs.PeriodOrEndLine.{next_text, NextFits, IsPeriodOrEnd};
 ghost use Rattle.hyd_cert.specs.Lines.{Header, IsHeadLine, IsPeriodLine, IsEndLine, IsHeaderLine, end_word};
 
-use crate::answers::EndLine;
+use crate::answers_of_reader::EndLine;
 use crate::words::{after, head, is_number, small_number, split_word};
 
 /// What a PERIOD line says.

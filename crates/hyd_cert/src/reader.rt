@@ -1,25 +1,25 @@
 //! Reading a certificate text.
 
-ghost use Rattle.std.specs.Prelude.{◌≡◌, ◌≢◌, ℕ, ◌+◌, ◌<◌, ◌^◌, false, IsTrue, List, [], ◌∷◌, ◌++◌, length, take, drop};
+ghost use Rattle.std.specs.Prelude.{◌≡◌, ◌≢◌, ◌+◌, ◌<◌, ◌^◌, false, IsTrue, [], ◌∷◌, ◌++◌, length, take, drop};
 ghost use Rattle.std.specs.Prelude.{slice_set, Some, All, IfOk, IfErr, OnOk};
 ghost use Rattle.std.specs.Fmt.{signed_decimal};
 ghost use Rattle.hyd_io.specs.DeskBytes.{where_told, prepend_known};
-ghost use Rattle.hyd_io.specs.FailureCounts.{with_read_fault};
+ghost use Rattle.hyd_io.specs.DeskCounts.{with_read_fault};
 ghost use Rattle.hyd_io.specs.LeftAsItWas.{KeepsOutput};
 ghost use Rattle.hyd_spec_certificates.specs.Certificate.{IsInBox};
 ghost use Rattle.hyd_spec_reports.specs.CertificateText.{IsRow, record_text, end_line};
 ghost use Rattle.hyd_cert.specs.TextsWithoutLine.{HasNo};
 ghost use Rattle.hyd_cert.specs.Lines.{Header, IsHeadLine, header_text};
-ghost use Rattle.hyd_cert.specs.NextLine.{next_text, NextFits, IsPeriodOrEnd};
+ghost use Rattle.hyd_cert.specs.PeriodOrEndLine.{next_text, NextFits, IsPeriodOrEnd};
 ghost use Rattle.hyd_cert.specs.PlacesOfLines.{First, Between, front_of, heads_in, head_text};
 ghost use Rattle.hyd_cert.specs.Faults.{lines_on, IsFront, IsLineFault, IsHeadsFault, IsHeaderFault, IsTextFault};
 ghost use Rattle.hyd_cert.specs.Faults.{LacksRecord, OnGrammar};
 ghost use Rattle.hyd_cert.specs.ReaderView.{fresh, to_come, IsGoing, IsDone, place_of, lead, lead_lines, answer_of};
 ghost use Rattle.hyd_cert.specs.ReaderView.{stand_of, OnRecord, OnEnd};
 ghost use Rattle.hyd_cert.specs.RecordView.{header_of, row_of};
-ghost use Rattle.hyd_cert.specs.declared.answers.Stand.TheVariants as stand;
+ghost use Rattle.hyd_cert.specs.declared.answers_of_reader.Stand.TheVariants as stand;
 
-use crate::answers::{CertFault, CertNext, EndLine, Stand};
+use crate::answers_of_reader::{CertFault, CertNext, EndLine, Stand};
 use crate::line_reader::Source;
 use crate::lines::{Next, head_line, is_header_line, period_or_end};
 use crate::record::{Record, has_small_counts};

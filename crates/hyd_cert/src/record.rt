@@ -1,7 +1,7 @@
 //! A record of a certificate.
 
-ghost use Rattle.std.specs.Prelude.{◌≡◌, ◌≢◌, ◌+◌, ◌*◌, ◌^◌, ◌<◌, ◌≤◌, ℤ, pos, All, length, IfOk, OnOk};
-ghost use Rattle.hyd_cert.specs.Vectors.{AreVectors, place_in};
+ghost use Rattle.std.specs.Prelude.{◌≡◌, ◌≢◌, ◌+◌, ◌*◌, ◌^◌, ◌<◌, ◌≤◌, pos, All, length, IfOk, OnOk};
+ghost use Rattle.hyd_cert.specs.VectorsOfRecord.{AreVectors, place_in};
 
 use hyd_net::List;
 use hyd_spec_certificates::{Problem, Side};

@@ -1,6 +1,6 @@
 //! Words of a line, and the values that they spell.
 
-ghost use Rattle.std.specs.Prelude.{◌≡◌, ◌≢◌, ℕ, ◌+◌, ◌<◌, ◌≤◌, ◌^◌, ℤ, false, IsTrue, List, [], ◌∷◌, ◌++◌, length};
+ghost use Rattle.std.specs.Prelude.{◌≡◌, ◌≢◌, ℕ, ◌+◌, ◌<◌, ◌≤◌, ◌^◌, ℤ, false, IsTrue, List, ◌∷◌, ◌++◌, length};
 ghost use Rattle.std.specs.Prelude.{IfSome, IfNone, decimal, slice_index};
 ghost use Rattle.std.specs.Fmt.{signed_decimal};
 ghost use Rattle.hyd_cert.specs.TextsWithoutLine.{HasNo};

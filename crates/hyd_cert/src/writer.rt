@@ -1,7 +1,7 @@
 //! Putting out a certificate text.
 
-ghost use Rattle.std.specs.Prelude.{◌≡◌, ◌≢◌, ℕ, ◌+◌, ◌<◌, ◌≤◌, ◌^◌, Bool, false, List, [], ◌∷◌, ◌++◌, length, take};
-ghost use Rattle.std.specs.Prelude.{codes, decimal, Option, Some, None, IsTrue};
+ghost use Rattle.std.specs.Prelude.{◌≡◌, ◌≢◌, ◌+◌, ◌<◌, ◌≤◌, ◌^◌, false, [], ◌∷◌, ◌++◌, length, take};
+ghost use Rattle.std.specs.Prelude.{decimal, None, IsTrue};
 ghost use Rattle.std.specs.Fmt.{signed_decimal};
 ghost use Rattle.hyd_spec_reports.specs.CertificateText.{period_line, record_text, end_line};
 ghost use Rattle.hyd_cert.specs.Lines.{header_words, header_text, end_word};
@@ -138,7 +138,7 @@ fn last_words(finished: bool) -> &'static [u8]
 // ---- the text
 
 /// Puts the header line, with the record's version and counts. Its faults and its needs are those of `Pen::put`.
-pub fn put_head<D: Desk>(row: &Record, pen: &mut Pen, desk: &mut D) -> Result<(), OutFault>
+pub fn put_header<D: Desk>(row: &Record, pen: &mut Pen, desk: &mut D) -> Result<(), OutFault>
     requires { OnCert pen.old.to (IsTrue (D.ready desk.old)) }
     ensures { Puts D.files D.rest D.written D.printed D.target D.ready D.counts D.openings
         (header_text (header_of row.now)) result pen.old pen.new desk.old desk.new }

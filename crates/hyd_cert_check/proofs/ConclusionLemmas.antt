@@ -21,11 +21,11 @@ use Rattle.hyd_cert.specs.PlacesOfLines.{First, IsFault, heads_in}
 use Rattle.hyd_cert.specs.Faults.{lines_on, HasOtherHeader, LacksRecord}
 use Rattle.hyd_cert.specs.FaultyLine.{lines_of as record_lines}
 use Rattle.hyd_cert.specs.ReaderView.{place_of}
-use Rattle.hyd_cert.specs.declared.answers.Stand.{Stand}
+use Rattle.hyd_cert.specs.declared.answers_of_reader.Stand.{Stand}
 use Rattle.hyd_cert.proofs.TextsAtFault.{has_rest}
 use Rattle.hyd_cert.proofs.CertificatesLineByLine.{whole_reading, fault_behind}
 use Rattle.hyd_cert.proofs.WholeTextLemmas.{first_fault}
-use Rattle.hyd_sim.specs.View.{header_for}
+use Rattle.hyd_sim.specs.RunView.{header_for}
 use Rattle.hyd_cert_check.specs.Checks.{refused_grammar_line, refused_counts_line, printed_number, HasNoMoreRecords}
 use Rattle.hyd_cert_check.specs.Checks.{CheckRefusesGrammar, CheckRefusesCounts, grammar, counts, record_refused}
 use Rattle.hyd_cert_check.specs.Checks.{other_end, CheckEnds, CheckFinds}

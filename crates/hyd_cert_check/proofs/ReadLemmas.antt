@@ -13,11 +13,11 @@ use Rattle.hyd_cert.specs.PlacesOfLines.{heads_in}
 use Rattle.hyd_cert.specs.Faults.{lines_on}
 use Rattle.hyd_cert.specs.FaultyLine.{lines_of}
 use Rattle.hyd_cert.specs.ReaderView.{lead, lead_lines}
-use Rattle.hyd_cert.specs.declared.answers.Stand.{Stand}
-use Rattle.hyd_cert.specs.declared.answers.Stand.TheVariants as stand
+use Rattle.hyd_cert.specs.declared.answers_of_reader.Stand.{Stand}
+use Rattle.hyd_cert.specs.declared.answers_of_reader.Stand.TheVariants as stand
 use Rattle.hyd_lemmas.proofs.ListsOptionsAndResults.{join-more}
 use Rattle.hyd_cert.proofs.TextsAtFault.{has_rest}
-use Rattle.hyd_sim.specs.View.{header_for}
+use Rattle.hyd_sim.specs.RunView.{header_for}
 use Rattle.hyd_cert_check.specs.Checks.{BeginsWithFound}
 use Rattle.hyd_cert_check.specs.ReaderAndPen.{CheckMoment}
 use Rattle.hyd_cert_check.specs.RecordByRecord.{coming, IsRead, IsReadTo, nothing, records}

@@ -4,8 +4,8 @@ use Rattle.hyd_net.specs.Sound.{IsSound}
 use Rattle.hyd_spec.specs.ProgramTypes.{Project}
 use Rattle.hyd_spec_certificates.specs.RecordAndStanding.{Standing}
 use Rattle.hyd_cert.specs.ReaderView.{IsGoing}
-use Rattle.hyd_cert.specs.declared.answers.Stand.{Stand}
-use Rattle.hyd_sim.specs.View.{SimView, standing_of}
+use Rattle.hyd_cert.specs.declared.answers_of_reader.Stand.{Stand}
+use Rattle.hyd_sim.specs.RunView.{SimView, standing_of}
 use Rattle.hyd_cert_check.specs.ReaderAndPen.{CheckMoment}
 use Rattle.hyd_cert_check.specs.RecordByRecord.{CanGoOn, DidRecord, IsOver, IsLost, in_reading, in_report, IsSoFar}
 use Rattle.hyd_cert_check.specs.RecordByRecord.{IsSo}

@@ -14,20 +14,20 @@ use Rattle.hyd_cert.specs.Lines.{Header}
 use Rattle.hyd_cert.specs.PlacesOfLines.{IsFault}
 use Rattle.hyd_cert.specs.ReaderView.{ReaderView, to_come, lead, lead_lines, place_of}
 use Rattle.hyd_cert.specs.RecordView.{header_of, row_of}
-use Rattle.hyd_cert.specs.declared.answers.CertFault.TheVariants.{Grammar, Count}
-use Rattle.hyd_cert.specs.declared.answers.Stand.TheVariants as stand
+use Rattle.hyd_cert.specs.declared.answers_of_reader.CertFault.TheVariants.{Grammar, Count}
+use Rattle.hyd_cert.specs.declared.answers_of_reader.Stand.TheVariants as stand
 use Rattle.hyd_cert.specs.declared.record.Record.{Record as Row}
 use Rattle.hyd_period_network.specs.NetAsPeriodNetwork.{grid_of, states_of}
 use Rattle.hyd_period_network.specs.NetView.{NetView}
 use Rattle.hyd_period_network.specs.NetsSetToPeriods.{IsNetOf}
 use Rattle.hyd_period_network.specs.LawsInSettings.{AreStates}
 use Rattle.hyd_period_facts.specs.declared.facts.Facts.{Facts}
-use Rattle.hyd_theorems_on_definitions.specs.TermsOfTheorems.{IsSteady}
+use Rattle.hyd_theorems_on_definitions.specs.SoundLawsAndGrids.{IsSteady}
 use Rattle.hyd_report.specs.NodeAndLinkLines.{texts}
 use Rattle.hyd_report.specs.PeriodLines.{AreBounds, AreTankFacts, lines_of}
 use Rattle.hyd_report.proofs.ReportLemmas.{lines_are_report}
 use Rattle.hyd_run.proofs.PeriodLemmas.{bounds-of, tank-facts-of, number-next, each-link, fewer-left}
-use Rattle.hyd_sim.specs.View.{SimView, IsSim, standing_of, header_for}
+use Rattle.hyd_sim.specs.RunView.{SimView, IsSim, standing_of, header_for}
 use Rattle.hyd_sim.specs.Acceptance.{IsAccepted}
 use Rattle.hyd_cert_check.specs.ReaderAndPen.{CheckMoment, PutIn, IsCutOff}
 use Rattle.hyd_cert_check.specs.RecordByRecord.{coming, IsRead, IsStep, IsOfPeriod, DidRecord, LostRecord, IsOver, IsSo}

@@ -14,7 +14,7 @@ use Rattle.std.proofs.lemmas.List.{map-append}
 use Rattle.hyd_lemmas.proofs.ListsOptionsAndResults.{same_item}
 use Rattle.hyd_cert.proofs.HeadLemmas.{header_is}
 use Rattle.hyd_run.specs.Runs.{first_line}
-use Rattle.hyd_sim.specs.View.{header_for}
+use Rattle.hyd_sim.specs.RunView.{header_for}
 use Rattle.hyd_run.proofs.RunLemmas.{known}
 
 -- ---- lists of texts

@@ -14,7 +14,7 @@ use Rattle.hyd_io.specs.Output.{PenState}
 use Rattle.hyd_cert.specs.ReaderView.{ReaderView, fresh, to_come}
 use Rattle.hyd_report.specs.NodeAndLinkLines.{texts}
 use Rattle.hyd_run.specs.Runs.{first_line}
-use Rattle.hyd_sim.specs.View.{header_for}
+use Rattle.hyd_sim.specs.RunView.{header_for}
 use Rattle.hyd_cert_check.specs.Checks.{CheckEnds, CheckFinds, CheckBreaksOff, in_last_line, in_records}
 use Rattle.hyd_cert_check.specs.ReaderAndPen.{CheckMoment, new_pen, LeavesFiles, PutIn, IsCutOff, Rose}
 use Rattle.hyd_cert_check.specs.RecordByRecord.{coming, IsReadTo, nothing, IsRead, IsStep, IsSoFar, AllRead, IsWhole}

@@ -3,7 +3,7 @@
 use Rattle.std.specs.Prelude.{◌≡◌, ℕ, List, [], ◌++◌, None, Result, Ok, Err}
 use Rattle.hyd_io.specs.declared.desk.Faults.{Faults}
 use Rattle.hyd_io.specs.declared.output.Channel.TheVariants.{Report}
-use Rattle.hyd_io.specs.FailureCounts.{with_read_fault}
+use Rattle.hyd_io.specs.DeskCounts.{with_read_fault}
 use Rattle.hyd_io.specs.DeskBytes.{Moves, PutOut}
 use Rattle.hyd_io.specs.Output.{HasOutCause, PenState}
 use Rattle.hyd_cert.specs.ReaderView.{ReaderView}

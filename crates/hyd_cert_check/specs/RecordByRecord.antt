@@ -18,13 +18,13 @@ use Rattle.hyd_cert.specs.PlacesOfLines.{First, IsFault, heads_in}
 use Rattle.hyd_cert.specs.Faults.{lines_on, HasOtherHeader, LacksRecord}
 use Rattle.hyd_cert.specs.FaultyLine.{BeginsWith, lines_of as record_lines}
 use Rattle.hyd_cert.specs.ReaderView.{IsGoing, to_come, lead, lead_lines, place_of}
-use Rattle.hyd_cert.specs.declared.answers.Stand.TheVariants as stand
+use Rattle.hyd_cert.specs.declared.answers_of_reader.Stand.TheVariants as stand
 use Rattle.hyd_cert.specs.RecordView.{row_of}
 use Rattle.hyd_period_network.specs.NetAsPeriodNetwork.{grid_of, states_of}
 use Rattle.hyd_period_network.specs.LawsInSettings.{AreStates}
-use Rattle.hyd_watched_levels.specs.FactsBeforeEnd.{HaveTanks}
+use Rattle.hyd_period_facts.specs.FactsBeforeEnd.{HaveTanks}
 use Rattle.hyd_report.specs.NodeAndLinkLines.{texts}
-use Rattle.hyd_sim.specs.View.{SimView, standing_of, header_for}
+use Rattle.hyd_sim.specs.RunView.{SimView, standing_of, header_for}
 use Rattle.hyd_run.specs.Runs.{periods_left}
 use Rattle.hyd_cert_check.specs.Checks.{refused_grammar_line, refused_counts_line, CheckEnds, CheckFinds}
 use Rattle.hyd_cert_check.specs.ReaderAndPen.{CheckMoment, IsOpen, PutIn, IsCutOff}
@@ -34,7 +34,7 @@ use Rattle.hyd_cert_check.specs.declared.outcome.CheckFault.{CheckFault}
 use Rattle.hyd_cert_check.specs.declared.outcome.CheckFault.TheVariants.{Output}
 use Rattle.hyd_cert_check.specs.declared.outcome.Conclusion.{Conclusion}
 use Rattle.hyd_cert_check.specs.declared.outcome.Conclusion.TheVariants.{Accepted, Refused, OtherEnd, Grammar, Counts}
-use Rattle.hyd_theorems_on_definitions.specs.TermsOfTheorems.{TanksInOrder}
+use Rattle.hyd_theorems_on_definitions.specs.SoundLawsAndGrids.{TanksInOrder}
 
 -- ---- one record
 

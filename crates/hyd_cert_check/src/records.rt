@@ -10,7 +10,7 @@ ghost use Rattle.hyd_report.specs.NodeAndLinkLines.{texts};
 ghost use Rattle.hyd_report.specs.PeriodLines.{lines_of};
 ghost use Rattle.hyd_io.specs.TextPutIn.{Puts};
 ghost use Rattle.hyd_run.specs.Pens.{told};
-ghost use Rattle.hyd_sim.specs.View.{header_for, standing_of};
+ghost use Rattle.hyd_sim.specs.RunView.{header_for, standing_of};
 ghost use Rattle.hyd_cert_check.specs.ReaderAndPen.{CheckMoment, moment, IsOpen, PutIn};
 ghost use Rattle.hyd_cert_check.specs.RecordByRecord.{CanGoOn, IsEnd, IsOfPeriod, IsRead, IsSo, TryGives, TurnGives};
 ghost use Rattle.hyd_cert_check.specs.RecordByRecord.{TurnsGive};

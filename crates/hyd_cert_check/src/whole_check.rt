@@ -1,4 +1,4 @@
-//! A check.
+//! A whole check of a certificate.
 #![tactic(auto)]
 
 ghost use Rattle.std.specs.Prelude.{◌≡◌, ⊤, ℕ, List, None, Some, IfErr, IfOk, OnOk};
@@ -7,7 +7,7 @@ ghost use Rattle.hyd_spec_certificates.specs.RecordAndStanding.{initial_standing
 ghost use Rattle.hyd_cert.specs.ReaderView.{ReaderView, fresh};
 ghost use Rattle.hyd_cert.specs.RecordView.{header_of};
 ghost use Rattle.hyd_run.specs.Pens.{told};
-ghost use Rattle.hyd_sim.specs.View.{header_for, standing_of};
+ghost use Rattle.hyd_sim.specs.RunView.{header_for, standing_of};
 ghost use Rattle.hyd_cert_check.specs.Checks.{CheckEnds, CheckBreaksOff};
 ghost use Rattle.hyd_cert_check.specs.ReaderAndPen.{CheckMoment, moment, new_pen, IsOpen, Rose};
 ghost use Rattle.hyd_cert_check.specs.RecordByRecord.{AllRead, CheckPuts, IsPrinted, IsWhole, end_of};

@@ -3,7 +3,7 @@ use Rattle.std.proofs.Common.{◌≡◌, ◌≢◌, ℕ, List, [], Option, None,
 use Rattle.std.proofs.Common.{append-nil}
 use Rattle.std.specs.Prelude.{⊤}
 use Rattle.hyd_io.specs.DeskBytes.{append_known}
-use Rattle.hyd_io.specs.FailureCounts.{with_opened}
+use Rattle.hyd_io.specs.DeskCounts.{with_opened}
 use Rattle.hyd_io.specs.declared.desk.Faults.{Faults}
 use Rattle.hyd_io.specs.declared.desk.Openings.{Openings}
 use Rattle.hyd_io.specs.declared.output.OutFault.TheVariants.{Fault, Stalled as Stall}

@@ -3,7 +3,7 @@ use Rattle.std.proofs.Common.{◌≡◌, ◌≢◌, ℕ, Bool, false, List, [], 
 use Rattle.std.proofs.Common.{sym, subst, is_some}
 use Rattle.std.proofs.lemmas.Bool.{false≢true}
 use Rattle.hyd_io.specs.DeskBytes.{where_told, append_known, file_at, content_of, Moves, PutOut}
-use Rattle.hyd_io.specs.FailureCounts.{with_created}
+use Rattle.hyd_io.specs.DeskCounts.{with_created}
 use Rattle.hyd_io.specs.Output.{by_channel}
 use Rattle.hyd_io.specs.declared.desk.Openings.{Openings}
 use Rattle.hyd_io.specs.declared.output.Channel.{Channel}

@@ -1,6 +1,6 @@
 pub mod AnswerLemmas
 pub mod CheckLemmas
 pub mod PrintLemmas
-pub mod CommandLemmas
+pub mod CommandsOfWords
 pub mod GenLemmas
-pub mod TaskLemmas
+pub mod TaskWithoutMemory

@@ -2,7 +2,7 @@
 -- Source: this program's.
 use Rattle.std.specs.Prelude.{◌≡◌, ℕ, ◌⊎◌, List}
 use Rattle.hyd_io.specs.declared.desk.Openings.{Openings}
-use Rattle.hyd_io.specs.FailureCounts.{with_opened}
+use Rattle.hyd_io.specs.DeskCounts.{with_opened}
 use Rattle.hyd_spec.specs.ProgramTypes.{Project}
 use Rattle.hyd_spec_reports.specs.PromisesOfRunsAndChecks.{CheckAccepts}
 use Rattle.hyd_cert_check.specs.Checks.{CheckRefusal, CheckBreaksOff}

@@ -1,5 +1,5 @@
 pub mod Statuses
-pub mod Words
+pub mod WordsAndUsageLine
 pub mod DeskContents
 pub mod Answers
 pub mod RunAnswers

@@ -2,7 +2,7 @@
 -- Source: this program's.
 use Rattle.std.specs.Prelude.{◌≡◌, ℕ, ◌⊎◌, List, ⊤}
 use Rattle.hyd_io.specs.declared.desk.Openings.{Openings}
-use Rattle.hyd_io.specs.FailureCounts.{with_opened, with_created}
+use Rattle.hyd_io.specs.DeskCounts.{with_opened, with_created}
 use Rattle.hyd_io.specs.DeskBytes.{where_told, append_known, file_at}
 use Rattle.hyd_spec.specs.ProgramTypes.{Project}
 use Rattle.hyd_spec_reports.specs.PromisesOfRunsAndChecks.{Outcome, RunWrites, RunBreaksOff, outcome_number}

@@ -1,7 +1,7 @@
 -- What is done with a network that was read, and what is said of it then: of contents, and of how often files were
 -- opened and created.
 -- Source: this program's.
-use Rattle.std.specs.Prelude.{◌≡◌, ◌≢◌, ℕ, Bool, false, pos, List, IsTrue}
+use Rattle.std.specs.Prelude.{◌≢◌, ℕ, Bool, false, pos, List, IsTrue}
 use Rattle.hyd_io.specs.declared.desk.Openings.{Openings}
 use Rattle.hyd_io.specs.DeskBytes.{IsTold}
 use Rattle.hyd_spec.specs.ProgramTypes.{Project}

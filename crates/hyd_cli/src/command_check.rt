@@ -7,7 +7,7 @@ ghost use Rattle.hyd_net.specs.declared.refusal_cause.Cause.{Cause};
 ghost use Rattle.hyd_spec_certificates.specs.RecordAndStanding.{initial_standing};
 ghost use Rattle.hyd_spec_input.specs.Faults.{IsFault, HasNoFault};
 ghost use Rattle.hyd_cert.specs.RecordView.{header_of};
-ghost use Rattle.hyd_sim.specs.View.{header_for, standing_of};
+ghost use Rattle.hyd_sim.specs.RunView.{header_for, standing_of};
 ghost use Rattle.hyd_command_words.specs.CommandGrammar.{TwoFiles, check};
 ghost use Rattle.hyd_cli.specs.DeskContents.{seen, OnlyPrintedSome};
 ghost use Rattle.hyd_cli.specs.Answers.{HasCause, Leaves, AnswersRefused};

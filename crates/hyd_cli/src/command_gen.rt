@@ -1,14 +1,14 @@
 //! The command `gen`: a network is made, written and run.
 
-ghost use Rattle.std.specs.Prelude.{◌≡◌, ◌≢◌, ◌⊎◌, ℕ, false, List, Some, IsTrue, IfOk, IfErr, OnOk, OnErr};
+ghost use Rattle.std.specs.Prelude.{◌≡◌, ◌≢◌, ◌⊎◌, ℕ, false, Some, IsTrue, IfOk, IfErr, OnOk, OnErr};
 ghost use Rattle.hyd_io.specs.declared.output.Channel.TheVariants.{Cert};
-ghost use Rattle.hyd_io.specs.FailureCounts.{with_created};
+ghost use Rattle.hyd_io.specs.DeskCounts.{with_created};
 ghost use Rattle.hyd_io.specs.Output.{HasOutCause};
 ghost use Rattle.hyd_io.specs.DeskBytes.{append_known, PutOut};
 ghost use Rattle.hyd_net.specs.declared.refusal_cause.Cause.{Cause};
 ghost use Rattle.hyd_spec_certificates.specs.RecordAndStanding.{initial_standing};
 ghost use Rattle.hyd_spec_input.specs.Faults.{IsFault, HasNoFault};
-ghost use Rattle.hyd_sim.specs.View.{standing_of};
+ghost use Rattle.hyd_sim.specs.RunView.{standing_of};
 ghost use Rattle.hyd_run.specs.Pens.{told, OneRose, LeavesRest};
 ghost use Rattle.hyd_run.specs.Runs.{outcome_of};
 ghost use Rattle.hyd_command_words.specs.CommandGrammar.{GenOrder, gen};

@@ -1,19 +1,26 @@
 //! The command `run`: a network is run, and its certificate and report are put out.
 
-ghost use Rattle.std.specs.Prelude.{◌≡◌, IsTrue};
+ghost use Rattle.std.specs.Prelude.{◌≡◌, ◌≢◌, ℕ, List, IsTrue};
+ghost use Rattle.hyd_io.specs.DeskBytes.{IsTold};
+ghost use Rattle.hyd_net.specs.declared.refusal_cause.Cause.{Cause};
+ghost use Rattle.hyd_spec_input.specs.Faults.{IsFault, HasNoFault};
 ghost use Rattle.hyd_spec_certificates.specs.RecordAndStanding.{initial_standing};
-ghost use Rattle.hyd_sim.specs.View.{standing_of};
+ghost use Rattle.hyd_sim.specs.RunView.{standing_of};
 ghost use Rattle.hyd_run.specs.Runs.{outcome_of};
 ghost use Rattle.hyd_cli.specs.DeskContents.{seen, ChangesOnly};
-ghost use Rattle.hyd_cli.specs.Answers.{HasCause};
-ghost use Rattle.hyd_cli.specs.RunAnswers.{OpensCert, AnswersRun};
+ghost use Rattle.hyd_cli.specs.Answers.{HasCause, LeavesRun, AnswersRefused};
+ghost use Rattle.hyd_cli.specs.RunAnswers.{OpensCert, AnswersRun, OpensOnce, Holds, AnswersText};
 ghost use Rattle.hyd_cli.specs.Statuses.{status_of_outcome};
+ghost use Rattle.hyd_cli.specs.declared.status.Status.TheVariants.{Usage};
 
+use crate::network_file::{Unread, read_network};
 use crate::status::{Status, fault_status};
+use crate::task_with_network::{Task, do_with_network};
+use crate::usage_and_refusal::refuse_text;
 use hyd_finders::{Finder, Gradient};
 use hyd_io::{Channel, Desk, Pen};
 use hyd_run::{RunEnd, run};
-use hyd_sim::Sim;
+use hyd_sim::{Settings, Sim};
 use hyd_spec_reports::StopCause;
 use std::alloc::Global;
 
@@ -70,5 +77,38 @@ pub(crate) fn run_by_gradient<D: Desk>(
     match Gradient::open(alloc, sim.net()) {
         Ok(mut finder) => put_run(sim, &mut finder, cert, desk),
         Err(_) => Status::OutOfMemory,
+    }
+}
+
+/// Reads NET, runs its network, and writes CERT and prints the report.
+pub(crate) fn run_files<D: Desk>(
+    alloc: Global,
+    net: &str,
+    cert: &str,
+    settings: Settings,
+    desk: &mut D,
+) -> Status
+    requires opens { IsTrue (D.may_open net.now) }
+    requires creates { IsTrue (D.may_create cert.now) }
+    ensures cause { HasCause result (D.counts desk.old) (D.counts desk.new) }
+    ensures leaves { LeavesRun result
+        (seen D.files D.written D.printed desk.old) (seen D.files D.written D.printed desk.new) }
+    ensures never_usage { result ≢ Usage }
+    ensures refused { (text : List ℕ) (line : ℕ) (why : Cause) → IsTold (D.files desk.old) net.now text
+        → IsFault text line why → AnswersRefused line why result
+        (seen D.files D.written D.printed desk.old) (seen D.files D.written D.printed desk.new) }
+    ensures run { (text : List ℕ) → IsTold (D.files desk.old) net.now text → HasNoFault text
+        → AnswersText text settings cert.now result
+        (seen D.files D.written D.printed desk.old) (seen D.files D.written D.printed desk.new) }
+    ensures holds { Holds result cert.now
+        (seen D.files D.written D.printed desk.old) (seen D.files D.written D.printed desk.new) }
+    ensures others { ChangesOnly cert.now
+        (seen D.files D.written D.printed desk.old) (seen D.files D.written D.printed desk.new) }
+    ensures once { OpensOnce result (D.openings desk.old) (D.openings desk.new) }
+{
+    match read_network(alloc, net, desk) {
+        Ok(project) => do_with_network(alloc, project, Task::Run { cert, settings }, desk),
+        Err(Unread::Fault(fault)) => refuse_text(fault.line, fault.cause, desk),
+        Err(Unread::Ended(status)) => status,
     }
 }

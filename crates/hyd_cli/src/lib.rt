@@ -1,13 +1,14 @@
-//! The command `hyd`: its statuses, and the call `tool` that the program makes.
+//! The command `hyd`: what it does for `run`, `check` and `gen`, its statuses, what it says on standard error, and the
+//! call `tool` that the program makes.
 #![tactic(auto)]
 
 mod command_check;
 mod command_gen;
 mod command_run;
-mod messages;
 mod network_file;
 mod program;
 mod run_settings;
+mod standard_error;
 mod status;
 mod task_with_network;
 mod usage_and_refusal;

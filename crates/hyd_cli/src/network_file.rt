@@ -2,7 +2,7 @@
 
 ghost use Rattle.std.specs.Prelude.{◌≡◌, ◌⊎◌, ◌<◌, List, ℕ, IsTrue, IfOk, IfErr, IfSome, IfNone, OnOk, length};
 ghost use Rattle.hyd_io.specs.DeskBytes.{IsTold};
-ghost use Rattle.hyd_io.specs.FailureCounts.{with_opened};
+ghost use Rattle.hyd_io.specs.DeskCounts.{with_opened};
 ghost use Rattle.hyd_spec_lines.specs.Lines.{items_of, rows_in};
 ghost use Rattle.hyd_net.specs.Sound.{IsSound};
 ghost use Rattle.hyd_spec_input.specs.Faults.{IsFault, HasNoFault};

@@ -3,13 +3,13 @@
 ghost use Rattle.std.specs.Prelude.{◌≡◌, ◌≢◌, Some, None, IfOk, IsOk, IsErr, map, string_bytes};
 ghost use Rattle.hyd_command_words.specs.CommandGrammar.{Order, RunOrder, GenOrder, TwoFiles, order_of, run, check};
 ghost use Rattle.hyd_command_words.specs.CommandGrammar.{gen};
-ghost use Rattle.hyd_cli.specs.Words.{words_behind_name};
+ghost use Rattle.hyd_cli.specs.WordsAndUsageLine.{words_behind_name};
 ghost use Rattle.hyd_cli.specs.DeskContents.{seen};
 ghost use Rattle.hyd_cli.specs.Answers.{MayUse, HasCause, Leaves, AnswersUsage};
 ghost use Rattle.hyd_cli.specs.Commands.{DoesRun, DoesCheck, DoesGen};
 ghost use Rattle.hyd_cli.specs.declared.status.Status.TheVariants.{Usage};
 
-use crate::messages::say_why;
+use crate::standard_error::say_why;
 use crate::status::Status;
 use crate::whole_command::tool;
 use hyd_io::{Desk, FileDesk};

@@ -1,11 +1,11 @@
-//! Lines that are printed, and nothing else done.
+//! The usage line, and the line of a refused network.
 
 ghost use Rattle.std.specs.Prelude.{◌≡◌, ℕ, List, IfErr, OnOk, OnErr};
 ghost use Rattle.hyd_io.specs.declared.output.Channel.TheVariants.{Report};
 ghost use Rattle.hyd_io.specs.Output.{HasOutCause};
 ghost use Rattle.hyd_io.specs.DeskBytes.{append_known, file_at, PutOut};
 ghost use Rattle.hyd_report.specs.RefusedText.{refused_text_line};
-ghost use Rattle.hyd_cli.specs.Words.{usage_line};
+ghost use Rattle.hyd_cli.specs.WordsAndUsageLine.{usage_line};
 ghost use Rattle.hyd_cli.specs.DeskContents.{seen};
 ghost use Rattle.hyd_cli.specs.Answers.{HasCause, AnswersRefused};
 ghost use Rattle.hyd_cli.specs.RunAnswers.{OpensCert};
@@ -56,7 +56,7 @@ pub(crate) fn print_refusal<D: Desk>(line: u32, cause: Cause, desk: &mut D) -> R
     pen.flush(desk)
 }
 
-/// Prints the line of a text that is refused.
+/// Prints that line, and answers the status of a refused text or of the fault that kept it from being printed.
 pub(crate) fn refuse_text<D: Desk>(line: u32, cause: Cause, desk: &mut D) -> Status
     ensures cause { HasCause result (D.counts desk.old) (D.counts desk.new) }
     ensures answers { AnswersRefused line cause result

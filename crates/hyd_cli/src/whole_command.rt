@@ -1,30 +1,23 @@
-//! The top call.
+//! The call `tool`: any command of the program, from its words to its status.
 
-ghost use Rattle.std.specs.Prelude.{◌≡◌, ◌≢◌, ℕ, List, Option, Some, None, IsTrue, map, option_map, string_bytes};
-ghost use Rattle.hyd_io.specs.DeskBytes.{IsTold, file_at};
-ghost use Rattle.hyd_net.specs.declared.refusal_cause.Cause.{Cause};
-ghost use Rattle.hyd_spec_input.specs.Faults.{IsFault, HasNoFault};
+ghost use Rattle.std.specs.Prelude.{◌≡◌, ◌≢◌, Option, Some, None, map, option_map, string_bytes};
 ghost use Rattle.hyd_command_words.specs.CommandGrammar.{Order, RunOrder, GenOrder, TwoFiles, order_of, run, check};
 ghost use Rattle.hyd_command_words.specs.CommandGrammar.{gen};
 ghost use Rattle.hyd_command_words.specs.CommandView.{order_seen};
-ghost use Rattle.hyd_cli.specs.DeskContents.{seen, ChangesOnly};
-ghost use Rattle.hyd_cli.specs.Answers.{MayUse, HasCause, Leaves, LeavesRun};
-ghost use Rattle.hyd_cli.specs.RunAnswers.{OpensOnce, Holds};
-ghost use Rattle.hyd_cli.specs.Answers.{AnswersUsage, AnswersRefused};
-ghost use Rattle.hyd_cli.specs.RunAnswers.{AnswersText};
+ghost use Rattle.hyd_cli.specs.DeskContents.{seen};
+ghost use Rattle.hyd_cli.specs.Answers.{MayUse, HasCause, Leaves};
+ghost use Rattle.hyd_cli.specs.Answers.{AnswersUsage};
 ghost use Rattle.hyd_cli.specs.Commands.{DoesRun, DoesCheck, DoesGen};
 ghost use Rattle.hyd_cli.specs.declared.status.Status.TheVariants.{Usage};
 
 use crate::command_check::check_files;
 use crate::command_gen::generate_network;
-use crate::network_file::{Unread, read_network};
+use crate::command_run::run_files;
 use crate::run_settings::settings_of;
 use crate::status::{Status, fault_status};
-use crate::task_with_network::{Task, do_with_network};
-use crate::usage_and_refusal::{print_usage, refuse_text};
+use crate::usage_and_refusal::print_usage;
 use hyd_command_words::{Command, read_words};
 use hyd_io::Desk;
-use hyd_sim::Settings;
 use std::alloc::Global;
 
 /// Runs the command of the words after the program's name.
@@ -93,7 +86,7 @@ fn carry_out<D: Desk>(alloc: Global, found: Option<Command<'_>>, desk: &mut D) -
         (D.openings desk.old) (D.openings desk.new) (D.ready desk.new) }
 {
     match found {
-        Some(Command::Run(words)) => run(
+        Some(Command::Run(words)) => run_files(
             alloc,
             words.files.net,
             words.files.cert,
@@ -103,33 +96,6 @@ fn carry_out<D: Desk>(alloc: Global, found: Option<Command<'_>>, desk: &mut D) -
         Some(Command::Check(files)) => check_files(alloc, files.net, files.cert, desk),
         Some(Command::Gen(words)) => generate_network(alloc, &words, desk),
         None => refuse_words(desk),
-    }
-}
-
-/// Reads NET, runs its network, and writes CERT and prints the report.
-fn run<D: Desk>(alloc: Global, net: &str, cert: &str, settings: Settings, desk: &mut D) -> Status
-    requires opens { IsTrue (D.may_open net.now) }
-    requires creates { IsTrue (D.may_create cert.now) }
-    ensures cause { HasCause result (D.counts desk.old) (D.counts desk.new) }
-    ensures leaves { LeavesRun result
-        (seen D.files D.written D.printed desk.old) (seen D.files D.written D.printed desk.new) }
-    ensures never_usage { result ≢ Usage }
-    ensures refused { (text : List ℕ) (line : ℕ) (why : Cause) → IsTold (D.files desk.old) net.now text
-        → IsFault text line why → AnswersRefused line why result
-        (seen D.files D.written D.printed desk.old) (seen D.files D.written D.printed desk.new) }
-    ensures run { (text : List ℕ) → IsTold (D.files desk.old) net.now text → HasNoFault text
-        → AnswersText text settings cert.now result
-        (seen D.files D.written D.printed desk.old) (seen D.files D.written D.printed desk.new) }
-    ensures holds { Holds result cert.now
-        (seen D.files D.written D.printed desk.old) (seen D.files D.written D.printed desk.new) }
-    ensures others { ChangesOnly cert.now
-        (seen D.files D.written D.printed desk.old) (seen D.files D.written D.printed desk.new) }
-    ensures once { OpensOnce result (D.openings desk.old) (D.openings desk.new) }
-{
-    match read_network(alloc, net, desk) {
-        Ok(project) => do_with_network(alloc, project, Task::Run { cert, settings }, desk),
-        Err(Unread::Fault(fault)) => refuse_text(fault.line, fault.cause, desk),
-        Err(Unread::Ended(status)) => status,
     }
 }
 

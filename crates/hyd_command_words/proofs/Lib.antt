@@ -1,4 +1,4 @@
-pub mod SortsOfWords
+pub mod KindsOfWords
 pub mod CommandOfMatches
 pub mod MatchRowLemmas
 pub mod SaidLemmas

@@ -1,7 +1,7 @@
 -- clap's walk over words gives the commands of what they say.
 use Rattle.std.proofs.Common.{◌≡◌, ◌⊎◌, ◌∙◌, ◌==◌, not, ◌&&◌, ◌||◌, Bool, true, false, cond, List, [], ◌∷◌, ◌++◌}
 use Rattle.std.proofs.Common.{length, Option, Some, None, IsUtf8, arith, refl, sym, ap, subst, inl, inr, codes}
-use Rattle.std.proofs.Common.{bytes_eq, option_map, option_and_then, ne_eqb, ◌^◌, pos}
+use Rattle.std.proofs.Common.{bytes_eq, option_map, option_and_then, ne_eqb}
 use Rattle.clap.specs.Kinds.{Kinds, or_else}
 use Rattle.clap.specs.Faults.{long_fault, settle_fault, step_fault}
 use Rattle.hyd_command_words.specs.ClapParser.{said_of}
@@ -17,10 +17,10 @@ use Rattle.hyd_command_words.specs.CommandGrammar.{rounds_of}
 use Rattle.hyd_command_words.specs.CommandGrammar.{width_of, run, run_command, check_command, gen_command}
 use Rattle.hyd_command_words.proofs.SaidLemmas.{joined}
 use Rattle.hyd_command_words.proofs.MatchRowLemmas.{rules, used_by, sweeps_used, width_used, name_used, tight_used}
-use Rattle.hyd_command_words.proofs.SortsOfWords.{Lexed, closing, plain, short, long, IsPlain, IsLong, and_false}
-use Rattle.hyd_command_words.proofs.SortsOfWords.{kind_by}
-use Rattle.hyd_command_words.proofs.SortsOfWords.{lexed}
-use Rattle.hyd_command_words.proofs.SortsOfWords.{named_kind}
+use Rattle.hyd_command_words.proofs.KindsOfWords.{Lexed, closing, plain, short, long, IsPlain, IsLong, and_false}
+use Rattle.hyd_command_words.proofs.KindsOfWords.{kind_by}
+use Rattle.hyd_command_words.proofs.KindsOfWords.{lexed}
+use Rattle.hyd_command_words.proofs.KindsOfWords.{named_kind}
 use Rattle.hyd_command_words.proofs.WalkSteps.{shape, Pending, held, at, IsFree, IsWhole, IsFault, turn, step}
 use Rattle.hyd_command_words.proofs.WalkSteps.{name_held}
 use Rattle.hyd_command_words.proofs.WalkSteps.{name_step, name_fault, turn_from, step_from, plain_met, plain_fault}

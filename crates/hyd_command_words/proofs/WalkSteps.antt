@@ -14,7 +14,7 @@ use Rattle.hyd_command_words.specs.OptionsAndNames.{Word}
 use Rattle.hyd_command_words.specs.ClapParser.{words_command}
 use Rattle.hyd_lemmas.proofs.BooleanTests.{and-false}
 use Rattle.hyd_command_words.proofs.MatchRowLemmas.{rules}
-use Rattle.hyd_command_words.proofs.SortsOfWords.{IsPlain, IsShort, IsLong}
+use Rattle.hyd_command_words.proofs.KindsOfWords.{IsPlain, IsShort, IsLong}
 
 abbrev pub shape : Shape
 shape = (built words_command).top

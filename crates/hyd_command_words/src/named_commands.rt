@@ -1,8 +1,8 @@
 //! The command of a name and what is said behind it.
 
-ghost use Rattle.std.specs.Prelude.{◌≡◌, ◌^◌, ◌-◌, option_map, not, ◌==◌, ◌||◌};
+ghost use Rattle.std.specs.Prelude.{◌≡◌, ◌-◌, option_map, not, ◌==◌, ◌||◌};
 ghost use Rattle.hyd_command_words.specs.CommandGrammar as orders;
-ghost use Rattle.hyd_command_words.specs.CommandView.{said_seen, texts_seen, order_seen, run_seen, gen_seen};
+ghost use Rattle.hyd_command_words.specs.CommandView.{said_seen, texts_seen, order_seen, gen_seen};
 ghost use Rattle.hyd_command_words.specs.CommandView.{files_seen};
 
 use crate::command::{Command, Files, GenWords, RunWords};

@@ -5,5 +5,5 @@ pub mod FirstPassingPlace
 pub mod BestOffers
 pub mod FirstOpenControl
 pub mod TankHeadsUnread
-pub mod Truths
-pub mod Settled
+pub mod TruthsBetweenReadings
+pub mod SameStartAtEveryLevel

@@ -7,16 +7,16 @@ use Rattle.std.proofs.lemmas.Bool.{le-leb}
 use Rattle.std.proofs.lemmas.Int.{ints}
 use Rattle.std.proofs.lemmas.Option.{slice_get-get_or}
 use Rattle.hyd_num.specs.FileQuantity.{head_ticks, flow_ticks}
-use Rattle.hyd_num.specs.declared.decimals.Span.{Span}
+use Rattle.hyd_num.specs.declared.spans.Span.{Span}
 use Rattle.hyd_net.specs.ControlsAndRules.{HasPressure}
 use Rattle.hyd_net.specs.RoundedFileNumbers.{IsRounded, IsExactly, IsAmount, IsValueMade}
-use Rattle.hyd_spec.specs.DemandsReservoirHeadsAndCurves.{is_us, pressure_value}
+use Rattle.hyd_spec.specs.DemandsHeadsAndPumpLifts.{is_us, pressure_value}
 use Rattle.hyd_num.specs.Rational.{Rational, whole, total_of}
 use Rattle.hyd_spec.specs.ProgramTypes.{Project, Tank, Junction, Decimal, Clause, What, Head, Pressure, Level, Flow}
 use Rattle.hyd_spec.specs.ProgramTypes.{Setting, Status, Time, Clock, Relation, Value, Amount}
 use Rattle.hyd_spec.specs.Scale.{at_scale}
 use Rattle.hyd_spec.specs.NodeNumbers.{nodes_before_tanks}
-use Rattle.hyd_spec_certificates.specs.Spans.{levels_of, flows_of}
+use Rattle.hyd_spec_certificates.specs.SpansAsIntervals.{levels_of, flows_of}
 use Rattle.hyd_spec_certificates.specs.Interval.{Interval}
 use Rattle.hyd_spec_certificates.specs.declared.LevelSpan.{LevelSpan}
 use Rattle.hyd_controls_and_rules.specs.RuleReadings.{IsMeasured}

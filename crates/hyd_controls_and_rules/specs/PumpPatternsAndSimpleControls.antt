@@ -1,4 +1,4 @@
--- The start of a period.
+-- Pump patterns and simple controls at the start of a period, as the program knows them.
 -- Source: EPANET 2.2 User Manual, chapter 3 (controls) and appendix C ([CONTROLS], [PUMPS]).
 use Rattle.std.specs.Prelude.{◌≡◌, ⊤, ℕ, ◌<◌, ℤ, Bool, List, length, map, Option, Some, None, IfSome, slice_get}
 use Rattle.std.specs.Prelude.{slice_set, position, fold, if◌then◌else◌}
@@ -7,7 +7,7 @@ use Rattle.hyd_spec.specs.ProgramTypes.{LinkState}
 use Rattle.hyd_spec.specs.ProgramTypes.{Control, When, AtLevel, AtTime, AtClock}
 use Rattle.hyd_spec.specs.PumpPatternsAndSimpleControls.{control_acts}
 use Rattle.hyd_spec_reports.specs.Stops.{is_open_control}
-use Rattle.hyd_spec_certificates.specs.Spans.{levels_of}
+use Rattle.hyd_spec_certificates.specs.SpansAsIntervals.{levels_of}
 use Rattle.hyd_spec_certificates.specs.declared.LevelSpan.{LevelSpan}
 use Rattle.hyd_controls_and_rules.specs.declared.pump_patterns_and_simple_controls.LevelOpen.{LevelOpen}
 

@@ -1,4 +1,4 @@
--- Room for rows.
+-- Room for the changes that rules make: a row for each link.
 use Rattle.std.specs.Prelude.{◌+◌, ◌≤◌, length}
 use Rattle.hyd_controls_and_rules.specs.declared.changes.Changes.TheInside.{Inside}
 

@@ -2,14 +2,14 @@
 -- Source: EPANET 2.2 User Manual, chapter 3 (rule-based controls).
 use Rattle.std.specs.Prelude.{◌≡◌, ⊤, ℕ, ◌^◌, ◌≤◌, ℤ, ◌-ℤ◌, unsigned_abs, List, length, map}
 use Rattle.std.specs.List.{All}
-use Rattle.hyd_num.specs.declared.decimals.Span.{Span}
+use Rattle.hyd_num.specs.declared.spans.Span.{Span}
 use Rattle.hyd_num.specs.Rational.{whole}
 use Rattle.hyd_net.specs.Sound.{IsSound}
 use Rattle.hyd_spec.specs.ProgramTypes.{LinkState, Clause, What, Head, Pressure, Level, Flow, Setting, Status, Time}
 use Rattle.hyd_spec.specs.ProgramTypes.{Clock}
 use Rattle.hyd_spec.specs.NodeNumbers.{nodes_before_tanks, tank_count}
 use Rattle.hyd_spec.specs.Rules.{Readings, level_of, measured}
-use Rattle.hyd_spec_certificates.specs.Spans.{levels_of, flows_of}
+use Rattle.hyd_spec_certificates.specs.SpansAsIntervals.{levels_of, flows_of}
 use Rattle.hyd_spec_certificates.specs.Interval.{Interval}
 use Rattle.hyd_spec_certificates.specs.Decided.{least_magnitude, greatest_magnitude, clause_between}
 use Rattle.hyd_spec_certificates.specs.declared.Verdict.{Verdict}

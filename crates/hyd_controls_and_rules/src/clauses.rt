@@ -1,4 +1,4 @@
-//! Clauses of rules at an instant.
+//! What rules look at, at an instant, and clauses of rules there.
 #![tactic(auto)]
 
 ghost use Rattle.std.specs.Prelude.{◌≡◌, ◌+◌, ◌^◌, ◌<◌, ◌≤◌, length, pos, IfSome, IfNone};
@@ -9,7 +9,7 @@ ghost use Rattle.hyd_net.specs.RoundedFileNumbers.{IsRounded, IsValueMade};
 ghost use Rattle.hyd_spec.specs.NodeNumbers.{nodes_before_tanks};
 ghost use Rattle.hyd_spec.specs.Rules.{setting_of, compares, is_word, status_holds, state_word, seconds_of, time_holds};
 ghost use Rattle.hyd_spec.specs.Rules.{has_come, has_come_today};
-ghost use Rattle.hyd_spec_certificates.specs.Spans.{flows_of};
+ghost use Rattle.hyd_spec_certificates.specs.SpansAsIntervals.{flows_of};
 ghost use Rattle.hyd_spec_certificates.specs.Decided.{least_magnitude, greatest_magnitude};
 ghost use Rattle.hyd_controls_and_rules.specs.RuleReadings.{IsBounded, IsInstant, AreLevelEnds, AreEnds};
 ghost use Rattle.hyd_controls_and_rules.specs.RuleReadings.{IsMeasured};

@@ -10,7 +10,7 @@ mod logic;
 mod pump_patterns_and_simple_controls;
 mod rules;
 mod state_comparison;
-pub mod theorems;
+pub mod theorems_on_unread_tank_heads;
 mod time_of_day;
 
 pub use changes::Changes;

@@ -1,7 +1,7 @@
-//! Rules at an instant.
+//! What is known of rules at an instant.
 #![tactic(auto)]
 
-ghost use Rattle.std.specs.Prelude.{◌≡◌, ◌<◌, ℕ, List, [], ◌∷◌, length, map, position, slice_get, IsSome};
+ghost use Rattle.std.specs.Prelude.{◌≡◌, ◌<◌, ℕ, List, [], ◌∷◌, length, map, position, slice_get};
 ghost use Rattle.std.specs.List.{All};
 ghost use Rattle.hyd_net.specs.Sound.{IsSound};
 ghost use Rattle.hyd_spec.specs.ProgramTypes as types;
@@ -9,7 +9,7 @@ ghost use Rattle.hyd_spec.specs.NodeNumbers.{nodes_before_tanks, tank_count};
 ghost use Rattle.hyd_spec_certificates.specs.declared.Verdict as verdict;
 ghost use Rattle.hyd_spec_certificates.specs.declared.Verdict.TheVariants as verdicts;
 ghost use Rattle.hyd_spec.specs.Rules.{Readings, rule_holds};
-ghost use Rattle.hyd_spec_certificates.specs.Spans.{levels_of, flows_of};
+ghost use Rattle.hyd_spec_certificates.specs.SpansAsIntervals.{levels_of, flows_of};
 ghost use Rattle.hyd_spec_certificates.specs.Decided.{rule_between, IsTruthBetween};
 ghost use Rattle.hyd_theorems_on_histories.specs.Agreement.{AreBetween};
 ghost use Rattle.hyd_controls_and_rules.specs.TruthOfRule.{IsTruthOf, IsKnownAs};

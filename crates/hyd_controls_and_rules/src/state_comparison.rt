@@ -1,4 +1,4 @@
-//! Commanded states of links.
+//! Whether two states of a link are the same.
 #![tactic(auto)]
 
 ghost use Rattle.std.specs.Prelude.{◌≡◌};

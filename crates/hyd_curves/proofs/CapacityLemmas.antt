@@ -10,14 +10,14 @@ use Rattle.hyd_num.specs.CapacityRange.{IsRefused}
 use Rattle.hyd_num.specs.declared.decimals.Decimal.{Decimal}
 use Rattle.hyd_num.specs.declared.flow_units.FlowUnit.{FlowUnit}
 use Rattle.hyd_num.specs.declared.link_capacities.Origin.TheVariants.{Pump}
-use Rattle.hyd_net.proofs.Equal.{Decimal-equal}
+use Rattle.hyd_net.proofs.EqualValues.{Decimal-equal}
 use Rattle.hyd_net.specs.declared.refusal_cause.Cause.{Cause}
-use Rattle.hyd_capacities.specs.Ranges.{IsCurveFlow}
+use Rattle.hyd_capacities.specs.FileNumberRanges.{IsCurveFlow}
 use Rattle.hyd_spec_input.specs.CapacitiesOutOfRange.{IsRefusedPump}
 use Rattle.hyd_spec_input.specs.Columns.{or_else, unless}
 use Rattle.hyd_spec_input.specs.Curves as curve
 use Rattle.hyd_spec_input.specs.Curves.{Drop, drop_of, is_bent, is_flow, is_within, square}
-use Rattle.hyd_spec_input.specs.Tables.{Point}
+use Rattle.hyd_spec_input.specs.SectionsAndTables.{Point}
 use Rattle.hyd_curves.specs.CurveFaults.{pump_fault, IsRefusedPoints}
 use Rattle.hyd_curves.specs.Points.{points_in}
 use Rattle.hyd_curves.specs.declared.points.CurvePoint.{CurvePoint}

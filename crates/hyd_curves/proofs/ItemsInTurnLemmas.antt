@@ -5,7 +5,7 @@ use Rattle.std.specs.Prelude.{◌&&◌}
 use Rattle.std.proofs.lemmas.Bool.{and_parts, cases_Bool}
 use Rattle.std.specs.List.{list_all}
 use Rattle.hyd_spec_input.specs.Curves.{at_end}
-use Rattle.hyd_spec_input.specs.Tables.{Point}
+use Rattle.hyd_spec_input.specs.SectionsAndTables.{Point}
 use Rattle.hyd_curves.specs.Points.{points_in, point_in}
 use Rattle.hyd_curves.specs.EachWithNext.{goes_on, all_in_turn}
 use Rattle.hyd_curves.specs.declared.points.CurvePoint.{CurvePoint}

@@ -1,11 +1,11 @@
-pub mod NamedLemmas
+pub mod NamesOnceLemmas
 pub mod PointLemmas
-pub mod TankRowLemmas
-pub mod StraightLineCurveRowLemmas
-pub mod ItemsInTurnLemmas
+pub mod VolumeCurveLemmas
 pub mod StraightLineCurveLemmas
+pub mod ItemsInTurnLemmas
+pub mod PumpAndValveCurveTestLemmas
 pub mod CapacityLemmas
 pub mod VerdictsOnCurvesLemmas
-pub mod LineLemmas
+pub mod LinesBetweenKnots
 pub mod PumpLemmas
-pub mod VolumeCurveLemmas
+pub mod TankCurveTestLemmas

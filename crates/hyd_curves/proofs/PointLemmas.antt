@@ -17,23 +17,24 @@ use Rattle.hyd_spec_lines.specs.declared.section.Section.TheVariants.{Curves}
 use Rattle.hyd_net.specs.ListView.{ListView}
 use Rattle.hyd_spec_input.specs.SingleRows as itself
 use Rattle.hyd_spec_input.specs.SingleRows.{IsWrongByItself}
-use Rattle.hyd_spec_input.specs.DemandCurveAndStatusRows as row_form
+use Rattle.hyd_spec_input.specs.DemandEmitterCurvePatternAndStatusRows as row_form
 use Rattle.hyd_spec_input.specs.Faults.{NoneIs}
 use Rattle.hyd_spec_input.specs.MeaningsAcrossRows.{number_in}
-use Rattle.hyd_spec_input.specs.Tables.{Point, place, is_of, rows_of, rows_with, own_id, point_of, curve_named}
-use Rattle.hyd_spec_input.specs.Tables.{row_with, has_id}
+use Rattle.hyd_spec_input.specs.SectionsAndTables.{Point, place, is_of, rows_of, rows_with, own_id, point_of}
+use Rattle.hyd_spec_input.specs.SectionsAndTables.{curve_named}
+use Rattle.hyd_spec_input.specs.SectionsAndTables.{row_with, has_id}
 use Rattle.hyd_spec_input.specs.Columns.{word, or_empty}
 use Rattle.hyd_network_rows.specs.Rows.{IsCurveRow}
-use Rattle.hyd_network_rows.specs.declared.demands_curves_and_statuses.CurveRow.{CurveRow}
+use Rattle.hyd_network_rows.specs.declared.demands_emitters_curves_and_statuses.CurveRow.{CurveRow}
 use Rattle.hyd_rows_and_tables.specs.IdTables.{AreFirsts, AreEmpty}
-use Rattle.hyd_rows_and_tables.proofs.FoundLemmas.{filter_more, filter_same, one_name, has_more, not_named}
-use Rattle.hyd_rows_and_tables.proofs.SectionLemmas.{all_rows}
-use Rattle.hyd_rows_and_tables.specs.FirstWrongRow.{rows_at}
+use Rattle.hyd_rows_and_tables.proofs.FirstWrongRowLemmas.{filter_more, filter_same, one_name, has_more, not_named}
+use Rattle.hyd_rows_and_tables.proofs.WrongInSectionLemmas.{all_rows}
+use Rattle.hyd_rows_and_tables.specs.RowsOfLines.{rows_at}
 use Rattle.hyd_rows_and_tables.proofs.TableLemmas.{not_found, has_id-is, even}
 use Rattle.hyd_curves.specs.Points.{points_in, point_in, each, list_of, ArePoints, AreGathered, HasOneMore}
 use Rattle.hyd_curves.specs.declared.points.CurvePoint.{CurvePoint}
 use Rattle.hyd_curves.specs.declared.points.Points.{Points}
-use Rattle.hyd_theorems_on_input.proofs.Faultless.{none_from}
+use Rattle.hyd_theorems_on_input.proofs.RowsWithoutFault.{none_from}
 
 -- ---- lists
 

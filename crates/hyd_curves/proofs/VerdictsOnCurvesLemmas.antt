@@ -10,11 +10,11 @@ use Rattle.hyd_net.specs.declared.refusal_cause.Cause.{Cause}
 use Rattle.hyd_net.specs.declared.refusal_cause.Cause.TheVariants.{Range, Unsupported}
 use Rattle.hyd_spec_input.specs.Columns.{or_else, unless}
 use Rattle.hyd_spec_input.specs.Curves.{is_bent, is_pump_curve, are_flows, has_shutoff, is_pump_bend, head_points}
-use Rattle.hyd_spec_input.specs.InForce as force
+use Rattle.hyd_spec_input.specs.OptionsAndTimesInForce as force
 use Rattle.hyd_spec_input.specs.MeaningsAcrossRows.{number_in}
 use Rattle.hyd_spec_input.specs.Project.{Match}
-use Rattle.hyd_spec_input.specs.Tables.{Point, curve_named}
-use Rattle.hyd_spec_input.specs.RowsTogether as others
+use Rattle.hyd_spec_input.specs.SectionsAndTables.{Point, curve_named}
+use Rattle.hyd_spec_input.specs.FaultsWithOtherRows as others
 use Rattle.hyd_curves.specs.CurveFaults.{pump_fault}
 use Rattle.hyd_curves.specs.VerdictsOnCurves.{on_no_points, verdict_at, IsVerdictOf, IsVerdictOn, AreVerdicts}
 use Rattle.hyd_curves.specs.Points.{points_in, each, list_of, ArePoints}

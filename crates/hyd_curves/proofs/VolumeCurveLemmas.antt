@@ -1,255 +1,230 @@
--- Volume curves.
-use Rattle.std.proofs.Common.{◌≡◌, ◌++◌, ◌^◌, ◌≤◌, nat_le, unsigned_abs, ◌==◌, ◌<ℤ◌, ◌≤ℤ◌, ◌*ℤ◌, Bool, true, false}
-use Rattle.std.proofs.Common.{List, [], ◌∷◌, length, refl, sym, ap, ◌∙◌, arith, ℤ, pos, neg_ℤ, true≢false, subst}
-use Rattle.std.specs.Prelude.{◌&&◌, ◌||◌}
-use Rattle.std.specs.List.{list_all}
-use Rattle.std.proofs.lemmas.List.{length-map}
-use Rattle.std.proofs.lemmas.Int.{ints}
+-- The volume curves that tanks name, one row further.
+use Rattle.std.proofs.Common.{◌≡◌, All, ◌+◌, ◌<◌, ◌≤◌, ◌++◌, ◌^◌, ◌==◌, ℕ, Bool, true, false, List, [], ◌∷◌, length}
+use Rattle.std.proofs.Common.{take, slice_get, get_or, Option, Some, None, pos, refl, sym, ap, ◌∙◌, subst, arith}
+use Rattle.std.proofs.Common.{true≢false, append-nil, inl, if◌then◌else◌, ℤ, ◌+ℤ◌, ◌-ℤ◌}
+use Rattle.std.specs.Prelude.{◌&&◌, nat_le}
+use Rattle.std.specs.List.{flat_map, list_all}
 use Rattle.std.proofs.lemmas.Bool.{and_parts}
-use Rattle.std.proofs.lemmas.Bool.Decides.{nat_tests}
+use Rattle.std.proofs.lemmas.Grind.{flat_map-append}
+use Rattle.std.proofs.lemmas.List.{length-map, get_or-map, length-append}
+use Rattle.std.proofs.lemmas.List.Elements.{All-nil, All-cons}
+use lib.Signed.{le_z}
 use Rattle.hyd_num.specs.FileQuantity.{head_ticks}
-use Rattle.hyd_num.specs.Rational.{floor}
-use lib.Signed.{le_z, lt_z}
-use Rattle.hyd_spec_input.specs.Curves as curve
-use Rattle.hyd_spec_input.specs.Curves.{volume_point, volume_points, is_fuller, in_turn, covers, at_start, at_end}
+use Rattle.hyd_spec_lines.specs.Lines.{Row}
+use Rattle.hyd_spec_lines.specs.declared.section.Section.{Section}
+use Rattle.hyd_spec_lines.specs.declared.section.Section.TheVariants.{Tanks}
+use Rattle.hyd_net.specs.Curves.{volume_at}
+use Rattle.hyd_net.specs.ListView.{ListView}
+use Rattle.hyd_net.specs.declared.refusal_cause.Cause.{Cause}
+use Rattle.hyd_net.specs.declared.refusal_cause.Cause.TheVariants.{Range}
 use Rattle.hyd_net.specs.declared.curves.VolumePoint.{VolumePoint}
+use Rattle.hyd_spec_input.specs.SingleRows as itself
+use Rattle.hyd_spec_input.specs.SingleRows.{IsWrongByItself}
+use Rattle.hyd_spec_input.specs.Columns.{or_else, first, amount}
+use Rattle.hyd_spec_input.specs.Curves.{volume_point, volume_points, is_fuller, in_turn, is_volume_curve, covers}
+use Rattle.hyd_spec_input.specs.Faults.{NoneIs, IsWrongWithOthers}
+use Rattle.hyd_spec_input.specs.MeaningsAcrossRows.{as_list, new_names, shape_names, is_among}
+use Rattle.hyd_spec_input.specs.NodeAndLinkRows as row_form
+use Rattle.hyd_spec_input.specs.NodeAndLinkRows.{tank_curve}
+use Rattle.hyd_spec_input.specs.Project.{Match, shape_points}
+use Rattle.hyd_spec_input.specs.SectionsAndTables.{place, is_of, rows_of, node_rows}
+use Rattle.hyd_spec_input.specs.FaultsWithOtherRows as others
+use Rattle.hyd_spec_input.specs.FaultsWithOtherRows.{us}
+use Rattle.hyd_rows_and_tables.proofs.FirstWrongRowLemmas.{filter_more, filter_same}
+use Rattle.hyd_rows_and_tables.specs.RowsOfLines.{rows_at}
+use Rattle.hyd_rows_and_tables.proofs.WrongInSectionLemmas.{all_rows}
+use Rattle.hyd_spec_lines.specs.declared.line.Line.{Line}
+use Rattle.hyd_spec_input.specs.OptionsAndTimesInForce as force
+use Rattle.hyd_curves.specs.CurveFaults.{tank_curve_fault}
+use Rattle.hyd_curves.specs.NamedVolumeCurves.{IsSmallVolume, AreShapes, AreShapesAt, with_name}
 use Rattle.hyd_curves.specs.Points.{points_in, point_in}
-use Rattle.hyd_net.specs.Curves.{Knot, between, value_from, value_at, volume_knots, volume_at}
-use Rattle.hyd_curves.specs.TankCurveTests.{level_passes, begins_and_ends, IsRight}
-use Rattle.hyd_curves.specs.PointsAsKnots.{IsSmall, knot_of}
+use Rattle.hyd_curves.specs.TankCurveTests.{IsRight, level_passes, begins_and_ends}
 use Rattle.hyd_curves.specs.declared.points.CurvePoint.{CurvePoint}
-use Rattle.hyd_curves.specs.declared.ticks.Ticks.{Ticks}
-use Rattle.hyd_num.proofs.Integers.{one_times}
-use Rattle.hyd_lemmas.proofs.BooleanTests.{lt-from, lt-not, nat-le-from, le_z-yes, lt_z-no, lt_z-yes}
-use Rattle.hyd_lemmas.proofs.ListsOptionsAndResults.{no_items}
-use Rattle.hyd_curves.proofs.LineLemmas.{floor_whole}
-use Rattle.hyd_curves.proofs.ItemsInTurnLemmas.{last_is}
+use Rattle.hyd_curves.specs.declared.volume_curves.Shapes.{Shapes}
+use Rattle.hyd_curves.specs.declared.points_in_ticks.Ticks.{Ticks}
+use Rattle.hyd_theorems_on_input.proofs.MatchedLists.{match_push}
+use Rattle.hyd_theorems_on_input.proofs.RowsWithoutFault.{unless_none, none_from}
+use Rattle.hyd_curves.proofs.NamesOnceLemmas.{one_name_more}
+use Rattle.hyd_curves.proofs.TankCurveTestLemmas.{small, behind}
 
--- a point as a volume point
-abbrev pub shape_point : Bool → CurvePoint → VolumePoint
-shape_point us point = volume_point us (point_in point)
+-- ---- small points
 
-abbrev pub shape : Bool → List CurvePoint → List VolumePoint
-shape us points = volume_points us (points_in points)
+pub small_at : (us : Bool) (points : List CurvePoint) (k : ℕ) (point : CurvePoint)
+    → All IsSmallVolume (volume_points us (points_in points)) → k < length points → point ≡ get_or points k point
+    → IsSmallVolume (volume_point us (point_in point))
+small_at us points k point all l is =
+    let d : VolumePoint = volume_point us (point_in point) in
+    let n : length (points_in points) ≡ length points = length-map points point_in in
+    let m : length (volume_points us (points_in points)) ≡ length (points_in points) =
+    length-map (points_in points) (volume_point us) in
+    let at : get_or (volume_points us (points_in points)) k d ≡ d =
+    get_or-map (volume_point us) (points_in points) k (point_in point) d (omega (arith, n, l))
+    ∙ ap (volume_point us) (get_or-map point_in points k point (point_in point) l ∙ ap point_in (sym is)) in
+    subst IsSmallVolume at (all k d (omega (arith, n, m, l)))
 
--- ---- both ends
+small_point : (p : VolumePoint) (points : List VolumePoint) → IsRight (p ∷ points) → IsSmallVolume p
+small_point p points right =
+    let ticks : Ticks = record { place = p.level; value = p.volume } in
+    let s = small ticks points right in
+    record { level = s.place; volume = s.value }
 
-abbrev between_ends : ℤ → ℤ → List VolumePoint → Bool
-between_ends minimum maximum points = begins_and_ends points && covers minimum maximum points
+right_small : (points : List VolumePoint) → IsRight points → All IsSmallVolume points
+right_small [] right = All-nil IsSmallVolume
+right_small (a ∷ []) right = All-cons IsSmallVolume a [] (small_point a [] right) (All-nil IsSmallVolume)
+right_small (a ∷ b ∷ points) right =
+    All-cons IsSmallVolume a (b ∷ points) (small_point a (b ∷ points) right)
+    (right_small (b ∷ points) (behind a b points right).0)
 
-pub no_ends : (us : Bool) (minimum maximum : ℤ) (points : List CurvePoint) → length points ≡ 0
-    → false ≡ between_ends minimum maximum (shape us points)
-no_ends us minimum maximum points e = rw (no_items points e) refl
+-- ---- a tank's row among all rows
 
-pub ends_are : (us : Bool) (minimum maximum : ℤ) (points rest front : List CurvePoint) (first last : CurvePoint)
-    → points ≡ first ∷ rest → points ≡ front ++ last ∷ []
-    → ((le_z (pos 0) (shape_point us first).volume && le_z (shape_point us last).volume (pos (10 ^ 18)))
-    && (le_z (shape_point us first).level minimum && le_z maximum (shape_point us last).level))
-    ≡ between_ends minimum maximum (shape us points)
-ends_are us minimum maximum points rest front first last e f =
-    let low : at_start (λ (p : VolumePoint). le_z (pos 0) p.volume) (shape us points) ≡ le_z (pos 0) (shape_point us
-    first).volume =
-    rw e refl in
-    let high : at_end (λ (p : VolumePoint). le_z p.volume (pos (10 ^ 18))) (shape us points)
-    ≡ le_z (shape_point us last).volume (pos (10 ^ 18)) =
-    ap (λ (ps : List CurvePoint). at_end (λ (p : VolumePoint). le_z p.volume (pos (10 ^ 18))) (shape us ps)) f
-    ∙ last_is (λ (p : VolumePoint). le_z p.volume (pos (10 ^ 18))) (volume_point us) front last in
-    let start : at_start (λ (p : VolumePoint). le_z p.level minimum) (shape us points) ≡ le_z (shape_point us
-    first).level minimum =
-    rw e refl in
-    let end : at_end (λ (p : VolumePoint). le_z maximum p.level) (shape us points) ≡ le_z maximum (shape_point us
-    last).level =
-    ap (λ (ps : List CurvePoint). at_end (λ (p : VolumePoint). le_z maximum p.level) (shape us ps)) f
-    ∙ last_is (λ (p : VolumePoint). le_z maximum p.level) (volume_point us) front last in
-    sym (rw (low, high, start, end) refl)
+pub behind_none : (fault next : Option Cause) → or_else fault next ≡ None → next ≡ None
+behind_none None next e = e
+behind_none (Some cause) next e = absurd (let x : ⊥ = cc in x)
 
--- ---- the volume up to a level
+pub here_none : (fault next : Option Cause) → or_else fault next ≡ None → fault ≡ None
+here_none None next e = refl
+here_none (Some cause) next e = absurd (let x : ⊥ = cc in x)
 
-abbrev pub point_of : Ticks → VolumePoint
-point_of ticks = record { level = ticks.place; volume = ticks.value }
+seventh : (a b c d e f g : Option Cause) → first (a ∷ b ∷ c ∷ d ∷ e ∷ f ∷ g ∷ []) ≡ None → g ≡ None
+seventh a b c d e f g h =
+    here_none g None (behind_none f _ (behind_none e _ (behind_none d _ (behind_none c _ (behind_none b _
+    (behind_none a _ h))))))
 
--- the volume is by a point and those after it, all of them right
-pub record IsWalked (us : Bool) (points : List CurvePoint) (level : ℤ) (first : Ticks) (left : List CurvePoint) :
-    Type 0 where
-  pub value : value_from 1 (knot_of first) (volume_knots (shape us left)) level
-      ≡ value_at 1 (volume_knots (shape us points)) level
-  pub right : IsRight (point_of first ∷ shape us left)
+fault_is : (section : Section) (rows : List Row) (k : ℕ) (row : Row) → (place section == 2) ≡ true
+    → others.section_fault section rows k row ≡ others.tank rows k row
+fault_is Tanks rows k row h = refl
+fault_is _ rows k row h = absurd (true≢false (sym h))
 
--- ---- what is asked of neighbours
+-- its curve is one that covers its levels
+curve_passes : (rows : List Row) (k : ℕ) (row : Row) → NoneIs (IsWrongWithOthers rows)
+    → slice_get rows k ≡ Some row → is_of Tanks row ≡ true
+    → others.volume_curve rows row (tank_curve row.words) ≡ None
+curve_passes rows k row right is member =
+    seventh (others.passes 32 6 (length (rows_of Tanks (take (k + 1) rows)))) (others.new_in (node_rows (take k
+    rows)) row)
+    (others.known_curve rows (tank_curve row.words)) (others.head rows (amount 1 row.words)) (others.levels_apart
+    rows row)
+    (others.head rows (amount 1 row.words +ℤ amount 4 row.words)) (others.volume_curve rows row (tank_curve row.words))
+    (sym (fault_is row.section rows k row member)
+    ∙ none_from (others.row_fault rows k row)
+    (λ cause f. right k cause (record { row = row; row_is = is; fault = inl f })))
 
--- a point has at most the last one's volume
-full : (most : ℤ) (a : VolumePoint) (points : List VolumePoint) → in_turn is_fuller (a ∷ points) ≡ true
-    → at_end (λ (p : VolumePoint). le_z p.volume most) (a ∷ points) ≡ true → a.volume ≤ℤ most
-full most a [] rises ends = le_z-yes a.volume most ends
-full most a (b ∷ points) rises ends =
-    let both = and_parts (is_fuller a b) (in_turn is_fuller (b ∷ points)) rises in
-    let up = and_parts (lt_z a.level b.level) (lt_z a.volume b.volume) both.0 in
-    let last : b.volume ≤ℤ most = full most b points both.1 ends in
-    omega (arith, ints, lt_z-yes a.volume b.volume up.1, last)
+curve_right : (minimum maximum : ℤ) (points : List VolumePoint) → is_volume_curve minimum maximum points ≡ true
+    → IsRight points
+curve_right minimum maximum points e =
+    let parts = and_parts ((nat_le 2 (length points) && (list_all level_passes points && in_turn is_fuller points))
+    && begins_and_ends points)
+    (covers minimum maximum points && le_z (pos (10 ^ 6)) (volume_at points maximum -ℤ volume_at points minimum)) e in
+    let shape = and_parts (nat_le 2 (length points) && (list_all level_passes points && in_turn is_fuller points))
+    (begins_and_ends points) parts.0 in
+    let two = and_parts (nat_le 2 (length points)) (list_all level_passes points && in_turn is_fuller points) shape.0 in
+    record { rises = two.1; volumes = shape.1 }
 
--- a right point is small
-pub small : (ticks : Ticks) (points : List VolumePoint) → IsRight (point_of ticks ∷ points) → IsSmall ticks
-small ticks points right =
-    let p = point_of ticks in
-    let both = and_parts (list_all level_passes (p ∷ points)) (in_turn is_fuller (p ∷ points)) right.rises in
-    let here = and_parts (level_passes p) (list_all level_passes points) both.0 in
-    let level = and_parts (le_z (neg_ℤ (pos (10 ^ 17))) p.level) (le_z p.level (pos (10 ^ 17))) here.0 in
-    let ends = and_parts (at_start (λ (p : VolumePoint). le_z (pos 0) p.volume) (p ∷ points))
-    (at_end (λ (p : VolumePoint). le_z p.volume (pos (10 ^ 18))) (p ∷ points)) right.volumes in
-    let low : pos 0 ≤ℤ p.volume = le_z-yes (pos 0) p.volume ends.0 in
-    let high : p.volume ≤ℤ pos (10 ^ 18) = full (pos (10 ^ 18)) p points both.1 ends.1 in
-    let least : neg_ℤ (pos (10 ^ 17)) ≤ℤ p.level = le_z-yes _ p.level level.0 in
-    let most : p.level ≤ℤ pos (10 ^ 17) = le_z-yes p.level _ level.1 in
-    record {
-      place = omega (arith, ints, least, most);
-      value = omega (arith, ints, low, high);
-    }
+pub named_small : (rows : List Row) (k : ℕ) (row : Row) (name : List ℕ) → NoneIs (IsWrongWithOthers rows)
+    → slice_get rows k ≡ Some row → is_of Tanks row ≡ true → tank_curve row.words ≡ Some name
+    → All IsSmallVolume (shape_points rows name)
+named_small rows k row name right is member e =
+    let fault : others.volume_curve rows row (Some name) ≡ None =
+    ap (λ (n : Option (List ℕ)). others.volume_curve rows row n) (sym e) ∙ curve_passes rows k row right is member in
+    right_small (shape_points rows name)
+    (curve_right (head_ticks (us rows) (amount 3 row.words)) (head_ticks (us rows) (amount 4 row.words))
+    (shape_points rows name) (unless_none _ Range fault))
 
--- the points behind a right one are right, and the next is fuller
-pub behind : (a b : VolumePoint) (points : List VolumePoint) → IsRight (a ∷ b ∷ points)
-    → IsRight (b ∷ points) × (a.level <ℤ b.level)
-behind a b points right =
-    let both = and_parts (list_all level_passes (a ∷ b ∷ points)) (in_turn is_fuller (a ∷ b ∷ points)) right.rises in
-    let levels = and_parts (level_passes a) (list_all level_passes (b ∷ points)) both.0 in
-    let turns = and_parts (is_fuller a b) (in_turn is_fuller (b ∷ points)) both.1 in
-    let up = and_parts (lt_z a.level b.level) (lt_z a.volume b.volume) turns.0 in
-    let ends = and_parts (at_start (λ (p : VolumePoint). le_z (pos 0) p.volume) (a ∷ b ∷ points))
-    (at_end (λ (p : VolumePoint). le_z p.volume (pos (10 ^ 18))) (a ∷ b ∷ points)) right.volumes in
-    let start : le_z (pos 0) b.volume ≡ true =
-    grind (arith, ints, le_z-yes (pos 0) a.volume ends.0, lt_z-yes a.volume b.volume up.1) in (
-      record { rises = rw (levels.1, turns.1) refl; volumes = rw (start, ends.1) refl },
-      lt_z-yes a.level b.level up.0,
+-- ---- by itself
+
+by_itself : (section : Section) (earlier : List (List (List ℕ))) (words : List (List ℕ)) (later : List (List (List ℕ)))
+    → (place section == 2) ≡ true → itself.section_fault section earlier words later ≡ row_form.tank words
+by_itself Tanks earlier words later h = refl
+by_itself _ earlier words later h = absurd (true≢false (sym h))
+
+pub tank_is_right : (rows : List Row) (k : ℕ) (row : Row) → NoneIs (IsWrongByItself rows)
+    → slice_get rows k ≡ Some row → is_of Tanks row ≡ true → row_form.tank row.words ≡ None
+tank_is_right rows k row right is member =
+    sym (by_itself row.section _ row.words _ member)
+    ∙ none_from (itself.row_fault rows k row) (λ cause f. right k cause (record { row = row; row_is = is; fault = f }))
+
+-- ---- names
+
+abbrev names_in : List Row → List (List ℕ)
+names_in tanks = flat_map (λ (row : Row). as_list (tank_curve row.words)) tanks
+
+more_names : (rows : List Row) (k : ℕ) (row : Row) (added : List (List ℕ)) → slice_get rows k ≡ Some row
+    → is_of Tanks row ≡ true → as_list (tank_curve row.words) ≡ added
+    → shape_names (take (k + 1) rows) ≡ new_names [] (names_in (rows_of Tanks (take k rows)) ++ added)
+more_names rows k row added is member e =
+    ap (λ (rs : List Row). new_names [] (names_in rs)) (filter_more (is_of Tanks) rows k row is member)
+    ∙ ap (new_names []) (flat_map-append (λ (r : Row). as_list (tank_curve r.words)) (rows_of Tanks (take k rows))
+    (row ∷ [])
+    ∙ ap (λ (ns : List (List ℕ)). names_in (rows_of Tanks (take k rows)) ++ ns) (append-nil _ ∙ e))
+
+pub skip_row : (rows : List Row) (k : ℕ) (row : Row) (shapes : Shapes) → AreShapesAt rows k shapes
+    → slice_get rows k ≡ Some row → is_of Tanks row ≡ false → AreShapesAt rows (k + 1) shapes
+skip_row rows k row shapes before is other = record {
+  names = before.names ∙ sym (ap (λ (rs : List Row). new_names [] (names_in rs)) (filter_same (is_of Tanks) rows k
+      row is other));
+  few = omega (arith, before.few);
+  lists = before.lists;
+}
+
+pub none_row : (rows : List Row) (k : ℕ) (row : Row) (shapes : Shapes) → AreShapesAt rows k shapes
+    → slice_get rows k ≡ Some row → is_of Tanks row ≡ true → tank_curve row.words ≡ None
+    → AreShapesAt rows (k + 1) shapes
+none_row rows k row shapes before is member none = record {
+  names = before.names ∙ sym (more_names rows k row [] is member (ap as_list none)
+      ∙ ap (new_names []) (append-nil (names_in (rows_of Tanks (take k rows)))));
+  few = omega (arith, before.few);
+  lists = before.lists;
+}
+
+pub length_with : (there : Bool) (names : List (List ℕ)) (name : List ℕ)
+    → length (if there then names else names ++ name ∷ []) ≤ length names + 1
+length_with true names name = omega arith
+length_with false names name = omega (arith, length-append names (name ∷ []))
+
+pub named_row : (rows : List Row) (k : ℕ) (row : Row) (name : List ℕ) (shapes next : Shapes)
+    → AreShapesAt rows k shapes → slice_get rows k ≡ Some row → is_of Tanks row ≡ true
+    → tank_curve row.words ≡ Some name → next.names ≡ with_name shapes.names name → AreShapes rows next
+    → AreShapesAt rows (k + 1) next
+named_row rows k row name shapes next before is member e names lists = record {
+  names = names ∙ ap (λ (ns : List (List ℕ)). with_name ns name) before.names
+      ∙ sym (more_names rows k row (name ∷ []) is member (ap as_list e) ∙ one_name_more (names_in (rows_of Tanks
+      (take k rows))) name);
+  few = omega (arith, before.few, ap length names, length_with (is_among name shapes.names) shapes.names name);
+  lists = lists;
+}
+
+pub list_more : (rows : List Row) (shapes next : Shapes) (name : List ℕ) (list : ListView VolumePoint)
+    → AreShapes rows shapes → list.list ≡ shape_points rows name → next.names ≡ shapes.names ++ name ∷ []
+    → next.lists.list ≡ shapes.lists.list ++ list ∷ [] → AreShapes rows next
+list_more rows shapes next name list before one names lists =
+    rw (names, lists) (match_push (λ (n : List ℕ) (l : ListView VolumePoint). l.list ≡ shape_points rows n) shapes.names
+    shapes.lists.list name list before one)
+
+-- ---- all rows
+
+pub no_shapes : (rows : List Row) (shapes : Shapes) → shapes.names ≡ [] → shapes.lists.list ≡ []
+    → AreShapesAt rows 0 shapes
+no_shapes rows shapes e f = record { names = e; few = omega (arith, ap length e); lists = rw (e, f) tt }
+
+pub all_shapes : (text : List ℕ) (lines : List Line) (k : ℕ) (shapes : Shapes) → AreShapesAt (rows_at text lines) k
+    shapes
+    → length lines ≤ k
+    → (shapes.names ≡ shape_names (rows_at text lines))
+    × Match (λ (name : List ℕ) (list : ListView VolumePoint). list.list ≡ shape_points (rows_at text lines) name)
+    (shape_names (rows_at text lines)) shapes.lists.list
+all_shapes text lines k shapes at l =
+    let rows = rows_at text lines in
+    let names : shapes.names ≡ shape_names rows = at.names ∙ ap shape_names (all_rows text lines k l) in (
+      names,
+      subst (λ (ns : List (List ℕ)). Match (λ (name : List ℕ) (list : ListView VolumePoint). list.list ≡
+          shape_points rows name)
+          ns shapes.lists.list) names at.lists,
     )
 
--- ---- the walk
+-- ---- what a tank's row asks of its curve, in the unit in force
 
--- a level is looked up on the line to a point, or behind it
-reached : (us : Bool) (a b : Knot) (later : List CurvePoint) (level : ℤ)
-    → true ≡ ((length later == 0) || lt_z level b.place)
-    → value_from 1 a (b ∷ volume_knots (shape us later)) level ≡ between 1 a b level
-reached us a b [] level h = refl
-reached us a b (p ∷ later) level h =
-    let more : (length (p ∷ later) == 0) ≡ false = grind (arith, nat_tests) in
-    let less : level <ℤ b.place = lt_z-yes level b.place (sym (rw more at h)) in
-    rw (lt-from level (pos 1 *ℤ b.place) (omega (arith, ints, one_times b.place, less))) refl
-
-passed : (us : Bool) (a b : Knot) (later : List CurvePoint) (level : ℤ)
-    → false ≡ ((length later == 0) || lt_z level b.place)
-    → value_from 1 a (b ∷ volume_knots (shape us later)) level ≡ value_from 1 b (volume_knots (shape us later)) level
-passed us a b [] level h = absurd (true≢false (sym h))
-passed us a b (p ∷ later) level h =
-    let more : (length (p ∷ later) == 0) ≡ false = grind (arith, nat_tests) in
-    let le : b.place ≤ℤ level = lt_z-no level b.place (sym (rw more at h)) in
-    rw (lt-not level (pos 1 *ℤ b.place) (omega (arith, ints, one_times b.place, le))) refl
-
--- ticks are those of a point
-pub record AreTicks (us : Bool) (point : CurvePoint) (ticks : Ticks) : Type 0 where
-  pub place : ticks.place ≡ head_ticks us point.x.nano
-  pub value : ticks.value ≡ curve.volume_ticks us point.y.nano
-
--- the first two points, in ticks
-two_are : (us : Bool) (left later : List CurvePoint) (point : CurvePoint) (second : Ticks) → left ≡ point ∷ later
-    → AreTicks us point second → point_of second ∷ shape us later ≡ shape us left
-two_are us left later point second e t = rw (e, t.place, t.value) refl
-
--- a right curve begins
-pub walk_begins : (us : Bool) (points rest : List CurvePoint) (level : ℤ) (point : CurvePoint) (first : Ticks)
-    → points ≡ point ∷ rest → AreTicks us point first → IsRight (shape us points)
-    → IsWalked us points level first rest
-walk_begins us points rest level point first e t right =
-    let same = two_are us points rest point first e t in
-    record {
-      value = ap (λ (ps : List VolumePoint). value_at 1 (volume_knots ps) level) same;
-      right = subst IsRight (sym same) right;
-    }
-
-pub walk_on : (us : Bool) (points left later : List CurvePoint) (level : ℤ) (first second : Ticks) (point : CurvePoint)
-    → IsWalked us points level first left → left ≡ point ∷ later → AreTicks us point second
-    → false ≡ ((length later == 0) || lt_z level second.place) → IsWalked us points level second later
-walk_on us points left later level first second point walked e t h =
-    let same = two_are us left later point second e t in
-    let right : IsRight (point_of first ∷ point_of second ∷ shape us later) =
-    subst (λ (ps : List VolumePoint). IsRight (point_of first ∷ ps)) (sym same) walked.right in
-    record {
-      value = sym (passed us (knot_of first) (knot_of second) later level h)
-          ∙ ap (λ (ps : List VolumePoint). value_from 1 (knot_of first) (volume_knots ps) level) same ∙ walked.value;
-      right = (behind (point_of first) (point_of second) (shape us later) right).0;
-    }
-
-pub walk_ends : (us : Bool) (points left later : List CurvePoint) (level result : ℤ) (first second : Ticks)
-    (point : CurvePoint) → IsWalked us points level first left → left ≡ point ∷ later → AreTicks us point second
-    → true ≡ ((length later == 0) || lt_z level second.place)
-    → result ≡ floor (between 1 (knot_of first) (knot_of second) level) → result ≡ volume_at (shape us points) level
-walk_ends us points left later level result first second point walked e t h r =
-    r ∙ ap floor (sym (reached us (knot_of first) (knot_of second) later level h)
-    ∙ ap (λ (ps : List VolumePoint). value_from 1 (knot_of first) (volume_knots ps) level) (two_are us left later
-    point second e t)
-    ∙ walked.value)
-
--- the two points that the walk stands at
-pub next_two : (us : Bool) (points left later : List CurvePoint) (level : ℤ) (first second : Ticks) (point : CurvePoint)
-    → IsWalked us points level first left → left ≡ point ∷ later → AreTicks us point second
-    → IsSmall second × (first.place <ℤ second.place)
-next_two us points left later level first second point walked e t =
-    let same = two_are us left later point second e t in
-    let right : IsRight (point_of first ∷ point_of second ∷ shape us later) =
-    subst (λ (ps : List VolumePoint). IsRight (point_of first ∷ ps)) (sym same) walked.right in
-    let both = behind (point_of first) (point_of second) (shape us later) right in
-    (small second (shape us later) both.0, both.1)
-
--- no point is left
-pub walk_alone : (us : Bool) (points left : List CurvePoint) (level result : ℤ) (first : Ticks)
-    → IsWalked us points level first left → length left ≡ 0 → result ≡ first.value
-    → result ≡ volume_at (shape us points) level
-walk_alone us points left level result first walked e r =
-    let P : List CurvePoint → Type 0 =
-    λ ps. value_from 1 (knot_of first) (volume_knots (shape us ps)) level ≡ value_at 1 (volume_knots (shape us
-    points)) level in
-    r ∙ sym (floor_whole first.value) ∙ ap floor (subst P (no_items left e) walked.value)
-
--- ---- the curve of a tank
-
-last_passes : (passes test : VolumePoint → Bool) (points : List VolumePoint) → list_all passes points ≡ true
-    → at_end test points ≡ true → (p : VolumePoint) × (passes p ≡ true) × (test p ≡ true)
-last_passes passes test [] all end = absurd (true≢false (sym end))
-last_passes passes test (a ∷ []) all end = (a, (and_parts (passes a) true all).0, end)
-last_passes passes test (a ∷ b ∷ points) all end =
-    last_passes passes test (b ∷ points) (and_parts (passes a) (list_all passes (b ∷ points)) all).1 end
-
-first_passes : (passes test : VolumePoint → Bool) (points : List VolumePoint) → list_all passes points ≡ true
-    → at_start test points ≡ true → (p : VolumePoint) × (passes p ≡ true) × (test p ≡ true)
-first_passes passes test [] all start = absurd (true≢false (sym start))
-first_passes passes test (a ∷ points) all start = (a, (and_parts (passes a) (list_all passes points) all).0, start)
-
--- levels that a right curve covers are in range
-pub covered_small : (minimum maximum : ℤ) (points : List VolumePoint) → IsRight points
-    → covers minimum maximum points ≡ true → minimum ≤ℤ maximum
-    → (unsigned_abs minimum ≤ 10 ^ 17) × (unsigned_abs maximum ≤ 10 ^ 17)
-covered_small minimum maximum points right covered order =
-    let all = (and_parts (list_all level_passes points) (in_turn is_fuller points) right.rises).0 in
-    let ends = and_parts (at_start (λ (p : VolumePoint). le_z p.level minimum) points)
-    (at_end (λ (p : VolumePoint). le_z maximum p.level) points) covered in
-    let first = first_passes level_passes (λ p. le_z p.level minimum) points all ends.0 in
-    let last = last_passes level_passes (λ p. le_z maximum p.level) points all ends.1 in
-    let low : neg_ℤ (pos (10 ^ 17)) ≤ℤ first.0.level =
-    le_z-yes _ _ (and_parts (le_z (neg_ℤ (pos (10 ^ 17))) first.0.level) (le_z first.0.level (pos (10 ^ 17)))
-    first.1).0 in
-    let high : last.0.level ≤ℤ pos (10 ^ 17) =
-    le_z-yes _ _ (and_parts (le_z (neg_ℤ (pos (10 ^ 17))) last.0.level) (le_z last.0.level (pos (10 ^ 17))) last.1).1 in
-    let from : first.0.level ≤ℤ minimum = le_z-yes _ _ first.2 in
-    let to : maximum ≤ℤ last.0.level = le_z-yes _ _ last.2 in
-    (omega (arith, ints, low, high, from, to, order), omega (arith, ints, low, high, from, to, order))
-
--- all tests but the last pass
-pub all_but_room : (two turns ends cover room : Bool) → two ≡ true → turns ≡ true → (ends && cover) ≡ true
-    → room ≡ (((two && turns) && ends) && (cover && room))
-all_but_room two turns ends cover room a b c =
-    let both = and_parts ends cover c in
-    rw (a, b, both.0, both.1) refl
-
-pub two_points : (us : Bool) (points : List CurvePoint) → 2 ≤ length points
-    → nat_le 2 (length (shape us points)) ≡ true
-two_points us points l =
-    let n : length (shape us points) ≡ length points =
-    length-map (points_in points) (volume_point us) ∙ length-map points point_in in
-    rw n (nat-le-from 2 (length points) l)
+pub volume_curve_is : (rows : List Row) (row : Row) (name : Option (List ℕ))
+    → tank_curve_fault rows (force.unit rows) (amount 3 row.words) (amount 4 row.words) name
+    ≡ others.volume_curve rows row name
+volume_curve_is rows row None = refl
+volume_curve_is rows row (Some name) = refl

@@ -7,7 +7,7 @@ use Rattle.hyd_spec_input.specs.Columns.{or_else, unless}
 use Rattle.hyd_spec_input.specs.Curves.{is_volume_curve, volume_points, is_bent, is_pump_curve, are_flows, has_shutoff}
 use Rattle.hyd_spec_input.specs.Curves.{is_pump_bend, begins_at_0, is_valve_bend, head_points, drop_of}
 use Rattle.hyd_spec_input.specs.CapacitiesOutOfRange.{IsRefusedPump}
-use Rattle.hyd_spec_input.specs.Tables.{Point, curve_named}
+use Rattle.hyd_spec_input.specs.SectionsAndTables.{Point, curve_named}
 use Rattle.hyd_net.specs.declared.refusal_cause.Cause.{Cause}
 use Rattle.hyd_net.specs.declared.refusal_cause.Cause.TheVariants.{Range, Unsupported}
 

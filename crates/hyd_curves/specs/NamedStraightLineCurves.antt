@@ -6,9 +6,9 @@ use Rattle.hyd_spec_lines.specs.declared.section.Section.TheVariants.{Pumps, Val
 use Rattle.hyd_net.specs.ListView.{ListView}
 use Rattle.hyd_net.specs.declared.curves.HeadPoint.{HeadPoint}
 use Rattle.hyd_spec_input.specs.MeaningsAcrossRows.{as_list, bent_name, new_names}
-use Rattle.hyd_spec_input.specs.NetworkRows.{valve_curve}
+use Rattle.hyd_spec_input.specs.NodeAndLinkRows.{valve_curve}
 use Rattle.hyd_spec_input.specs.Project.{Match, bend_points}
-use Rattle.hyd_spec_input.specs.Tables.{rows_of}
+use Rattle.hyd_spec_input.specs.SectionsAndTables.{rows_of}
 use Rattle.hyd_curves.specs.declared.straight_line_curves.Bends.{Bends}
 
 -- a flow and a head of at most 10^18 ticks either way

@@ -1,4 +1,4 @@
--- Curves that rows name, each name once.
+-- Volume curves that tanks name, each name once.
 use Rattle.std.specs.Prelude.{◌≡◌, ◌≤◌, ◌^◌, ℕ, List, [], ◌∷◌, ◌++◌, length, take, if◌then◌else◌, unsigned_abs}
 use Rattle.hyd_spec_lines.specs.Lines.{Row}
 use Rattle.hyd_net.specs.ListView.{ListView}

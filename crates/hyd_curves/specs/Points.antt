@@ -3,7 +3,7 @@ use Rattle.std.specs.Prelude.{◌≡◌, ℕ, List, [], ◌∷◌, ◌++◌, map
 use Rattle.hyd_spec_lines.specs.Lines.{Row}
 use Rattle.hyd_net.specs.ListView.{ListView}
 use Rattle.hyd_spec_input.specs.MeaningsAcrossRows.{number_in}
-use Rattle.hyd_spec_input.specs.Tables.{Point, curve_named}
+use Rattle.hyd_spec_input.specs.SectionsAndTables.{Point, curve_named}
 use Rattle.hyd_curves.specs.declared.points.CurvePoint.{CurvePoint}
 use Rattle.hyd_curves.specs.declared.points.Points.{Points}
 

@@ -1,7 +1,7 @@
 -- Points in ticks as the knots of a curve.
 use Rattle.std.specs.Prelude.{◌^◌, ◌≤◌, unsigned_abs}
 use Rattle.hyd_net.specs.Curves.{Knot}
-use Rattle.hyd_curves.specs.declared.ticks.Ticks.{Ticks}
+use Rattle.hyd_curves.specs.declared.points_in_ticks.Ticks.{Ticks}
 
 -- a place and a value of at most 10^18 ticks either way
 pub record IsSmall (ticks : Ticks) : Type 0 where

@@ -4,7 +4,7 @@ use lib.Signed.{le_z}
 use Rattle.hyd_spec_input.specs.Curves.{is_head, has_flow, at_start, at_end}
 use Rattle.hyd_net.specs.NumberRanges.{flow_limit}
 use Rattle.hyd_net.specs.declared.curves.HeadPoint.{HeadPoint}
-use Rattle.hyd_curves.specs.declared.ticks.Ticks.{Ticks}
+use Rattle.hyd_curves.specs.declared.points_in_ticks.Ticks.{Ticks}
 
 -- a flow from 0 to the greatest one, a head of at least 0 and no more than a number of a file can make
 pub record IsPumpPoint (ticks : Ticks) : Type 0 where

@@ -6,8 +6,8 @@ use Rattle.hyd_spec_lines.specs.Lines.{Row}
 use Rattle.hyd_net.specs.declared.refusal_cause.Cause.TheVariants.{Range, Unsupported}
 use Rattle.hyd_spec_input.specs.CapacitiesOutOfRange.{IsRefusedCurve}
 use Rattle.hyd_spec_input.specs.MeaningsAcrossRows.{number_in}
-use Rattle.hyd_spec_input.specs.Tables.{Point}
-use Rattle.hyd_spec_input.specs.RowsTogether as others
+use Rattle.hyd_spec_input.specs.SectionsAndTables.{Point}
+use Rattle.hyd_spec_input.specs.FaultsWithOtherRows as others
 use Rattle.hyd_curves.specs.CurveFaults.{pump_fault, valve_fault, IsRefusedPoints}
 use Rattle.hyd_curves.specs.declared.verdicts_on_curves.CurveVerdict.{CurveVerdict}
 use Rattle.hyd_curves.specs.declared.verdicts_on_curves.CurveVerdicts.{CurveVerdicts}

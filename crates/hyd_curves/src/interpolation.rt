@@ -5,7 +5,7 @@ ghost use Rattle.std.specs.Prelude.{◌≡◌, ◌≤◌, ◌^◌, ◌*◌, ◌<
 ghost use Rattle.hyd_net.specs.Curves as curve;
 ghost use Rattle.hyd_curves.specs.PointsAsKnots.{IsSmall, knot_of};
 
-use crate::ticks::Ticks;
+use crate::points_in_ticks::Ticks;
 use hyd_num::whole_product;
 
 // A difference of two numbers of at most 10^18 either way.

@@ -4,10 +4,10 @@
 
 mod interpolation;
 mod points;
+mod points_in_ticks;
 mod pumps;
 mod straight_line_curves;
 mod tanks;
-mod ticks;
 mod valves;
 mod verdicts_on_curves;
 mod volume_at_level;

@@ -2,7 +2,6 @@
 #![tactic(auto)]
 
 ghost use Rattle.std.specs.Prelude.{◌≡◌, ◌<◌, ◌≤◌, ◌*◌, ◌^◌, ◌&&◌, true, false, length, pos, ◌*ℤ◌, ◌-ℤ◌, ◌≤ℤ◌, ◌<ℤ◌};
-ghost use Rattle.std.specs.List.{list_all};
 ghost use Rattle.std.specs.Ordering.{int_eq};
 ghost use lib.Signed.{le_z, lt_z};
 ghost use Rattle.hyd_num.specs.FileQuantity as quantity;
@@ -11,7 +10,7 @@ ghost use Rattle.hyd_num.specs.Rational.{is_at_most, whole};
 ghost use Rattle.hyd_net.specs.NumberRanges.{shutoff_head_limit};
 ghost use Rattle.hyd_net.specs.Curves as curve_form;
 ghost use Rattle.hyd_spec_input.specs.Curves as curve;
-ghost use Rattle.hyd_spec_input.specs.Curves.{square, is_flow, is_slower, has_flow, at_start, at_end};
+ghost use Rattle.hyd_spec_input.specs.Curves.{square, is_flow, is_slower, has_flow};
 ghost use Rattle.hyd_curves.specs.CurveFaults as asked;
 ghost use Rattle.hyd_curves.specs.PumpAndValveCurveTests.{IsPumpPoint, begins_and_ends};
 ghost use Rattle.hyd_curves.specs.PointsAsKnots.{knot_of};
@@ -20,7 +19,7 @@ ghost use Rattle.hyd_curves.specs.EachWithNext.{goes_on, all_in_turn};
 
 use crate::interpolation::on_line;
 use crate::points::CurvePoint;
-use crate::ticks::{Ticks, falls, head_point, is_within};
+use crate::points_in_ticks::{Ticks, falls, head_point, is_within};
 use hyd_net::Cause;
 use hyd_net::ranges::{GREATEST_FLOW, GREATEST_SHUTOFF_HEAD};
 use hyd_num::{FlowUnit, compare_squares};

@@ -15,7 +15,7 @@ ghost use Rattle.hyd_curves.specs.EachWithNext.{goes_on, all_in_turn};
 ghost use Rattle.hyd_curves.specs.TankCurveTests.{level_passes, begins_and_ends, IsRight};
 
 use crate::points::{CurvePoint, Points};
-use crate::ticks::{Ticks, is_within, rises, volume_point};
+use crate::points_in_ticks::{Ticks, is_within, rises, volume_point};
 use crate::volume_at_level::volume_up_to;
 use hyd_net::Cause;
 use hyd_net::ranges::{GREATEST_HEAD, GREATEST_VOLUME};

@@ -11,7 +11,7 @@ ghost use Rattle.hyd_curves.specs.Points.{points_in, point_in};
 ghost use Rattle.hyd_curves.specs.EachWithNext.{goes_on, all_in_turn};
 
 use crate::points::CurvePoint;
-use crate::ticks::{head_point, is_within, rises};
+use crate::points_in_ticks::{head_point, is_within, rises};
 use hyd_net::Cause;
 use hyd_net::ranges::{GREATEST_FLOW, GREATEST_HEAD};
 use hyd_num::FlowUnit;

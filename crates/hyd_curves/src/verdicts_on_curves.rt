@@ -5,12 +5,12 @@ ghost use Rattle.std.specs.Prelude.{◌≡◌, ◌≤◌, ◌^◌, ℕ, false, L
 ghost use Rattle.std.specs.Bool.{OnTrue, OnFalse};
 ghost use Rattle.hyd_spec_lines.specs.WordsOfLines.{text_of};
 ghost use Rattle.hyd_spec_lines.specs.Lines.{Row};
-ghost use Rattle.hyd_capacities.specs.Ranges.{IsCurveFlow};
+ghost use Rattle.hyd_capacities.specs.FileNumberRanges.{IsCurveFlow};
 ghost use Rattle.hyd_spec_input.specs.CapacitiesOutOfRange.{IsRefusedCurve};
 ghost use Rattle.hyd_spec_input.specs.Curves.{drop_of, is_bent};
-ghost use Rattle.hyd_spec_input.specs.InForce as force;
-ghost use Rattle.hyd_spec_input.specs.Tables.{Point};
-ghost use Rattle.hyd_spec_input.specs.RowsTogether as others;
+ghost use Rattle.hyd_spec_input.specs.OptionsAndTimesInForce as force;
+ghost use Rattle.hyd_spec_input.specs.SectionsAndTables.{Point};
+ghost use Rattle.hyd_spec_input.specs.FaultsWithOtherRows as others;
 ghost use Rattle.hyd_curves.specs.CurveFaults as asked;
 ghost use Rattle.hyd_curves.specs.CurveFaults.{IsRefusedPoints};
 ghost use Rattle.hyd_curves.specs.Points.{ArePoints, points_in};

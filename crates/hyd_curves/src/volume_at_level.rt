@@ -13,7 +13,7 @@ ghost use Rattle.hyd_curves.specs.TankCurveTests.{IsRight};
 
 use crate::interpolation::on_line;
 use crate::points::CurvePoint;
-use crate::ticks::{Ticks, volume_point};
+use crate::points_in_ticks::{Ticks, volume_point};
 
 // The volume up to a level on the line of two points, cut to whole ticks.
 fn volume_between(first: Ticks, second: Ticks, level: i128) -> i128

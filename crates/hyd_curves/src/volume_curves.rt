@@ -1,20 +1,20 @@
 //! The volume curves that tanks name.
 #![tactic(auto)]
 
-ghost use Rattle.std.specs.Prelude.{◌≡◌, ◌<◌, ◌≤◌, ◌+◌, ◌^◌, ℕ, List, length, All, IfOk, OnOk};
+ghost use Rattle.std.specs.Prelude.{◌≡◌, ◌<◌, ◌+◌, ◌^◌, List, length, All, IfOk, OnOk};
 ghost use Rattle.hyd_spec_lines.specs.Lines.{LiesIn, Row};
 ghost use Rattle.hyd_spec_input.specs.SingleRows.{IsWrongByItself};
 ghost use Rattle.hyd_spec_input.specs.Curves as curve;
 ghost use Rattle.hyd_spec_input.specs.Faults.{NoneIs, IsWrongWithOthers};
-ghost use Rattle.hyd_spec_input.specs.InForce as force;
+ghost use Rattle.hyd_spec_input.specs.OptionsAndTimesInForce as force;
 ghost use Rattle.hyd_spec_input.specs.MeaningsAcrossRows.{shape_names};
 ghost use Rattle.hyd_spec_input.specs.Project.{Match, shape_points};
-ghost use Rattle.hyd_rows_and_tables.specs.FirstWrongRow.{rows_at};
+ghost use Rattle.hyd_rows_and_tables.specs.RowsOfLines.{rows_at};
 ghost use Rattle.hyd_curves.specs.NamedVolumeCurves.{IsSmallVolume, AreShapesAt, AreShapes, with_name};
 ghost use Rattle.hyd_curves.specs.Points.{ArePoints, points_in, point_in};
 
 use crate::points::{CurvePoint, Points};
-use crate::ticks::volume_point;
+use crate::points_in_ticks::volume_point;
 use hyd_lex::{Line, Lines};
 use hyd_net::{Names, OutOfMemory, VolumePoint};
 use hyd_network_rows::read_tank;

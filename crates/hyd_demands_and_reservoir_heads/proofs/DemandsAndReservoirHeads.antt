@@ -9,12 +9,13 @@ use Rattle.std.specs.List.{All}
 use Rattle.std.specs.Prelude.{nat_lt, if◌then◌else◌}
 use Rattle.std.specs.Option.{option_map_or}
 use Rattle.std.proofs.lemmas.Int.{ints, unsigned_abs-mul}
-use Rattle.hyd_spec.specs.Scale.{cut, total}
+use Rattle.hyd_spec.specs.WholeNumbers.{cut}
+use Rattle.hyd_spec.specs.Lists.{total}
 use Rattle.hyd_net.specs.NumberRanges.{Numbers, LiesWithin}
 use Rattle.hyd_net.specs.NetworkRanges.{HasPattern, IsReservoir}
 use Rattle.hyd_net.specs.Sound.{IsSound, IsPattern, demand_rows}
 use Rattle.hyd_spec.specs.ProgramTypes.{Project, Pattern, Demand, Junction, Reservoir}
-use Rattle.hyd_spec.specs.DemandsReservoirHeadsAndCurves.{multiplier_at, category_demand, demand_of, reservoir_head}
+use Rattle.hyd_spec.specs.DemandsHeadsAndPumpLifts.{multiplier_at, category_demand, demand_of, reservoir_head}
 use Rattle.hyd_demands_and_reservoir_heads.specs.DemandsAndHeadsByNumber.{junction_demand, head_of_reservoir}
 
 -- ---- products

@@ -4,7 +4,7 @@ use Rattle.std.specs.Prelude.{ℕ, ℤ, pos, ◌<◌, ◌≤◌, unsigned_abs, s
 use Rattle.std.specs.Option.{option_map_or}
 use Rattle.hyd_net.specs.NumberRanges.{flow_limit}
 use Rattle.hyd_spec.specs.ProgramTypes.{Project}
-use Rattle.hyd_spec.specs.DemandsReservoirHeadsAndCurves.{demand_of, reservoir_head}
+use Rattle.hyd_spec.specs.DemandsHeadsAndPumpLifts.{demand_of, reservoir_head}
 
 -- the demand of a junction of this number at a time, in flow ticks; none where there is no such junction
 abbrev pub junction_demand : Project → ℕ → ℕ → ℤ

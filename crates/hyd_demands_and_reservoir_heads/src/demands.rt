@@ -5,8 +5,8 @@ ghost use Rattle.std.specs.Prelude.{◌≡◌, ◌<◌, ◌≤◌, ◌^◌, leng
 ghost use Rattle.std.specs.List.{All};
 ghost use Rattle.hyd_net.specs.Sound.{IsSound, IsPattern};
 ghost use Rattle.hyd_net.specs.NetworkRanges.{IsDemand, HasOptions};
-ghost use Rattle.hyd_spec.specs.Scale.{total};
-ghost use Rattle.hyd_spec.specs.DemandsReservoirHeadsAndCurves.{category_multiplier, category_demand};
+ghost use Rattle.hyd_spec.specs.Lists.{total};
+ghost use Rattle.hyd_spec.specs.DemandsHeadsAndPumpLifts.{category_multiplier, category_demand};
 ghost use Rattle.hyd_demands_and_reservoir_heads.specs.DemandsAndHeadsByNumber.{junction_demand, IsInRange};
 ghost use Rattle.hyd_demands_and_reservoir_heads.specs.DemandsAndHeadsByNumber.{IsOutOfRange};
 

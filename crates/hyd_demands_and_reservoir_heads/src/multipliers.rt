@@ -4,8 +4,8 @@
 ghost use Rattle.std.specs.Prelude.{◌≡◌, ◌<◌, ◌≤◌, ◌^◌, length, ◌*◌, ◌*ℤ◌, unsigned_abs};
 ghost use Rattle.std.specs.List.{All};
 ghost use Rattle.hyd_net.specs.Sound.{IsPattern};
-ghost use Rattle.hyd_spec.specs.Scale.{cut};
-ghost use Rattle.hyd_spec.specs.DemandsReservoirHeadsAndCurves.{multiplier_at};
+ghost use Rattle.hyd_spec.specs.WholeNumbers.{cut};
+ghost use Rattle.hyd_spec.specs.DemandsHeadsAndPumpLifts.{multiplier_at};
 
 use hyd_net::Project;
 

@@ -5,8 +5,8 @@ ghost use Rattle.std.specs.Prelude.{◌≡◌, ◌<◌, ◌≤◌, ◌*◌, ◌^
 ghost use Rattle.std.specs.List.{All};
 ghost use Rattle.hyd_net.specs.Sound.{IsSound, IsPattern};
 ghost use Rattle.hyd_net.specs.NumberRanges.{IsHead};
-ghost use Rattle.hyd_spec.specs.Scale.{cut};
-ghost use Rattle.hyd_spec.specs.DemandsReservoirHeadsAndCurves.{multiplier_at};
+ghost use Rattle.hyd_spec.specs.WholeNumbers.{cut};
+ghost use Rattle.hyd_spec.specs.DemandsHeadsAndPumpLifts.{multiplier_at};
 ghost use Rattle.hyd_demands_and_reservoir_heads.specs.DemandsAndHeadsByNumber.{head_of_reservoir};
 
 use crate::multipliers::{multiplier_at, times};

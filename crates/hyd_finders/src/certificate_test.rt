@@ -1,7 +1,7 @@
 //! Proposals checked as certificates are.
 #![tactic(auto)]
 
-ghost use Rattle.hyd_period_network.specs.NetInvariant.{HasProblem};
+ghost use Rattle.hyd_period_network.specs.SoundNets.{HasProblem};
 
 use hyd_period_network::Net;
 use hyd_spec_certificates::{Problem, Side};

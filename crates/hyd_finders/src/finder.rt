@@ -2,7 +2,7 @@
 #![tactic(auto)]
 
 ghost use Rattle.std.specs.Prelude.{◌≡◌, ℤ, List, length, Option, None, false};
-ghost use Rattle.hyd_period_network.specs.NetInvariant.{HasProblem};
+ghost use Rattle.hyd_period_network.specs.SoundNets.{HasProblem};
 ghost use Rattle.hyd_finders.specs.ProposedVectors.{Leaves};
 
 use hyd_period_network::Net;

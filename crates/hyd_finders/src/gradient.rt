@@ -1,8 +1,8 @@
 //! The gradient method.
 #![tactic(auto)]
 
-ghost use Rattle.std.specs.Prelude.{◌≡◌, ℤ, List, length, Option, None};
-ghost use Rattle.hyd_period_network.specs.NetInvariant.{HasProblem};
+ghost use Rattle.std.specs.Prelude.{None};
+ghost use Rattle.hyd_period_network.specs.SoundNets.{HasProblem};
 
 use crate::certificate_test::serve;
 use crate::convergence::Progress;

@@ -1,7 +1,7 @@
 //! The matrix of slopes at given heads, and the step that it gives.
 #![tactic(auto)]
 
-ghost use Rattle.std.specs.Prelude.{◌≡◌, length, IfOk};
+ghost use Rattle.std.specs.Prelude.{◌≡◌, length};
 
 use crate::number_lists::multiply;
 use crate::slopes::{put_diagonal, put_slopes};

@@ -1,8 +1,8 @@
-//! The way of the heads along steps.
+//! How far heads go along a step, which is halved or doubled, and raises where few of them then fall short.
 #![tactic(auto)]
 
-ghost use Rattle.std.specs.Prelude.{◌≡◌, ◌≤◌, ◌<◌, length};
-ghost use Rattle.hyd_period_network.specs.NetInvariant.{HasProblem};
+ghost use Rattle.std.specs.Prelude.{◌≡◌, ◌<◌, length};
+ghost use Rattle.hyd_period_network.specs.SoundNets.{HasProblem};
 
 use crate::flows::put_misses;
 use crate::number_lists::copy;

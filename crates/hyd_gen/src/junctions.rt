@@ -1,4 +1,4 @@
-//! Junctions and their demands.
+//! The lines of the junctions of a generated network, with their demands.
 
 ghost use Rattle.std.specs.Prelude.{◌≡◌, ◌++◌, map, string_bytes, OnOk};
 ghost use Rattle.std.specs.List.{flat_map};

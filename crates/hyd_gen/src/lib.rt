@@ -3,8 +3,8 @@
 
 mod junctions;
 mod pipes;
-mod text;
+mod whole_text;
 
-pub use text::generate;
+pub use whole_text::generate;
 /// The error of a call that found no memory.
 pub use std::alloc::AllocError as OutOfMemory;

@@ -15,11 +15,12 @@ use Rattle.hyd_net.specs.declared.refusal_cause.Cause.TheVariants.{Missing}
 use Rattle.hyd_spec_input.specs.SingleRows.{IsWrongByItself}
 use Rattle.hyd_spec_input.specs.Faults.{NoneIs, IsFirst, IsFaultOf, HasNoFault, IsWrongWithOthers, IsFault, line_cause}
 use Rattle.hyd_spec_input.specs.Faults.{lack, has_some}
-use Rattle.hyd_spec_input.specs.InForce.{names_head_loss}
-use Rattle.hyd_spec_input.specs.Tables.{is_of, rows_of}
+use Rattle.hyd_spec_input.specs.OptionsAndTimesInForce.{names_head_loss}
+use Rattle.hyd_spec_input.specs.SectionsAndTables.{is_of, rows_of}
 use Rattle.hyd_rows_and_tables.specs.declared.first_wrong.Found.{Found}
-use Rattle.hyd_rows_and_tables.specs.FirstWrongRow.{HasFound, rows_at}
-use Rattle.hyd_rows_and_tables.proofs.FoundLemmas.{first_of, none_of}
+use Rattle.hyd_rows_and_tables.specs.FirstWrongRow.{HasFound}
+use Rattle.hyd_rows_and_tables.specs.RowsOfLines.{rows_at}
+use Rattle.hyd_rows_and_tables.proofs.FirstWrongRowLemmas.{first_of, none_of}
 use Rattle.hyd_inp.specs.WaterSourceRows.{is_source}
 use Rattle.hyd_net.specs.Sound.{IsSound}
 use Rattle.hyd_net.specs.declared.project.Project.{Project}
@@ -120,18 +121,18 @@ no_fault text lines short rows alone end among lacks = record {
 has_first : (x : Row) (xs : List Row) → has_some (x ∷ xs) ≡ true
 has_first x xs = le-leb 1 (length (x ∷ xs)) (omega arith)
 
-pub some_sources : (text : List ℕ) (lines : List Line)
+pub some_water_sources : (text : List ℕ) (lines : List Line)
     → list_any is_source lines ≡ (has_some (rows_of Reservoirs (rows_at text lines)) || has_some (rows_of Tanks
     (rows_at text lines)))
-some_sources text [] = refl
-some_sources text (line ∷ lines) =
+some_water_sources text [] = refl
+some_water_sources text (line ∷ lines) =
     let row = row_of text line in
     elim (cases_Bool (is_of Reservoirs row)) [
       | inl r ↦ rw (r, has_first row (rows_of Reservoirs (rows_at text lines))) refl
       | inr s ↦ elim (cases_Bool (is_of Tanks row)) [
         | inl t ↦ rw (s, t, has_first row (rows_of Tanks (rows_at text lines)))
             (either_true (has_some (rows_of Reservoirs (rows_at text lines))))
-        | inr u ↦ rw (s, u) (some_sources text lines)
+        | inr u ↦ rw (s, u) (some_water_sources text lines)
       ]
     ]
   where

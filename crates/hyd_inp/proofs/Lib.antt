@@ -1,3 +1,3 @@
-pub mod Families
+pub mod FirstWrongAmongSections
 pub mod FaultFromFindings
 pub mod TableRows

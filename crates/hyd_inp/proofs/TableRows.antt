@@ -4,7 +4,7 @@ use Rattle.std.proofs.Common.{Some, sym, subst, arith}
 use Rattle.hyd_spec_lines.specs.Lines.{Row}
 use Rattle.hyd_rows_and_tables.specs.IdTables.{AreFirsts, IsTable}
 use Rattle.hyd_rows_and_tables.specs.declared.id_table.Table.{Table}
-use Rattle.hyd_rows_and_tables.proofs.FoundLemmas.{filter_more, filter_same}
+use Rattle.hyd_rows_and_tables.proofs.FirstWrongRowLemmas.{filter_more, filter_same}
 
 -- the table of the first rows that are of a kind
 pub record IsTableUpTo (text : List ℕ) (kind : Row → Bool) (rows : List Row) (k : ℕ) (table : Table) : Type 0 where

@@ -2,7 +2,7 @@
 use Rattle.std.specs.Prelude.{Bool, ℕ, List}
 use Rattle.hyd_spec_lines.specs.Lines.{Row}
 use Rattle.hyd_spec_lines.specs.declared.section.Section.TheVariants as section
-use Rattle.hyd_spec_input.specs.Tables.{is_of, is_node, is_link, node_rows, link_rows, rows_of}
+use Rattle.hyd_spec_input.specs.SectionsAndTables.{is_of, is_node, is_link, node_rows, link_rows, rows_of}
 use Rattle.hyd_rows_and_tables.specs.IdTables.{IsTable}
 use Rattle.hyd_inp.specs.declared.tables.Kind.{Kind}
 use Rattle.hyd_inp.specs.declared.tables.Tables.{Tables}

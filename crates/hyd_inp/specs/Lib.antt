@@ -1,6 +1,6 @@
 pub mod FaultOrNoMemory
 pub mod WaterSourceRows
-pub mod SectionFamilies
+pub mod SectionsInJudgingOrder
 pub mod Parts
 pub mod IdTables
-pub mod CheckedRows
+pub mod RowsToBuildFrom

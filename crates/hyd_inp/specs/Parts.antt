@@ -9,7 +9,7 @@ use Rattle.hyd_spec_input.specs.MeaningsAcrossRows.{node_ids, tank_ids, link_ids
 use Rattle.hyd_spec_input.specs.MeaningsAcrossRows.{rule_groups}
 use Rattle.hyd_spec_input.specs.Project.{Match, IsJunction, IsReservoir, IsTank, IsLink, IsPattern, IsControl, IsRule}
 use Rattle.hyd_spec_input.specs.Project.{IsOptions, IsTimes, IsProject, numbered_links, shape_points, bend_points}
-use Rattle.hyd_spec_input.specs.Tables.{rows_of, words_of}
+use Rattle.hyd_spec_input.specs.SectionsAndTables.{rows_of, words_of}
 use Rattle.hyd_inp.specs.declared.numbered_names.Numbers.{Numbers}
 use Rattle.hyd_inp.specs.declared.network_parts.Nodes.{Nodes}
 use Rattle.hyd_inp.specs.declared.network_parts.Links.{Links}

@@ -1,7 +1,7 @@
 -- Rows of reservoirs and tanks.
 use Rattle.std.specs.Prelude.{Bool, ◌==◌, ◌||◌}
 use Rattle.hyd_spec_lines.specs.declared.line.Line.{Line}
-use Rattle.hyd_spec_input.specs.Tables.{place}
+use Rattle.hyd_spec_input.specs.SectionsAndTables.{place}
 
 -- a line of [RESERVOIRS] or [TANKS]
 abbrev pub is_source : Line → Bool

@@ -6,19 +6,19 @@ ghost use Rattle.std.specs.List.{All};
 ghost use Rattle.hyd_spec_lines.specs.Lines.{LiesIn};
 ghost use Rattle.hyd_spec_input.specs.SingleRows.{IsWrongByItself};
 ghost use Rattle.hyd_spec_input.specs.Faults.{NoneIs, IsWrongWithOthers};
-ghost use Rattle.hyd_spec_input.specs.InForce as force;
+ghost use Rattle.hyd_spec_input.specs.OptionsAndTimesInForce as force;
 ghost use Rattle.hyd_spec_input.specs.Project.{IsProject};
-ghost use Rattle.hyd_rows_and_tables.specs.FirstWrongRow.{rows_at};
+ghost use Rattle.hyd_rows_and_tables.specs.RowsOfLines.{rows_at};
 ghost use Rattle.hyd_inp.specs.Parts.{AreNumbers, AreNodes, AreLinks, ArePatternsControlsAndRules, AreParts};
-ghost use Rattle.hyd_inp.specs.CheckedRows.{IsSource, rows_from};
+ghost use Rattle.hyd_inp.specs.RowsToBuildFrom.{AreRowsForNetwork, rows_from};
 
 use crate::network_parts::{Links, Nodes, Parts, PatternsControlsAndRules, assemble};
 use crate::numbered_names::{Numbers, number};
-use crate::rows_to_build_from::Source;
+use crate::rows_to_build_from::RowsForNetwork;
 use crate::tables::gather_tables;
-use hyd_build_controls::{build_controls, build_rules};
-use hyd_build_ids_and_options::{build_patterns, options_in_force, times_in_force};
-use hyd_build_links::LinkSource;
+use hyd_build_controls_and_rules::{build_controls, build_rules};
+use hyd_build_ids_patterns_and_options::{build_patterns, options_in_force, times_in_force};
+use hyd_build_links::RowsForLinks;
 use hyd_build_nodes::{build_junctions, build_reservoirs, build_tanks};
 use hyd_curves::{gather_bends, gather_points, gather_shapes};
 use hyd_judge_nodes_curves_and_options::unit_in_force;
@@ -28,11 +28,15 @@ use hyd_num::FlowUnit;
 use std::alloc::Global;
 
 // Junctions, reservoirs and tanks, and the volume curves of tanks.
-fn build_nodes(alloc: Global, text: &Lines<'_>, source: &Source<'_>) -> Result<Nodes, OutOfMemory>
-    requires { IsSource text.now.text source.now }
-    ensures { IfOk result (AreNodes (rows_from text.now.text source.now)) }
+fn build_nodes(
+    alloc: Global,
+    text: &Lines<'_>,
+    given: &RowsForNetwork<'_>,
+) -> Result<Nodes, OutOfMemory>
+    requires { AreRowsForNetwork text.now.text given.now }
+    ensures { IfOk result (AreNodes (rows_from text.now.text given.now)) }
 {
-    let Source {
+    let RowsForNetwork {
         lines,
         numbers,
         nodes,
@@ -40,7 +44,7 @@ fn build_nodes(alloc: Global, text: &Lines<'_>, source: &Source<'_>) -> Result<N
         points,
         unit,
         ..
-    } = *source;
+    } = *given;
     let shapes = gather_shapes(alloc, text, lines, curves, points, unit)?;
     let junctions = build_junctions(alloc, text, lines, nodes, &numbers.patterns, unit)?;
     let reservoirs = build_reservoirs(alloc, text, lines, &numbers.patterns, unit)?;
@@ -54,27 +58,31 @@ fn build_nodes(alloc: Global, text: &Lines<'_>, source: &Source<'_>) -> Result<N
 }
 
 // Links, and the curves by straight lines that they name.
-fn build_links(alloc: Global, text: &Lines<'_>, source: &Source<'_>) -> Result<Links, OutOfMemory>
-    requires { IsSource text.now.text source.now }
-    ensures { IfOk result (AreLinks (rows_from text.now.text source.now)) }
+fn build_links(
+    alloc: Global,
+    text: &Lines<'_>,
+    given: &RowsForNetwork<'_>,
+) -> Result<Links, OutOfMemory>
+    requires { AreRowsForNetwork text.now.text given.now }
+    ensures { IfOk result (AreLinks (rows_from text.now.text given.now)) }
 {
     let bends = gather_bends(
         alloc,
         text,
-        source.lines,
-        source.curves,
-        source.points,
-        source.unit,
+        given.lines,
+        given.curves,
+        given.points,
+        given.unit,
     )?;
-    let of_links = LinkSource {
-        lines: source.lines,
-        nodes: &source.numbers.nodes,
-        links: source.links,
-        patterns: &source.numbers.patterns,
-        curves: source.curves,
-        points: source.points,
+    let of_links = RowsForLinks {
+        lines: given.lines,
+        nodes: &given.numbers.nodes,
+        links: given.links,
+        patterns: &given.numbers.patterns,
+        curves: given.curves,
+        points: given.points,
         bends: &bends.names,
-        unit: source.unit,
+        unit: given.unit,
     };
     let links = hyd_build_links::build_links(alloc, text, &of_links)?;
     Ok(Links {
@@ -87,18 +95,18 @@ fn build_links(alloc: Global, text: &Lines<'_>, source: &Source<'_>) -> Result<L
 fn build_patterns_controls_and_rules(
     alloc: Global,
     text: &Lines<'_>,
-    source: &Source<'_>,
+    given: &RowsForNetwork<'_>,
 ) -> Result<PatternsControlsAndRules, OutOfMemory>
-    requires { IsSource text.now.text source.now }
-    ensures { IfOk result (ArePatternsControlsAndRules (rows_from text.now.text source.now)) }
+    requires { AreRowsForNetwork text.now.text given.now }
+    ensures { IfOk result (ArePatternsControlsAndRules (rows_from text.now.text given.now)) }
 {
-    let Source {
+    let RowsForNetwork {
         lines,
         numbers,
         links,
         unit,
         ..
-    } = *source;
+    } = *given;
     let patterns = build_patterns(alloc, text, lines, &numbers.patterns)?;
     let controls = build_controls(
         alloc,
@@ -144,7 +152,7 @@ fn build_parts(
 {
     let tables = gather_tables(alloc, text, lines)?;
     let points = gather_points(alloc, text, lines, &tables.curves)?;
-    let source = Source {
+    let given = RowsForNetwork {
         lines,
         numbers,
         nodes: &tables.nodes,
@@ -153,9 +161,9 @@ fn build_parts(
         points: &points,
         unit,
     };
-    let nodes = build_nodes(alloc, text, &source)?;
-    let links = build_links(alloc, text, &source)?;
-    let patterns_controls_and_rules = build_patterns_controls_and_rules(alloc, text, &source)?;
+    let nodes = build_nodes(alloc, text, &given)?;
+    let links = build_links(alloc, text, &given)?;
+    let patterns_controls_and_rules = build_patterns_controls_and_rules(alloc, text, &given)?;
     Ok(Parts {
         nodes,
         links,

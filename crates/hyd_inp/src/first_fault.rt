@@ -1,11 +1,11 @@
-//! The fault of a text.
+//! The first fault of a text.
 #![tactic(auto)]
 
 ghost use Rattle.std.specs.Prelude.{◌≡◌, ◌≤◌, ◌^◌, length, IfOk, IfSome, IfNone};
 ghost use Rattle.std.specs.List.{All};
 ghost use Rattle.hyd_spec_lines.specs.Lines.{LiesIn, items_of, rows_in, fault_in};
 ghost use Rattle.hyd_spec_input.specs.Faults.{IsFault, IsFaultOf, HasNoFault};
-ghost use Rattle.hyd_rows_and_tables.specs.FirstWrongRow.{rows_at};
+ghost use Rattle.hyd_rows_and_tables.specs.RowsOfLines.{rows_at};
 
 use crate::fault::{InpFault, TEXT_TOO_LONG, line_cause};
 use crate::first_wrong_with_others::first_with_others;

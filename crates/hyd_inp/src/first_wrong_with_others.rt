@@ -8,23 +8,24 @@ ghost use Rattle.hyd_spec_lines.specs.Lines.{LiesIn};
 ghost use Rattle.hyd_spec_lines.specs.declared.section.Section.TheVariants.{Curves as InCurves};
 ghost use Rattle.hyd_spec_input.specs.SingleRows.{IsWrongByItself};
 ghost use Rattle.hyd_spec_input.specs.Faults.{NoneIs, IsWrongWithOthers};
-ghost use Rattle.hyd_spec_input.specs.InForce as force;
-ghost use Rattle.hyd_spec_input.specs.Tables.{node_rows, link_rows, rows_of};
-ghost use Rattle.hyd_rows_and_tables.specs.FirstWrongRow.{HasFound, rows_at};
+ghost use Rattle.hyd_spec_input.specs.OptionsAndTimesInForce as force;
+ghost use Rattle.hyd_spec_input.specs.SectionsAndTables.{node_rows, link_rows, rows_of};
+ghost use Rattle.hyd_rows_and_tables.specs.FirstWrongRow.{HasFound};
+ghost use Rattle.hyd_rows_and_tables.specs.RowsOfLines.{rows_at};
 ghost use Rattle.hyd_rows_and_tables.specs.IdTables.{IsTable};
 ghost use Rattle.hyd_judge_nodes_curves_and_options.specs.JudgedNodes as nodes_form;
 ghost use Rattle.hyd_judge_nodes_curves_and_options.specs.Patterns.{ArePatterns};
 ghost use Rattle.hyd_judge_links.specs.LinkFaults as links_form;
-ghost use Rattle.hyd_inp.specs.SectionFamilies as family;
-ghost use Rattle.hyd_inp.specs.SectionFamilies.{IsWrongOf};
+ghost use Rattle.hyd_inp.specs.SectionsInJudgingOrder as family;
+ghost use Rattle.hyd_inp.specs.SectionsInJudgingOrder.{IsWrongOf};
 
 use hyd_curves::gather_points;
-use hyd_judge_controls::{judge_controls, judge_rules, judge_status};
 use hyd_judge_links::{LinkTables, judge_links};
 use hyd_judge_nodes_curves_and_options::{
     NodeTables, Patterns, judge_curves, judge_demands, judge_emitters, judge_nodes, judge_options,
     judge_patterns, unit_in_force,
 };
+use hyd_judge_statuses_controls_and_rules::{judge_controls, judge_rules, judge_status};
 use hyd_lex::{Line, Lines};
 use hyd_net::OutOfMemory;
 use hyd_num::FlowUnit;

@@ -6,10 +6,10 @@ ghost use Rattle.std.specs.List.{All};
 ghost use Rattle.hyd_spec_lines.specs.Lines.{LiesIn};
 ghost use Rattle.hyd_spec_input.specs.SingleRows.{IsWrongByItself};
 ghost use Rattle.hyd_spec_input.specs.Faults.{NoneIs, IsWrongWithOthers};
-ghost use Rattle.hyd_rows_and_tables.specs.FirstWrongRow.{rows_at};
+ghost use Rattle.hyd_rows_and_tables.specs.RowsOfLines.{rows_at};
 ghost use Rattle.hyd_inp.specs.Parts.{AreNumbers};
 
-use hyd_build_ids_and_options::{link_ids, node_ids, pattern_ids, tank_ids};
+use hyd_build_ids_patterns_and_options::{link_ids, node_ids, pattern_ids, tank_ids};
 use hyd_lex::{Line, Lines};
 use hyd_net::{Names, OutOfMemory};
 use std::alloc::Global;

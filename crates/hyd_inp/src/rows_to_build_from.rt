@@ -9,7 +9,7 @@ use hyd_rows_and_tables::Table;
 
 /// The rows of a file, the numbers of its names, and what its rows name.
 #[derive(Clone, Copy, Drop)]
-pub(crate) struct Source<'a> {
+pub(crate) struct RowsForNetwork<'a> {
     pub(crate) lines: &'a [Line],
     pub(crate) numbers: &'a Numbers,
     /// The IDs of junctions, reservoirs and tanks.

@@ -5,7 +5,7 @@ use Rattle.hyd_io.specs.declared.desk.Openings.{Openings}
 use Rattle.hyd_io.specs.declared.output.Channel.{Channel}
 use Rattle.hyd_io.specs.declared.output.Channel.TheVariants.{Cert, Report}
 use Rattle.hyd_io.specs.DeskBytes.{Files}
-use Rattle.hyd_io.specs.FailureCounts.{NeverFall}
+use Rattle.hyd_io.specs.DeskCounts.{NeverFall}
 use Rattle.hyd_io.specs.LeftAsItWas.{KeepsOthers, KeepsOutput}
 use Rattle.hyd_io.specs.Output.{OnCert, OnReport}
 

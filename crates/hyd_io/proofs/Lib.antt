@@ -1,4 +1,4 @@
-pub mod MemoryLemmas
+pub mod DeskInMemoryLemmas
 pub mod MovedBytesLemmas
 pub mod LeftAsItWasLemmas
 pub mod PutLemmas

@@ -7,7 +7,7 @@ use Rattle.hyd_io.specs.declared.desk.Openings.{Openings}
 use Rattle.hyd_io.specs.declared.output.OutFault.{OutFault}
 use Rattle.hyd_io.specs.declared.output.Channel.{Channel}
 use Rattle.hyd_io.specs.DeskBytes.{Files, Moves, PutOut}
-use Rattle.hyd_io.specs.FailureCounts.{NeverFall}
+use Rattle.hyd_io.specs.DeskCounts.{NeverFall}
 use Rattle.hyd_io.specs.Output.{by_channel, OnCert, HasOutCause, PenState}
 use Rattle.hyd_io.proofs.MovedBytesLemmas.{moves_then, put_out_then, put_out_more, moves_nothing}
 use Rattle.hyd_io.proofs.LeftAsItWasLemmas.{on_report_then, on_cert_then, never_fall_stays, on_report_stays}

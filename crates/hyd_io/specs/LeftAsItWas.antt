@@ -4,7 +4,7 @@ use Rattle.hyd_io.specs.declared.desk.Faults.{Faults}
 use Rattle.hyd_io.specs.declared.desk.Openings.{Openings}
 use Rattle.hyd_io.specs.declared.output.Channel.{Channel}
 use Rattle.hyd_io.specs.DeskBytes.{Files, file_at}
-use Rattle.hyd_io.specs.FailureCounts.{NeverFall}
+use Rattle.hyd_io.specs.DeskCounts.{NeverFall}
 use Rattle.hyd_io.specs.Output.{OnCert, OnReport}
 
 -- A call that puts something out on a channel leaves what is still to be read, the other channel, the other files and

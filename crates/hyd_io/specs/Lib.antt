@@ -1,9 +1,9 @@
 pub mod DeskBytes
-pub mod FailureCounts
+pub mod DeskCounts
 pub mod Buffers
 pub mod Output
-pub mod Memory
-pub mod MemoryView
+pub mod DeskInMemory
+pub mod DeskInMemoryView
 pub mod RealFiles
 pub mod FilesEmptied
 pub mod LeftAsItWas

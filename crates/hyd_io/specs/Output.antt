@@ -5,7 +5,7 @@ use Rattle.hyd_io.specs.declared.output.Channel.{Channel}
 use Rattle.hyd_io.specs.declared.output.Channel.TheVariants.{Cert, Report}
 use Rattle.hyd_io.specs.declared.output.OutFault.{OutFault}
 use Rattle.hyd_io.specs.declared.output.OutFault.TheVariants.{Fault, Stalled}
-use Rattle.hyd_io.specs.FailureCounts.{with_write_fault, with_print_fault, with_stall}
+use Rattle.hyd_io.specs.DeskCounts.{with_write_fault, with_print_fault, with_stall}
 
 -- the first of the two on channel Cert, the second on channel Report
 abbrev pub by_channel : {A : Type 0} → Channel → A → A → A

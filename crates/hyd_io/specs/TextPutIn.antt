@@ -1,13 +1,12 @@
 -- What a call says that puts a text in at a pen: what went out, what the pen answers from then on, and what of the
--- desk stays as
--- it was.
+-- desk stays as it was.
 use Rattle.std.specs.Prelude.{◌≡◌, ◌≢◌, ℕ, Bool, List, [], ◌++◌, Option, Some, None, IfSome, IsSome, is_some}
 use Rattle.std.specs.Prelude.{Result, Err, IfErr, OnOk, OnErr}
 use Rattle.hyd_io.specs.declared.desk.Faults.{Faults}
 use Rattle.hyd_io.specs.declared.desk.Openings.{Openings}
 use Rattle.hyd_io.specs.declared.output.OutFault.{OutFault}
 use Rattle.hyd_io.specs.DeskBytes.{Files, file_at, append_known, Moves, PutOut}
-use Rattle.hyd_io.specs.FailureCounts.{NeverFall}
+use Rattle.hyd_io.specs.DeskCounts.{NeverFall}
 use Rattle.hyd_io.specs.Output.{by_channel, OnCert, OnReport, HasOutCause, PenState}
 
 -- A text is put in at a pen. A front of what the pen held and of the text goes out, and the pen holds the rest; after

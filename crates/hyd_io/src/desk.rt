@@ -1,15 +1,15 @@
 //! What a program can do outside itself: read one file, create and write one file, and print.
 
-ghost use Rattle.std.specs.Prelude.{◌≡◌, ◌≢◌, ℕ, ◌<◌, ◌≤◌, Bool, true, false, List, [], ◌++◌, length, take, Option};
+ghost use Rattle.std.specs.Prelude.{◌≡◌, ◌≢◌, ℕ, ◌<◌, ◌≤◌, Bool, true, false, List, [], length, take, Option};
 ghost use Rattle.std.specs.Prelude.{Some, option_map, IsTrue, IfOk, OnOk, OnErr, is_some, is_err};
 ghost use Rattle.hyd_io.specs.declared.desk.Faults.{Faults};
 ghost use Rattle.hyd_io.specs.declared.desk.Openings.{Openings};
 ghost use Rattle.hyd_io.specs.DeskBytes.{Files, where_told, append_known, prepend_known, file_at, with_empty};
 ghost use Rattle.hyd_io.specs.DeskBytes.{content_of};
 ghost use Rattle.std.specs.Result.{result_ok};
-ghost use Rattle.hyd_io.specs.FailureCounts.{NeverFall, next_count, with_read_fault, with_write_fault};
-ghost use Rattle.hyd_io.specs.FailureCounts.{with_print_fault};
-ghost use Rattle.hyd_io.specs.FailureCounts.{with_stall, with_opened, with_created};
+ghost use Rattle.hyd_io.specs.DeskCounts.{NeverFall, next_count, with_read_fault, with_write_fault};
+ghost use Rattle.hyd_io.specs.DeskCounts.{with_print_fault};
+ghost use Rattle.hyd_io.specs.DeskCounts.{with_stall, with_opened, with_created};
 
 use thiserror::Error;
 

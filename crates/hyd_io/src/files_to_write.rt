@@ -1,4 +1,4 @@
-//! Files that are made to be written, of which none is lost.
+//! Files that are opened to be written: which of those that are there are kept, and which are emptied.
 
 ghost use Rattle.std.specs.Prelude.{◌≡◌, nat_eq};
 ghost use Rattle.std.specs.List.{starts_with, list_any};

@@ -1,9 +1,9 @@
 //! Reading a whole file within a limit.
 
-ghost use Rattle.std.specs.Prelude.{◌≡◌, ℕ, ◌+◌, ◌<◌, ◌≤◌, List, [], length, take, min, Some, IfOk, IfErr, OnOk, OnErr};
+ghost use Rattle.std.specs.Prelude.{◌≡◌, ℕ, ◌+◌, ◌<◌, ◌≤◌, List, [], length, take, min, Some, IfOk, IfErr, OnOk};
 ghost use Rattle.std.specs.Prelude.{IsErrOf};
 ghost use Rattle.hyd_io.specs.DeskBytes.{where_told, prepend_known, Took};
-ghost use Rattle.hyd_io.specs.FailureCounts.{HasInCause};
+ghost use Rattle.hyd_io.specs.DeskCounts.{HasInCause};
 ghost use Rattle.hyd_io.specs.LeftAsItWas.{KeepsOutput};
 ghost use Rattle.hyd_io.specs.declared.input.InFault.TheVariants.{OutOfMemory};
 

@@ -1,18 +1,18 @@
-//! The outside: files and standard output as a trait, `Desk`, a desk in memory, a desk on real
-//! files, and buffered reading and writing over any of them.
+//! The outside: files and standard output as a trait, `Desk`, with what its calls fail by; a desk in memory and one on
+//! real files; and over any of them the reading of a whole file and buffered writing through a pen.
 #![tactic(auto)]
 
 pub mod desk;
+pub mod desk_in_memory;
+pub mod desk_on_files;
 pub mod failure;
-pub mod files;
 mod files_to_write;
 pub mod input;
-pub mod memory;
 pub mod output;
 
 pub use desk::{Desk, Failed, Faults, Openings};
+pub use desk_in_memory::MemDesk;
+pub use desk_on_files::FileDesk;
 pub use failure::{Call, Failure};
-pub use files::FileDesk;
 pub use input::{InFault, read_all};
-pub use memory::MemDesk;
 pub use output::{BUFFER_BYTES, Channel, OutFault, Pen, put_number};

@@ -1,6 +1,6 @@
-//! Buffered writing to the file created last or to standard output.
+//! Pens: buffered writing to the file created last or to standard output.
 
-ghost use Rattle.std.specs.Prelude.{◌≡◌, ℕ, ◌+◌, ◌-◌, ◌<◌, ◌≤◌, List, [], ◌++◌, length, take, drop, min, Option};
+ghost use Rattle.std.specs.Prelude.{◌≡◌, ◌+◌, ◌-◌, ◌<◌, ◌≤◌, [], ◌++◌, length, take, min, Option};
 ghost use Rattle.std.specs.Prelude.{Some, None, Err, IsTrue, IfOk, IfErr, OnOk, OnErr, decimal};
 ghost use Rattle.hyd_io.specs.Buffers.{buffer_bytes};
 ghost use Rattle.hyd_io.specs.DeskBytes.{append_known, Moves, PutOut};

@@ -11,20 +11,20 @@ use Rattle.hyd_spec_input.specs.SingleRows as itself
 use Rattle.hyd_spec_input.specs.SingleRows.{IsWrongByItself}
 use Rattle.hyd_spec_input.specs.CapacitiesOutOfRange.{IsRefusedIn, IsRefusedRow}
 use Rattle.hyd_spec_input.specs.Faults.{NoneIs}
-use Rattle.hyd_spec_input.specs.InForce as force
-use Rattle.hyd_spec_input.specs.Tables.{place, is_of, is_link, link_rows, own_id, has_id}
-use Rattle.hyd_spec_input.specs.RowsTogether as others
+use Rattle.hyd_spec_input.specs.OptionsAndTimesInForce as force
+use Rattle.hyd_spec_input.specs.SectionsAndTables.{place, is_of, is_link, link_rows, own_id, has_id}
+use Rattle.hyd_spec_input.specs.FaultsWithOtherRows as others
 use Rattle.hyd_rows_and_tables.specs.FirstWrongRow.{IsVerdict, kept}
 use Rattle.hyd_rows_and_tables.specs.WrongInSection.{IsFaultThen, IsWrongIn}
 use Rattle.hyd_rows_and_tables.specs.IdTables.{AreFirsts}
-use Rattle.hyd_rows_and_tables.proofs.FoundLemmas.{filter_more, filter_same, found_skip, found_kept}
-use Rattle.hyd_rows_and_tables.proofs.SectionLemmas.{verdict_with_capacity, fault_then_alike}
+use Rattle.hyd_rows_and_tables.proofs.FirstWrongRowLemmas.{filter_more, filter_same, found_skip, found_kept}
+use Rattle.hyd_rows_and_tables.proofs.WrongInSectionLemmas.{verdict_with_capacity, fault_then_alike}
 use Rattle.hyd_judge_links.specs.LinksSoFar.{AreLinks, IsWrongLink}
 use Rattle.hyd_judge_links.specs.LinkFaults.{link_alone, fault_among, IsRefusedLink}
 use Rattle.hyd_judge_links.specs.declared.links.Links.{Links}
-use Rattle.hyd_theorems_on_input.proofs.Faultless.{none_from}
+use Rattle.hyd_theorems_on_input.proofs.RowsWithoutFault.{none_from}
 use Rattle.hyd_theorems_on_input.proofs.ListsByPlace.{own_section}
-use Rattle.hyd_asked_link_states.specs.AskedLinks.{is_link_section}
+use Rattle.hyd_asked_link_states.specs.AskedStatesOfLinks.{is_link_section}
 
 -- ---- a link that is right by itself
 

@@ -5,12 +5,12 @@ use Rattle.hyd_spec_lines.specs.Lines.{Row}
 use Rattle.hyd_net.specs.declared.refusal_cause.Cause.{Cause}
 use Rattle.hyd_spec_input.specs.CapacitiesOutOfRange.{IsRefusedValve}
 use Rattle.hyd_spec_input.specs.Columns.{amount}
-use Rattle.hyd_spec_input.specs.NetworkRows.{is_throttle, is_general, valve_minor}
-use Rattle.hyd_rows_and_tables.proofs.SectionLemmas.{fault_then_alike}
+use Rattle.hyd_spec_input.specs.NodeAndLinkRows.{is_throttle, is_general, valve_minor}
+use Rattle.hyd_rows_and_tables.proofs.WrongInSectionLemmas.{fault_then_alike}
 use Rattle.hyd_rows_and_tables.specs.QuantityRanges.{flow_fault}
 use Rattle.hyd_rows_and_tables.specs.WrongInSection.{IsCapacityFault, IsFaultThen}
 use Rattle.hyd_judge_links.specs.LinkFaults.{setting_fault, IsRefusedValveOf}
-use Rattle.hyd_theorems_on_input.proofs.Faultless.{or_last}
+use Rattle.hyd_theorems_on_input.proofs.RowsWithoutFault.{or_last}
 
 -- the verdict on a throttle control valve
 pub throttle_verdict : (rows : List Row) (unit : FlowUnit) (words : List (List ℕ)) (us : Bool) (cause : Option Cause)

@@ -15,13 +15,14 @@ use Rattle.hyd_judge_nodes_curves_and_options.specs.Patterns.{ArePatterns}
 use Rattle.hyd_judge_links.specs.declared.judged_against.LinkTables.{LinkTables}
 use Rattle.hyd_spec_input.specs.CapacitiesOutOfRange.{IsRefusedPipe, IsRefusedValve, IsRefusedCurve}
 use Rattle.hyd_spec_input.specs.Columns.{or_else, first, unless, word, amount}
-use Rattle.hyd_spec_input.specs.InForce as force
-use Rattle.hyd_spec_input.specs.Tables.{node_rows, rows_of}
-use Rattle.hyd_spec_input.specs.NetworkRows as alone
-use Rattle.hyd_spec_input.specs.NetworkRows.{pipe_minor, is_throttle, is_general, valve_curve, valve_minor, pump_curve}
-use Rattle.hyd_spec_input.specs.NetworkRows.{pump_pattern}
-use Rattle.hyd_spec_input.specs.RowsTogether.{passes, known_node, known_curve, known_pattern, curve_of_pump}
-use Rattle.hyd_spec_input.specs.RowsTogether.{each_multiplier, is_speed, curve_of_valve}
+use Rattle.hyd_spec_input.specs.OptionsAndTimesInForce as force
+use Rattle.hyd_spec_input.specs.SectionsAndTables.{node_rows, rows_of}
+use Rattle.hyd_spec_input.specs.NodeAndLinkRows as alone
+use Rattle.hyd_spec_input.specs.NodeAndLinkRows.{pipe_minor, is_throttle, is_general, valve_curve, valve_minor}
+use Rattle.hyd_spec_input.specs.NodeAndLinkRows.{pump_curve}
+use Rattle.hyd_spec_input.specs.NodeAndLinkRows.{pump_pattern}
+use Rattle.hyd_spec_input.specs.FaultsWithOtherRows.{passes, known_node, known_curve, known_pattern, curve_of_pump}
+use Rattle.hyd_spec_input.specs.FaultsWithOtherRows.{each_multiplier, is_speed, curve_of_valve}
 
 -- ---- all links
 

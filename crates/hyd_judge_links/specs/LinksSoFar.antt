@@ -2,7 +2,7 @@
 use Rattle.std.specs.Prelude.{◌≡◌, ℕ, ◌≤◌, List, length, take}
 use Rattle.hyd_spec_lines.specs.Lines.{Row}
 use Rattle.hyd_spec_input.specs.Faults.{IsWrongWithOthers}
-use Rattle.hyd_spec_input.specs.Tables.{is_link, link_rows}
+use Rattle.hyd_spec_input.specs.SectionsAndTables.{is_link, link_rows}
 use Rattle.hyd_net.specs.declared.refusal_cause.Cause.{Cause}
 use Rattle.hyd_rows_and_tables.specs.FirstWrongRow.{HasFound, IsWrongAmong}
 use Rattle.hyd_rows_and_tables.specs.IdTables.{IsTable}

@@ -1,9 +1,9 @@
-//! What all links are asked.
+//! What pipes, pumps and valves are all asked: how many there are, their IDs and their two nodes.
 #![tactic(auto)]
 
 ghost use Rattle.std.specs.Prelude.{◌≡◌, List};
 ghost use Rattle.hyd_spec_lines.specs.Lines.{Row};
-ghost use Rattle.hyd_spec_input.specs.Tables.{node_rows};
+ghost use Rattle.hyd_spec_input.specs.SectionsAndTables.{node_rows};
 ghost use Rattle.hyd_rows_and_tables.specs.IdTables.{IsTable, IsEven};
 ghost use Rattle.hyd_judge_links.specs.LinkFaults as links;
 

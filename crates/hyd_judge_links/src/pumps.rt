@@ -8,9 +8,9 @@ ghost use Rattle.hyd_spec_lines.specs.declared.section.Section.TheVariants.{Curv
 ghost use Rattle.hyd_row_words.specs.FaultOrValue.{words_at};
 ghost use Rattle.hyd_spec_input.specs.CapacitiesOutOfRange.{IsRefusedCurve};
 ghost use Rattle.hyd_spec_input.specs.Columns.{first};
-ghost use Rattle.hyd_spec_input.specs.NetworkRows as row;
-ghost use Rattle.hyd_spec_input.specs.Tables.{node_rows, rows_of};
-ghost use Rattle.hyd_spec_input.specs.RowsTogether as others;
+ghost use Rattle.hyd_spec_input.specs.NodeAndLinkRows as row;
+ghost use Rattle.hyd_spec_input.specs.SectionsAndTables.{node_rows, rows_of};
+ghost use Rattle.hyd_spec_input.specs.FaultsWithOtherRows as others;
 ghost use Rattle.hyd_rows_and_tables.specs.WrongInSection.{IsFaultThen};
 ghost use Rattle.hyd_rows_and_tables.specs.IdTables.{IsTable};
 ghost use Rattle.hyd_curves.specs.VerdictsOnCurves.{AreVerdicts};

@@ -7,19 +7,19 @@ use Rattle.hyd_spec_lines.specs.declared.section.Section.{Section}
 use Rattle.hyd_spec_lines.specs.declared.section.Section.TheVariants.{Curves as InCurves}
 use Rattle.hyd_spec_input.specs.CapacitiesOutOfRange.{IsRefusedIn}
 use Rattle.hyd_spec_input.specs.Columns.{first}
-use Rattle.hyd_spec_input.specs.Tables.{place, is_of, rows_of, own_id, has_id, distinct}
-use Rattle.hyd_spec_input.specs.RowsTogether as others
-use Rattle.hyd_spec_input.specs.RowsTogether.{passes}
+use Rattle.hyd_spec_input.specs.SectionsAndTables.{place, is_of, rows_of, own_id, has_id, distinct}
+use Rattle.hyd_spec_input.specs.FaultsWithOtherRows as others
+use Rattle.hyd_spec_input.specs.FaultsWithOtherRows.{passes}
 use Rattle.hyd_net.specs.declared.refusal_cause.Cause.{Cause}
 use Rattle.hyd_rows_and_tables.specs.FirstWrongRow.{kept}
 use Rattle.hyd_rows_and_tables.specs.IdTables.{AreFirsts}
-use Rattle.hyd_rows_and_tables.proofs.FoundLemmas.{filter_more, filter_same, found_skip, found_kept}
+use Rattle.hyd_rows_and_tables.proofs.FirstWrongRowLemmas.{filter_more, filter_same, found_skip, found_kept}
 use Rattle.hyd_rows_and_tables.proofs.TableLemmas.{even}
 use Rattle.hyd_judge_nodes_curves_and_options.specs.Curves.{AreCurves}
 use Rattle.hyd_rows_and_tables.specs.WrongInSection.{IsWrongIn}
 use Rattle.hyd_judge_nodes_curves_and_options.specs.declared.curves.Curves.{Curves}
-use Rattle.hyd_judge_nodes_curves_and_options.proofs.DistinctLemmas.{distinct_more}
-use Rattle.hyd_rows_and_tables.proofs.SectionLemmas.{verdict_without_capacity, other_section}
+use Rattle.hyd_judge_nodes_curves_and_options.proofs.DistinctIdCounts.{distinct_more}
+use Rattle.hyd_rows_and_tables.proofs.WrongInSectionLemmas.{verdict_without_capacity, other_section}
 
 fault_is : (section : Section) (rows : List Row) (k : ℕ) (row : Row) → (place section == 8) ≡ true
     → others.section_fault section rows k row ≡ others.curve rows k row

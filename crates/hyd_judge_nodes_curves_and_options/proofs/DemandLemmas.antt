@@ -8,19 +8,19 @@ use Rattle.hyd_spec_lines.specs.declared.section.Section.TheVariants.{Demands as
 use Rattle.hyd_spec_input.specs.SingleRows as itself
 use Rattle.hyd_spec_input.specs.SingleRows.{IsWrongByItself}
 use Rattle.hyd_spec_input.specs.CapacitiesOutOfRange.{IsRefusedIn}
-use Rattle.hyd_spec_input.specs.DemandCurveAndStatusRows as row_form
+use Rattle.hyd_spec_input.specs.DemandEmitterCurvePatternAndStatusRows as row_form
 use Rattle.hyd_spec_input.specs.Faults.{NoneIs}
-use Rattle.hyd_spec_input.specs.InForce as force
-use Rattle.hyd_spec_input.specs.Tables.{place, is_of, rows_of}
-use Rattle.hyd_spec_input.specs.RowsTogether as others
+use Rattle.hyd_spec_input.specs.OptionsAndTimesInForce as force
+use Rattle.hyd_spec_input.specs.SectionsAndTables.{place, is_of, rows_of}
+use Rattle.hyd_spec_input.specs.FaultsWithOtherRows as others
 use Rattle.hyd_net.specs.declared.refusal_cause.Cause.{Cause}
 use Rattle.hyd_rows_and_tables.specs.FirstWrongRow.{kept}
-use Rattle.hyd_rows_and_tables.proofs.FoundLemmas.{filter_more, filter_same, found_skip, found_kept}
+use Rattle.hyd_rows_and_tables.proofs.FirstWrongRowLemmas.{filter_more, filter_same, found_skip, found_kept}
 use Rattle.hyd_judge_nodes_curves_and_options.specs.Demands.{AreDemands, demand_fault}
 use Rattle.hyd_rows_and_tables.specs.WrongInSection.{IsWrongIn}
 use Rattle.hyd_judge_nodes_curves_and_options.specs.declared.demands.Demands.{Demands}
-use Rattle.hyd_rows_and_tables.proofs.SectionLemmas.{verdict_without_capacity, other_section}
-use Rattle.hyd_theorems_on_input.proofs.Faultless.{none_from}
+use Rattle.hyd_rows_and_tables.proofs.WrongInSectionLemmas.{verdict_without_capacity, other_section}
+use Rattle.hyd_theorems_on_input.proofs.RowsWithoutFault.{none_from}
 
 by_itself : (section : Section) (earlier : List (List (List ℕ))) (words : List (List ℕ)) (later : List (List (List ℕ)))
     → (place section == 6) ≡ true → itself.section_fault section earlier words later ≡ row_form.demand words

@@ -9,19 +9,19 @@ use Rattle.hyd_spec_input.specs.SingleRows as itself
 use Rattle.hyd_spec_input.specs.SingleRows.{IsWrongByItself}
 use Rattle.hyd_spec_input.specs.CapacitiesOutOfRange.{IsRefusedIn, IsRefusedEmitter}
 use Rattle.hyd_spec_input.specs.Columns.{word, amount}
-use Rattle.hyd_spec_input.specs.DemandCurveAndStatusRows as row_form
+use Rattle.hyd_spec_input.specs.DemandEmitterCurvePatternAndStatusRows as row_form
 use Rattle.hyd_spec_input.specs.Faults.{NoneIs}
-use Rattle.hyd_spec_input.specs.InForce as force
-use Rattle.hyd_spec_input.specs.Tables.{place, is_of}
-use Rattle.hyd_spec_input.specs.RowsTogether as others
-use Rattle.hyd_spec_input.specs.RowsTogether.{known_junction}
+use Rattle.hyd_spec_input.specs.OptionsAndTimesInForce as force
+use Rattle.hyd_spec_input.specs.SectionsAndTables.{place, is_of}
+use Rattle.hyd_spec_input.specs.FaultsWithOtherRows as others
+use Rattle.hyd_spec_input.specs.FaultsWithOtherRows.{known_junction}
 use Rattle.hyd_net.specs.declared.refusal_cause.Cause.{Cause}
 use Rattle.hyd_rows_and_tables.specs.FirstWrongRow.{HasFound, IsVerdict, kept}
 use Rattle.hyd_rows_and_tables.specs.WrongInSection.{IsWrongIn, IsFaultThen}
 use Rattle.hyd_rows_and_tables.specs.declared.first_wrong.Found.{Found}
-use Rattle.hyd_rows_and_tables.proofs.FoundLemmas.{found_skip, found_kept}
-use Rattle.hyd_rows_and_tables.proofs.SectionLemmas.{verdict_with_capacity, fault_then_alike, other_section}
-use Rattle.hyd_theorems_on_input.proofs.Faultless.{none_from}
+use Rattle.hyd_rows_and_tables.proofs.FirstWrongRowLemmas.{found_skip, found_kept}
+use Rattle.hyd_rows_and_tables.proofs.WrongInSectionLemmas.{verdict_with_capacity, fault_then_alike, other_section}
+use Rattle.hyd_theorems_on_input.proofs.RowsWithoutFault.{none_from}
 
 by_itself : (section : Section) (earlier : List (List (List ℕ))) (words : List (List ℕ)) (later : List (List (List ℕ)))
     → (place section == 7) ≡ true → itself.section_fault section earlier words later ≡ row_form.emitter words

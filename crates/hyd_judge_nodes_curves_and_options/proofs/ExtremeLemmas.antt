@@ -26,19 +26,20 @@ use Rattle.hyd_spec_input.specs.SingleRows as itself
 use Rattle.hyd_spec_input.specs.SingleRows.{IsWrongByItself}
 use Rattle.hyd_spec_input.specs.Columns.{needed, any, id, within}
 use Rattle.hyd_spec_input.specs.Curves.{is_within}
-use Rattle.hyd_spec_input.specs.DemandCurveAndStatusRows as row_form
-use Rattle.hyd_spec_input.specs.DemandCurveAndStatusRows.{multipliers}
+use Rattle.hyd_spec_input.specs.DemandEmitterCurvePatternAndStatusRows as row_form
+use Rattle.hyd_spec_input.specs.DemandEmitterCurvePatternAndStatusRows.{multipliers}
 use Rattle.hyd_spec_input.specs.Faults.{NoneIs}
 use Rattle.hyd_spec_input.specs.MeaningsAcrossRows.{number_in}
-use Rattle.hyd_spec_input.specs.Tables.{place, is_of, rows_of, rows_with, own_id, pattern_named, row_multipliers}
-use Rattle.hyd_spec_input.specs.Tables.{row_with, has_id}
-use Rattle.hyd_spec_input.specs.RowsTogether.{multipliers_of}
+use Rattle.hyd_spec_input.specs.SectionsAndTables.{place, is_of, rows_of, rows_with, own_id, pattern_named}
+use Rattle.hyd_spec_input.specs.SectionsAndTables.{row_multipliers}
+use Rattle.hyd_spec_input.specs.SectionsAndTables.{row_with, has_id}
+use Rattle.hyd_spec_input.specs.FaultsWithOtherRows.{multipliers_of}
 use Rattle.hyd_lemmas.proofs.BooleanTests.{and-true, lt_z-no}
-use Rattle.hyd_theorems_on_input.proofs.Faultless.{all_none, none_from}
+use Rattle.hyd_theorems_on_input.proofs.RowsWithoutFault.{all_none, none_from}
 use Rattle.hyd_rows_and_tables.specs.IdTables.{AreFirsts, AreNone}
-use Rattle.hyd_rows_and_tables.proofs.FoundLemmas.{filter_more, filter_same, one_name, has_more, not_named}
-use Rattle.hyd_rows_and_tables.proofs.SectionLemmas.{all_rows}
-use Rattle.hyd_rows_and_tables.specs.FirstWrongRow.{rows_at}
+use Rattle.hyd_rows_and_tables.proofs.FirstWrongRowLemmas.{filter_more, filter_same, one_name, has_more, not_named}
+use Rattle.hyd_rows_and_tables.proofs.WrongInSectionLemmas.{all_rows}
+use Rattle.hyd_rows_and_tables.specs.RowsOfLines.{rows_at}
 use Rattle.hyd_rows_and_tables.proofs.TableLemmas.{not_found, has_id-is, even}
 use Rattle.hyd_judge_nodes_curves_and_options.specs.Extremes.{Bounds, bounds, Enclose, AreExtremes, pass, is_between}
 use Rattle.hyd_judge_nodes_curves_and_options.specs.Extremes.{widened, all_widened, bounds_of, AreWidened}

@@ -2,7 +2,7 @@ pub mod PressureRowLemmas
 pub mod DemandLemmas
 pub mod EmitterLemmas
 pub mod ExtremeLemmas
-pub mod DistinctLemmas
+pub mod DistinctIdCounts
 pub mod CurveLemmas
 pub mod NodeLemmas
 pub mod PatternLemmas

@@ -15,26 +15,26 @@ use Rattle.hyd_spec_input.specs.SingleRows.{IsWrongByItself}
 use Rattle.hyd_spec_input.specs.CapacitiesOutOfRange.{IsRefusedIn}
 use Rattle.hyd_spec_input.specs.Columns.{or_else, unless, amount, amount_or}
 use Rattle.hyd_spec_input.specs.Faults.{NoneIs}
-use Rattle.hyd_spec_input.specs.InForce as force
-use Rattle.hyd_spec_input.specs.NetworkRows.{tank_curve}
-use Rattle.hyd_spec_input.specs.Tables.{place, is_of, is_node, rows_of, node_rows, own_id, has_id}
-use Rattle.hyd_spec_input.specs.RowsTogether as others
-use Rattle.hyd_spec_input.specs.RowsTogether.{multipliers_of}
+use Rattle.hyd_spec_input.specs.OptionsAndTimesInForce as force
+use Rattle.hyd_spec_input.specs.NodeAndLinkRows.{tank_curve}
+use Rattle.hyd_spec_input.specs.SectionsAndTables.{place, is_of, is_node, rows_of, node_rows, own_id, has_id}
+use Rattle.hyd_spec_input.specs.FaultsWithOtherRows as others
+use Rattle.hyd_spec_input.specs.FaultsWithOtherRows.{multipliers_of}
 use Rattle.hyd_rows_and_tables.specs.FirstWrongRow.{IsVerdict, kept}
 use Rattle.hyd_rows_and_tables.specs.QuantityRanges.{head_fault, flow_fault}
 use Rattle.hyd_rows_and_tables.specs.WrongInSection.{IsWrongIn}
 use Rattle.hyd_rows_and_tables.specs.IdTables.{AreFirsts}
-use Rattle.hyd_rows_and_tables.proofs.FoundLemmas.{filter_more, filter_same, found_skip, found_kept}
-use Rattle.hyd_rows_and_tables.proofs.SectionLemmas.{verdict_without_capacity}
+use Rattle.hyd_rows_and_tables.proofs.FirstWrongRowLemmas.{filter_more, filter_same, found_skip, found_kept}
+use Rattle.hyd_rows_and_tables.proofs.WrongInSectionLemmas.{verdict_without_capacity}
 use Rattle.hyd_judge_nodes_curves_and_options.specs.Extremes.{Bounds, AreExtremes}
 use Rattle.hyd_judge_nodes_curves_and_options.specs.NodeFaults.{junction_fault, is_head_times, times_fault, heads_fault}
 use Rattle.hyd_judge_nodes_curves_and_options.specs.NodeFaults.{reservoir_fault, tank_fault}
-use Rattle.hyd_curves.proofs.TankRowLemmas.{volume_curve_is}
+use Rattle.hyd_curves.proofs.VolumeCurveLemmas.{volume_curve_is}
 use Rattle.hyd_judge_nodes_curves_and_options.specs.JudgedNodes.{IsWrongNode, counted, node_alone, fault_among}
 use Rattle.hyd_judge_nodes_curves_and_options.specs.JudgedNodes.{AreCounts, AreNodes}
 use Rattle.hyd_judge_nodes_curves_and_options.specs.declared.nodes.Counts.{Counts}
 use Rattle.hyd_judge_nodes_curves_and_options.specs.declared.nodes.Nodes.{Nodes}
-use Rattle.hyd_theorems_on_input.proofs.Faultless.{none_from}
+use Rattle.hyd_theorems_on_input.proofs.RowsWithoutFault.{none_from}
 use Rattle.hyd_theorems_on_input.proofs.ListsByPlace.{own_section}
 use Rattle.hyd_judge_nodes_curves_and_options.proofs.ExtremeLemmas.{test_of_all, times_is_convex}
 

@@ -12,20 +12,20 @@ use Rattle.hyd_spec_lines.specs.declared.section.Section.{Section}
 use Rattle.hyd_spec_lines.specs.declared.section.Section.TheVariants.{Patterns as InPatterns}
 use Rattle.hyd_spec_input.specs.CapacitiesOutOfRange.{IsRefusedIn}
 use Rattle.hyd_spec_input.specs.Columns.{first}
-use Rattle.hyd_spec_input.specs.DemandCurveAndStatusRows.{multipliers}
-use Rattle.hyd_spec_input.specs.Tables.{place, is_of, rows_of, own_id, has_id, distinct}
-use Rattle.hyd_spec_input.specs.RowsTogether as others
-use Rattle.hyd_spec_input.specs.RowsTogether.{passes, multiplier_count}
+use Rattle.hyd_spec_input.specs.DemandEmitterCurvePatternAndStatusRows.{multipliers}
+use Rattle.hyd_spec_input.specs.SectionsAndTables.{place, is_of, rows_of, own_id, has_id, distinct}
+use Rattle.hyd_spec_input.specs.FaultsWithOtherRows as others
+use Rattle.hyd_spec_input.specs.FaultsWithOtherRows.{passes, multiplier_count}
 use Rattle.hyd_net.specs.declared.refusal_cause.Cause.{Cause}
 use Rattle.hyd_rows_and_tables.specs.FirstWrongRow.{kept}
 use Rattle.hyd_rows_and_tables.specs.IdTables.{AreFirsts}
-use Rattle.hyd_rows_and_tables.proofs.FoundLemmas.{filter_more, filter_same, found_skip, found_kept}
+use Rattle.hyd_rows_and_tables.proofs.FirstWrongRowLemmas.{filter_more, filter_same, found_skip, found_kept}
 use Rattle.hyd_rows_and_tables.proofs.TableLemmas.{even}
 use Rattle.hyd_judge_nodes_curves_and_options.specs.Patterns.{AreCounted, most_counted}
 use Rattle.hyd_rows_and_tables.specs.WrongInSection.{IsWrongIn}
 use Rattle.hyd_judge_nodes_curves_and_options.specs.declared.patterns.Counted.{Counted}
-use Rattle.hyd_judge_nodes_curves_and_options.proofs.DistinctLemmas.{distinct_more}
-use Rattle.hyd_rows_and_tables.proofs.SectionLemmas.{verdict_without_capacity, other_section}
+use Rattle.hyd_judge_nodes_curves_and_options.proofs.DistinctIdCounts.{distinct_more}
+use Rattle.hyd_rows_and_tables.proofs.WrongInSectionLemmas.{verdict_without_capacity, other_section}
 
 -- ---- counts up to one above the most that are allowed
 

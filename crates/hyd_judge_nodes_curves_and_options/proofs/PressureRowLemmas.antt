@@ -14,20 +14,21 @@ use Rattle.hyd_spec_input.specs.SingleRows.{IsWrongByItself}
 use Rattle.hyd_spec_input.specs.CapacitiesOutOfRange.{IsRefusedIn}
 use Rattle.hyd_spec_input.specs.Columns.{needed, number, word_is, is_option_of, is_option_keyword}
 use Rattle.hyd_spec_input.specs.Faults.{NoneIs}
-use Rattle.hyd_spec_input.specs.InForce as force
-use Rattle.hyd_spec_input.specs.InForce.{begins, option_row}
-use Rattle.hyd_spec_input.specs.OptionRows as row_form
+use Rattle.hyd_spec_input.specs.OptionsAndTimesInForce as force
+use Rattle.hyd_spec_input.specs.OptionsAndTimesInForce.{begins, option_row}
+use Rattle.hyd_spec_input.specs.OptionAndTimeRows as row_form
 use Rattle.hyd_spec_input.specs.declared.OptionWord.TheVariants as at
-use Rattle.hyd_spec_input.specs.Tables.{place, is_of}
-use Rattle.hyd_spec_input.specs.RowsTogether as others
+use Rattle.hyd_spec_input.specs.SectionsAndTables.{place, is_of}
+use Rattle.hyd_spec_input.specs.FaultsWithOtherRows as others
 use Rattle.hyd_net.specs.declared.refusal_cause.Cause.{Cause}
-use Rattle.hyd_theorems_on_input.proofs.Faultless.{none_from}
-use Rattle.hyd_theorems_on_input.proofs.InForce.{in_force}
-use Rattle.hyd_rows_and_tables.specs.FirstWrongRow.{HasFound, kept, row_in}
+use Rattle.hyd_theorems_on_input.proofs.RowsWithoutFault.{none_from}
+use Rattle.hyd_theorems_on_input.proofs.OptionsAndTimesInForce.{in_force}
+use Rattle.hyd_rows_and_tables.specs.FirstWrongRow.{HasFound, kept}
+use Rattle.hyd_rows_and_tables.specs.RowsOfLines.{row_in}
 use Rattle.hyd_rows_and_tables.specs.WrongInSection.{IsWrongIn}
 use Rattle.hyd_rows_and_tables.specs.declared.first_wrong.Found.{Found}
-use Rattle.hyd_rows_and_tables.proofs.FoundLemmas.{found_skip, found_kept}
-use Rattle.hyd_rows_and_tables.proofs.SectionLemmas.{verdict_without_capacity, other_section}
+use Rattle.hyd_rows_and_tables.proofs.FirstWrongRowLemmas.{found_skip, found_kept}
+use Rattle.hyd_rows_and_tables.proofs.WrongInSectionLemmas.{verdict_without_capacity, other_section}
 use Rattle.hyd_judge_nodes_curves_and_options.specs.Options.{ArePressures, HasAmount, IsBound, bound_words}
 use Rattle.hyd_judge_nodes_curves_and_options.specs.Options.{option_fault}
 use Rattle.hyd_judge_nodes_curves_and_options.specs.declared.options.Pressures.{Pressures}

@@ -2,7 +2,7 @@
 use Rattle.std.specs.Prelude.{◌≡◌, ℕ, ◌≤◌, List, length, take}
 use Rattle.hyd_spec_lines.specs.Lines.{Row}
 use Rattle.hyd_spec_lines.specs.declared.section.Section.TheVariants.{Curves as InCurves}
-use Rattle.hyd_spec_input.specs.Tables.{rows_of, distinct}
+use Rattle.hyd_spec_input.specs.SectionsAndTables.{rows_of, distinct}
 use Rattle.hyd_rows_and_tables.specs.FirstWrongRow.{HasFound}
 use Rattle.hyd_rows_and_tables.specs.IdTables.{IsTable}
 use Rattle.hyd_rows_and_tables.specs.WrongInSection.{IsWrongIn}

@@ -4,8 +4,8 @@ use Rattle.hyd_num.specs.declared.flow_units.FlowUnit.{FlowUnit}
 use Rattle.hyd_spec_lines.specs.Lines.{Row}
 use Rattle.hyd_spec_lines.specs.declared.section.Section.TheVariants.{Demands as InDemands}
 use Rattle.hyd_spec_input.specs.Columns.{first, word, amount}
-use Rattle.hyd_spec_input.specs.Tables.{rows_of}
-use Rattle.hyd_spec_input.specs.RowsTogether.{passes, known_junction, known_pattern}
+use Rattle.hyd_spec_input.specs.SectionsAndTables.{rows_of}
+use Rattle.hyd_spec_input.specs.FaultsWithOtherRows.{passes, known_junction, known_pattern}
 use Rattle.hyd_net.specs.CountLimits.{most_demands}
 use Rattle.hyd_net.specs.declared.refusal_cause.Cause.{Cause}
 use Rattle.hyd_rows_and_tables.specs.FirstWrongRow.{HasFound}

@@ -6,7 +6,7 @@ use Rattle.std.specs.Option.{option_map}
 use lib.Signed.{le_z, lt_z}
 use Rattle.hyd_spec_lines.specs.Lines.{Row}
 use Rattle.hyd_spec_input.specs.MeaningsAcrossRows.{number_in}
-use Rattle.hyd_spec_input.specs.Tables.{pattern_named}
+use Rattle.hyd_spec_input.specs.SectionsAndTables.{pattern_named}
 use Rattle.hyd_judge_nodes_curves_and_options.specs.declared.pattern_extremes.Extremes.{Extremes}
 
 -- two numbers, in billionths

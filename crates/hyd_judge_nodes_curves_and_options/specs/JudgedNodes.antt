@@ -5,9 +5,9 @@ use Rattle.hyd_spec_lines.specs.Lines.{Row}
 use Rattle.hyd_spec_lines.specs.declared.section.Section.{Section}
 use Rattle.hyd_spec_lines.specs.declared.section.Section.TheVariants.{Junctions, Reservoirs, Tanks, Curves}
 use Rattle.hyd_spec_input.specs.Faults.{IsWrongWithOthers}
-use Rattle.hyd_spec_input.specs.InForce as force
-use Rattle.hyd_spec_input.specs.NetworkRows as alone
-use Rattle.hyd_spec_input.specs.Tables.{is_node, rows_of, node_rows}
+use Rattle.hyd_spec_input.specs.OptionsAndTimesInForce as force
+use Rattle.hyd_spec_input.specs.NodeAndLinkRows as alone
+use Rattle.hyd_spec_input.specs.SectionsAndTables.{is_node, rows_of, node_rows}
 use Rattle.hyd_net.specs.declared.refusal_cause.Cause.{Cause}
 use Rattle.hyd_rows_and_tables.specs.FirstWrongRow.{HasFound, IsWrongAmong}
 use Rattle.hyd_rows_and_tables.specs.IdTables.{IsTable, IsEven}

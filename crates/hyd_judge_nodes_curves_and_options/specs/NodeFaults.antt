@@ -7,8 +7,8 @@ use Rattle.hyd_num.specs.declared.flow_units.FlowUnit.{FlowUnit}
 use Rattle.hyd_spec_lines.specs.Lines.{Row}
 use Rattle.hyd_spec_input.specs.Columns.{or_else, first, unless, amount, amount_or}
 use Rattle.hyd_spec_input.specs.Curves.{is_within, is_head}
-use Rattle.hyd_spec_input.specs.NetworkRows.{tank_curve}
-use Rattle.hyd_spec_input.specs.RowsTogether.{passes, known_pattern, known_curve, multipliers_of}
+use Rattle.hyd_spec_input.specs.NodeAndLinkRows.{tank_curve}
+use Rattle.hyd_spec_input.specs.FaultsWithOtherRows.{passes, known_pattern, known_curve, multipliers_of}
 use Rattle.hyd_net.specs.NumberRanges.{least_level_difference}
 use Rattle.hyd_net.specs.CountLimits.{most_junctions, most_reservoirs, most_tanks}
 use Rattle.hyd_net.specs.declared.refusal_cause.Cause.{Cause}

@@ -8,7 +8,7 @@ use Rattle.hyd_spec_lines.specs.Lines.{Row, Reading}
 use Rattle.hyd_spec_lines.specs.declared.line.Line.{Line}
 use Rattle.hyd_row_words.specs.FaultOrValue.{words_at}
 use Rattle.hyd_spec_input.specs.Columns.{or_else, unless, needed, number, amount, word_is_of}
-use Rattle.hyd_spec_input.specs.InForce as force
+use Rattle.hyd_spec_input.specs.OptionsAndTimesInForce as force
 use Rattle.hyd_net.specs.NumberRanges.{head_limit}
 use Rattle.hyd_net.specs.declared.refusal_cause.Cause.{Cause}
 use Rattle.hyd_net.specs.declared.refusal_cause.Cause.TheVariants.{Range}

@@ -2,9 +2,9 @@
 use Rattle.std.specs.Prelude.{◌≡◌, ℕ, ◌≤◌, List, length, take, min}
 use Rattle.hyd_spec_lines.specs.Lines.{Row}
 use Rattle.hyd_spec_lines.specs.declared.section.Section.TheVariants.{Patterns as InPatterns}
-use Rattle.hyd_spec_input.specs.Tables.{rows_of, distinct, pattern_named}
+use Rattle.hyd_spec_input.specs.SectionsAndTables.{rows_of, distinct, pattern_named}
 use Rattle.hyd_spec_input.specs.MeaningsAcrossRows.{number_in}
-use Rattle.hyd_spec_input.specs.RowsTogether.{multiplier_count}
+use Rattle.hyd_spec_input.specs.FaultsWithOtherRows.{multiplier_count}
 use Rattle.hyd_rows_and_tables.specs.FirstWrongRow.{HasFound}
 use Rattle.hyd_rows_and_tables.specs.IdTables.{IsTable}
 use Rattle.hyd_rows_and_tables.specs.WrongInSection.{IsWrongIn}

@@ -9,12 +9,13 @@ ghost use Rattle.hyd_row_words.specs.FaultOrValue.{words_at};
 ghost use Rattle.hyd_spec_input.specs.SingleRows.{IsWrongByItself};
 ghost use Rattle.hyd_spec_input.specs.CapacitiesOutOfRange.{IsRefusedEmitter};
 ghost use Rattle.hyd_spec_input.specs.Columns.{word, amount};
-ghost use Rattle.hyd_spec_input.specs.DemandCurveAndStatusRows as row;
+ghost use Rattle.hyd_spec_input.specs.DemandEmitterCurvePatternAndStatusRows as row;
 ghost use Rattle.hyd_spec_input.specs.Faults.{NoneIs};
-ghost use Rattle.hyd_spec_input.specs.InForce as force;
-ghost use Rattle.hyd_spec_input.specs.Tables.{node_rows};
-ghost use Rattle.hyd_spec_input.specs.RowsTogether.{known_junction};
-ghost use Rattle.hyd_rows_and_tables.specs.FirstWrongRow.{HasFound, rows_at};
+ghost use Rattle.hyd_spec_input.specs.OptionsAndTimesInForce as force;
+ghost use Rattle.hyd_spec_input.specs.SectionsAndTables.{node_rows};
+ghost use Rattle.hyd_spec_input.specs.FaultsWithOtherRows.{known_junction};
+ghost use Rattle.hyd_rows_and_tables.specs.FirstWrongRow.{HasFound};
+ghost use Rattle.hyd_rows_and_tables.specs.RowsOfLines.{rows_at};
 ghost use Rattle.hyd_rows_and_tables.specs.WrongInSection.{IsWrongIn, IsCapacityFault, IsFaultThen};
 ghost use Rattle.hyd_rows_and_tables.specs.IdTables.{IsTable, IsEven};
 

@@ -4,9 +4,9 @@
 ghost use Rattle.std.specs.Prelude.{◌≡◌, ◌==◌, IfSome};
 ghost use Rattle.std.specs.List.{All};
 ghost use Rattle.hyd_spec_lines.specs.Lines.{LiesIn, row_of};
-ghost use Rattle.hyd_spec_input.specs.InForce as force;
-ghost use Rattle.hyd_spec_input.specs.Tables.{place as section_place};
-ghost use Rattle.hyd_rows_and_tables.specs.FirstWrongRow.{rows_at, row_in};
+ghost use Rattle.hyd_spec_input.specs.OptionsAndTimesInForce as force;
+ghost use Rattle.hyd_spec_input.specs.SectionsAndTables.{place as section_place};
+ghost use Rattle.hyd_rows_and_tables.specs.RowsOfLines.{rows_at, row_in};
 
 use hyd_lex::{Line, Lines, Section};
 use hyd_num::FlowUnit;

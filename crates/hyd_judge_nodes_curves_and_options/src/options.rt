@@ -1,18 +1,19 @@
 //! Options among all rows: the pressures between which demands depend on pressure.
 #![tactic(auto)]
 
-ghost use Rattle.std.specs.Prelude.{◌≡◌, ◌<◌, ◌+◌, ◌*◌, ◌^◌, [], ◌∷◌, List, ℤ, None, length, pos, max, codes, IfSome};
+ghost use Rattle.std.specs.Prelude.{◌≡◌, ◌<◌, ◌+◌, ◌*◌, ◌^◌, [], ◌∷◌, None, length, max, codes, IfSome};
 ghost use Rattle.std.specs.List.{All};
-ghost use Rattle.hyd_spec_lines.specs.Lines.{LiesIn, Row, row_of};
+ghost use Rattle.hyd_spec_lines.specs.Lines.{LiesIn, row_of};
 ghost use Rattle.hyd_spec_lines.specs.declared.section.Section.TheVariants.{Options as InOptions};
 ghost use Rattle.hyd_row_words.specs.FaultOrValue.{words_at};
 ghost use Rattle.hyd_spec_input.specs.SingleRows.{IsWrongByItself};
 ghost use Rattle.hyd_spec_input.specs.Columns as column;
 ghost use Rattle.hyd_spec_input.specs.Faults.{NoneIs};
-ghost use Rattle.hyd_spec_input.specs.InForce as force;
-ghost use Rattle.hyd_spec_input.specs.OptionRows as row;
-ghost use Rattle.hyd_spec_input.specs.RowsTogether as others;
-ghost use Rattle.hyd_rows_and_tables.specs.FirstWrongRow.{HasFound, rows_at, row_in};
+ghost use Rattle.hyd_spec_input.specs.OptionsAndTimesInForce as force;
+ghost use Rattle.hyd_spec_input.specs.OptionAndTimeRows as row;
+ghost use Rattle.hyd_spec_input.specs.FaultsWithOtherRows as others;
+ghost use Rattle.hyd_rows_and_tables.specs.FirstWrongRow.{HasFound};
+ghost use Rattle.hyd_rows_and_tables.specs.RowsOfLines.{rows_at, row_in};
 ghost use Rattle.hyd_rows_and_tables.specs.WrongInSection.{IsWrongIn};
 ghost use Rattle.hyd_judge_nodes_curves_and_options.specs.Options as option;
 ghost use Rattle.hyd_judge_nodes_curves_and_options.specs.Options.{ArePressures, HasAmount, IsBound};

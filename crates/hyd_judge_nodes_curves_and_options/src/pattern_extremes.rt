@@ -10,10 +10,10 @@ ghost use Rattle.hyd_spec_lines.specs.declared.section.Section.TheVariants.{Patt
 ghost use Rattle.hyd_row_words.specs.FaultOrValue.{words_at};
 ghost use Rattle.hyd_spec_input.specs.SingleRows.{IsWrongByItself};
 ghost use Rattle.hyd_spec_input.specs.Columns.{within};
-ghost use Rattle.hyd_spec_input.specs.DemandCurveAndStatusRows as row;
+ghost use Rattle.hyd_spec_input.specs.DemandEmitterCurvePatternAndStatusRows as row;
 ghost use Rattle.hyd_spec_input.specs.Faults.{NoneIs};
-ghost use Rattle.hyd_spec_input.specs.Tables.{place as section_place, rows_of};
-ghost use Rattle.hyd_rows_and_tables.specs.FirstWrongRow.{rows_at};
+ghost use Rattle.hyd_spec_input.specs.SectionsAndTables.{place as section_place, rows_of};
+ghost use Rattle.hyd_rows_and_tables.specs.RowsOfLines.{rows_at};
 ghost use Rattle.hyd_rows_and_tables.specs.IdTables.{IsTable, AreNone};
 ghost use Rattle.hyd_judge_nodes_curves_and_options.specs.Extremes as bound;
 ghost use Rattle.hyd_judge_nodes_curves_and_options.specs.Extremes.{bounds, AreWidened};

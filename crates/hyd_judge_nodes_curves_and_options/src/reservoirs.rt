@@ -5,7 +5,7 @@ ghost use Rattle.std.specs.Prelude.{◌≡◌, ℕ, List, None};
 ghost use Rattle.hyd_spec_lines.specs.WordsOfLines.{text_of};
 ghost use Rattle.hyd_spec_lines.specs.Lines.{LiesIn, Row};
 ghost use Rattle.hyd_row_words.specs.FaultOrValue.{words_at};
-ghost use Rattle.hyd_spec_input.specs.NetworkRows as row;
+ghost use Rattle.hyd_spec_input.specs.NodeAndLinkRows as row;
 ghost use Rattle.hyd_rows_and_tables.specs.QuantityRanges as range;
 ghost use Rattle.hyd_rows_and_tables.specs.IdTables.{IsEven};
 ghost use Rattle.hyd_judge_nodes_curves_and_options.specs.Extremes.{bounds};

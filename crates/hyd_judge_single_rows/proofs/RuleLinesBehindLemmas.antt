@@ -6,8 +6,8 @@ use Rattle.hyd_spec_lines.specs.Lines.{Row, row_of}
 use Rattle.hyd_spec_lines.specs.declared.line.Line.{Line}
 use Rattle.hyd_spec_lines.specs.declared.section.Section.TheVariants.{Rules}
 use Rattle.hyd_spec_input.specs.RuleRows.{begins_with, is_rule, is_then, some_then, until_rule}
-use Rattle.hyd_spec_input.specs.Tables.{is_of, words_of}
-use Rattle.hyd_rows_and_tables.specs.FirstWrongRow.{rows_at}
+use Rattle.hyd_spec_input.specs.SectionsAndTables.{is_of, words_of}
+use Rattle.hyd_rows_and_tables.specs.RowsOfLines.{rows_at}
 
 abbrev pub then_in : List Row → Bool
 then_in rows = some_then (until_rule (words_of Rules rows))

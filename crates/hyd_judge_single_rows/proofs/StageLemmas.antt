@@ -11,11 +11,13 @@ use Rattle.hyd_spec_lines.specs.declared.section.Section.TheVariants.{Rules}
 use Rattle.hyd_spec_input.specs.SingleRows.{section_fault, row_fault, IsWrongByItself}
 use Rattle.hyd_spec_input.specs.Faults.{NoneIs}
 use Rattle.hyd_spec_input.specs.RuleRows.{stage_by, begins_with, stage_after}
-use Rattle.hyd_spec_input.specs.Tables.{is_of, words_of, words_of_row, rows_of}
+use Rattle.hyd_spec_input.specs.SectionsAndTables.{is_of, words_of, words_of_row, rows_of}
 use Rattle.hyd_spec_input.specs.declared.Stage.{Stage}
 use Rattle.hyd_net.specs.declared.refusal_cause.Cause.{Cause}
-use Rattle.hyd_rows_and_tables.specs.FirstWrongRow.{HasFound, IsFirstAt, rows_at}
-use Rattle.hyd_rows_and_tables.proofs.FoundLemmas.{filter_more, filter_same, none_more, none_of, first_here, row_at}
+use Rattle.hyd_rows_and_tables.specs.FirstWrongRow.{HasFound, IsFirstAt}
+use Rattle.hyd_rows_and_tables.specs.RowsOfLines.{rows_at}
+use Rattle.hyd_rows_and_tables.proofs.FirstWrongRowLemmas.{filter_more, filter_same, none_more, none_of, first_here}
+use Rattle.hyd_rows_and_tables.proofs.FirstWrongRowLemmas.{row_at}
 use Rattle.hyd_judge_single_rows.specs.RuleLineStages.{stage_with, fault_at_stage, rule_lines}
 use Rattle.hyd_theorems_on_input.proofs.RuleLines.{stage_more}
 

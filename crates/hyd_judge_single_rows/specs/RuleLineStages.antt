@@ -7,11 +7,11 @@ use Rattle.hyd_spec_lines.specs.declared.section.Section.TheVariants.{Rules}
 use Rattle.hyd_spec_input.specs.SingleRows.{section_fault}
 use Rattle.hyd_spec_input.specs.Columns.{first, unless}
 use Rattle.hyd_spec_input.specs.RuleRows.{stage_by, begins_with, in_order, words_of_rule_line, is_acting, gets_then}
-use Rattle.hyd_spec_input.specs.Tables.{is_of, words_of}
+use Rattle.hyd_spec_input.specs.SectionsAndTables.{is_of, words_of}
 use Rattle.hyd_spec_input.specs.declared.Stage.{Stage}
 use Rattle.hyd_net.specs.declared.refusal_cause.Cause.{Cause}
 use Rattle.hyd_net.specs.declared.refusal_cause.Cause.TheVariants.{Syntax}
-use Rattle.hyd_rows_and_tables.specs.FirstWrongRow.{rows_at}
+use Rattle.hyd_rows_and_tables.specs.RowsOfLines.{rows_at}
 
 -- the stage after one row more
 abbrev pub stage_with : Stage → Row → Stage

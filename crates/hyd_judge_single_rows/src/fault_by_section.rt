@@ -1,4 +1,4 @@
-//! Rows by their sections.
+//! What is wrong with a row by itself, section by section.
 #![tactic(auto)]
 
 ghost use Rattle.std.specs.Prelude.{◌≡◌};

@@ -5,7 +5,8 @@ ghost use Rattle.std.specs.Prelude.{length};
 ghost use Rattle.std.specs.List.{All};
 ghost use Rattle.hyd_spec_lines.specs.Lines.{LiesIn};
 ghost use Rattle.hyd_spec_input.specs.SingleRows.{IsWrongByItself};
-ghost use Rattle.hyd_rows_and_tables.specs.FirstWrongRow.{HasFound, rows_at};
+ghost use Rattle.hyd_rows_and_tables.specs.FirstWrongRow.{HasFound};
+ghost use Rattle.hyd_rows_and_tables.specs.RowsOfLines.{rows_at};
 
 use crate::fault_by_section::row_fault;
 use crate::rule_line_order::next_stage;

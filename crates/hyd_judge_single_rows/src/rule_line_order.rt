@@ -6,7 +6,7 @@ ghost use Rattle.hyd_spec_lines.specs.Lines.{LiesIn, row_of};
 ghost use Rattle.hyd_row_words.specs.FaultOrValue.{Judged, words_at};
 ghost use Rattle.hyd_spec_input.specs.RuleRows as rules;
 ghost use Rattle.hyd_spec_input.specs.RuleRows.{begins_with};
-ghost use Rattle.hyd_spec_input.specs.Tables.{is_of};
+ghost use Rattle.hyd_spec_input.specs.SectionsAndTables.{is_of};
 ghost use Rattle.hyd_spec_lines.specs.declared.section.Section.TheVariants.{Rules};
 ghost use Rattle.hyd_judge_single_rows.specs.RuleLineStages.{stage_with};
 

@@ -1,4 +1,4 @@
-//! Lines of rules.
+//! What is wrong with one line of a rule, after the lines before it and before those behind it.
 #![tactic(auto)]
 
 ghost use Rattle.std.specs.Prelude.{◌≡◌};

@@ -4,7 +4,7 @@
 use Rattle.std.specs.Prelude.{◌*◌, ◌≤◌, ℤ, pos, ◌≤ℤ◌, ◌≡◌, ◌⊎◌, unsigned_abs, Bool, true, false}
 use Rattle.std.specs.Int.{int_max, int_min}
 use Rattle.hyd_num.specs.Rational.{Rational, floor, ceiling}
-use Rattle.hyd_num.specs.declared.decimals.Span.{Span}
+use Rattle.hyd_num.specs.declared.spans.Span.{Span}
 use Rattle.hyd_spec.specs.Scale.{at_scale}
 use Rattle.hyd_spec.specs.Law.{Relation}
 use Rattle.hyd_spec_certificates.specs.Certificate.{box_limit}

@@ -1,11 +1,11 @@
--- Laws that pass one way only, and laws that a pump lifts, from the law inside.
+-- Lemmas: laws that pass one way only, and laws that a pump lifts, are laws where the law inside is one.
 use Rattle.std.proofs.Common.{ℤ, ◌<◌, ◌+ℤ◌, Bool, true, false, sym, subst, lit<}
 use Rattle.hyd_num.specs.Rational.{floor}
-use Rattle.hyd_num.specs.declared.decimals.Span.{Span}
+use Rattle.hyd_num.specs.declared.spans.Span.{Span}
 use Rattle.hyd_spec.specs.ProgramTypes.{ShutoffHead, FourThirds, Given}
-use Rattle.hyd_spec.specs.DemandsReservoirHeadsAndCurves.{lift_of}
+use Rattle.hyd_spec.specs.DemandsHeadsAndPumpLifts.{lift_of}
 use Rattle.hyd_spec.specs.Law.{Relation, lifted}
-use Rattle.hyd_theorems_on_definitions.specs.TermsOfTheorems.{IsLaw}
+use Rattle.hyd_theorems_on_definitions.specs.SoundLawsAndGrids.{IsLaw}
 use Rattle.hyd_theorems_on_definitions.proofs.LinkLaws.{IsLaw-forward, IsLaw-reverse, IsLaw-lifted}
 use Rattle.hyd_law.specs.ComposedLaws.{IsLift, directed, directed_at_least, directed_at_most}
 

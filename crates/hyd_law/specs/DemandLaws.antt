@@ -4,16 +4,16 @@ use Rattle.std.specs.Prelude.{ℤ, pos, ◌*ℤ◌, ◌≤ℤ◌, ◌≡◌, ⊤
 use Rattle.std.proofs.Common.{subst, sym}
 use Rattle.hyd_num.specs.Rational.{negated, floor, ceiling}
 use Rattle.hyd_spec.specs.ProgramTypes.{PressureDemand}
-use Rattle.hyd_spec.specs.DemandsReservoirHeadsAndCurves.{pressure_value}
+use Rattle.hyd_spec.specs.DemandsHeadsAndPumpLifts.{pressure_value}
 use Rattle.hyd_spec.specs.Law.{Relation, QuadraticLaw, lifted, flow_at_least, flow_at_most}
 use Rattle.hyd_spec_certificates.specs.EnclosingFunctions.{quadratic_low, quadratic_high}
-use Rattle.hyd_theorems_on_definitions.specs.TermsOfTheorems.{IsLaw, IsSoundCapacity}
+use Rattle.hyd_theorems_on_definitions.specs.SoundLawsAndGrids.{IsLaw, IsSoundCapacity}
 use Rattle.hyd_theorems_on_definitions.specs.PressureDrivenDemand.{steps_at_least, steps_at_most, stepped}
 use Rattle.hyd_theorems_on_definitions.proofs.DemandLaws.{IsLaw-fixed, IsLaw-driven}
 use Rattle.hyd_law.specs.ComposedLaws.{IsDifference, IsLift}
-use Rattle.hyd_law.specs.declared.demand_kinds.Pda.{Pda}
-use Rattle.hyd_law.specs.declared.demand_kinds.OutLaw.{OutLaw}
-use Rattle.hyd_law.specs.declared.demand_kinds.OutLaw.TheVariants.{Fixed as FixedOut, Pda as PdaOut}
+use Rattle.hyd_law.specs.declared.demand_law_kinds.Pda.{Pda}
+use Rattle.hyd_law.specs.declared.demand_law_kinds.OutLaw.{OutLaw}
+use Rattle.hyd_law.specs.declared.demand_law_kinds.OutLaw.TheVariants.{Fixed as FixedOut, Pda as PdaOut}
 
 -- ---- by pressure
 

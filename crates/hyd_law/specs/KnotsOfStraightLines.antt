@@ -2,7 +2,7 @@
 use Rattle.std.specs.Prelude.{◌^◌, ◌≤◌, ℤ, pos, ◌≡◌, ◌<◌, unsigned_abs, List, length, map, All}
 use Rattle.hyd_net.specs.Curves.{Knot as Place}
 use Rattle.hyd_num.specs.Rational.{Rational}
-use Rattle.hyd_theorems_on_definitions.specs.TermsOfTheorems.{AreInOrder}
+use Rattle.hyd_theorems_on_definitions.specs.SoundLawsAndGrids.{AreInOrder}
 use Rattle.hyd_law.specs.declared.law_kinds.Knot.{Knot}
 
 -- the flow of a knot by its head difference

@@ -1,13 +1,13 @@
--- The law of any link, by its kind.
+-- The law of any link, whichever kind of law it is.
 use Rattle.std.specs.Prelude.{ℤ, pos, ◌+ℤ◌, ◌≤ℤ◌, ⊤}
 use Rattle.std.specs.Int.{int_min}
 use Rattle.hyd_num.specs.Rational.{floor, ceiling}
 use Rattle.hyd_net.specs.Curves.{value_at}
-use Rattle.hyd_spec.specs.DemandsReservoirHeadsAndCurves.{lift_of}
+use Rattle.hyd_spec.specs.DemandsHeadsAndPumpLifts.{lift_of}
 use Rattle.hyd_spec.specs.Law.{Relation, Shut as ShutLaw, QuadraticLaw, LinearLaw, Bent as BentLaw, lifted}
 use Rattle.hyd_spec.specs.Law.{flow_at_least, flow_at_most}
 use Rattle.hyd_spec_certificates.specs.EnclosingFunctions.{quadratic_low, quadratic_high, linear_flow}
-use Rattle.hyd_theorems_on_definitions.specs.TermsOfTheorems.{IsLaw, IsSoundCapacity}
+use Rattle.hyd_theorems_on_definitions.specs.SoundLawsAndGrids.{IsLaw, IsSoundCapacity}
 use Rattle.hyd_theorems_on_definitions.proofs.LinkLaws.{IsLaw-shut, IsLaw-capped, IsLaw-held}
 use Rattle.hyd_theorems_on_definitions.proofs.EachLaw.{IsLaw-quad, IsLaw-straight, IsLaw-bent}
 use Rattle.hyd_law.specs.ComposedLaws.{IsDifference, IsLift, directed, directed_at_least, directed_at_most}
@@ -15,10 +15,12 @@ use Rattle.hyd_law.specs.ComposedLaws.{capped_at_least}
 use Rattle.hyd_law.specs.ComposedLaws.{capped_at_most, held, held_at_least, held_at_most}
 use Rattle.hyd_law.specs.ComposedLawsAreLaws.{IsLaw-directed, IsLaw-lift}
 use Rattle.hyd_law.specs.KnotsOfStraightLines.{places, IsCurve}
-use Rattle.hyd_law.specs.declared.link_law.LinkLaw.{LinkLaw}
-use Rattle.hyd_law.specs.declared.link_law.LinkLaw.TheVariants.{Shut, Quad, Linear, QuadOneWay, LinearOneWay, Pump}
-use Rattle.hyd_law.specs.declared.link_law.LinkLaw.TheVariants.{Limit, LinearLimit, LimitOneWay, LinearLimitOneWay}
-use Rattle.hyd_law.specs.declared.link_law.LinkLaw.TheVariants.{Bent}
+use Rattle.hyd_law.specs.declared.link_law_kinds.LinkLaw.{LinkLaw}
+use Rattle.hyd_law.specs.declared.link_law_kinds.LinkLaw.TheVariants.{Shut, Quad, Linear, QuadOneWay, LinearOneWay}
+use Rattle.hyd_law.specs.declared.link_law_kinds.LinkLaw.TheVariants.{Pump}
+use Rattle.hyd_law.specs.declared.link_law_kinds.LinkLaw.TheVariants.{Limit, LinearLimit, LimitOneWay}
+use Rattle.hyd_law.specs.declared.link_law_kinds.LinkLaw.TheVariants.{LinearLimitOneWay}
+use Rattle.hyd_law.specs.declared.link_law_kinds.LinkLaw.TheVariants.{Bent}
 
 -- ---- the exact flow
 

@@ -1,10 +1,10 @@
 //! Laws made of other laws.
 #![tactic(auto)]
 
-ghost use Rattle.std.specs.Prelude.{◌≡◌, ◌+◌, ◌*◌, ◌^◌, ◌≤◌, ◌+ℤ◌, ◌≤ℤ◌, unsigned_abs};
+ghost use Rattle.std.specs.Prelude.{◌≡◌, ◌+◌, ◌^◌, ◌≤◌, ◌+ℤ◌, ◌≤ℤ◌, unsigned_abs};
 ghost use Rattle.std.specs.Int.{int_min};
 ghost use Rattle.hyd_spec.specs.Law as exact;
-ghost use Rattle.hyd_spec.specs.DemandsReservoirHeadsAndCurves.{lift_of};
+ghost use Rattle.hyd_spec.specs.DemandsHeadsAndPumpLifts.{lift_of};
 ghost use Rattle.hyd_theorems_on_definitions.proofs.LinkLaws.{IsLaw-capped, IsLaw-held};
 ghost use Rattle.hyd_law.specs.ComposedLaws.{IsDifference, IsLift, directed, directed_at_least, directed_at_most};
 ghost use Rattle.hyd_law.specs.ComposedLaws.{capped_at_least, capped_at_most, held, held_at_least, held_at_most};

@@ -1,4 +1,4 @@
-//! Demands are laws.
+//! The low and high flows of demands.
 #![tactic(auto)]
 
 ghost use Rattle.std.specs.Prelude.{◌≡◌, ◌+◌, ◌*◌, ◌^◌, ◌≤◌, pos, ◌-ℤ◌, ◌*ℤ◌, ◌≤ℤ◌, ◌<ℤ◌, ⊤, unsigned_abs};
@@ -10,7 +10,7 @@ ghost use Rattle.hyd_law.specs.DemandLaws.{out_at_least, out_at_most, out_low, o
 ghost use Rattle.hyd_law.specs.DemandLaws.{IsLaw-out, pda_at_least, pda_at_most, pda_low, pda_high, IsSoundPda};
 ghost use Rattle.hyd_law.specs.DemandLaws.{IsLaw-pda};
 
-use crate::demand_kinds::{Fixed, OutLaw, Pda};
+use crate::demand_law_kinds::{Fixed, OutLaw, Pda};
 use crate::law::Law;
 use crate::quadratic::{quadratic_high, quadratic_low};
 

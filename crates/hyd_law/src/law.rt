@@ -2,7 +2,7 @@
 #![tactic(auto)]
 
 ghost use Rattle.std.specs.Prelude.{◌≡◌, ◌≤◌, ℕ, ℤ, unsigned_abs};
-ghost use Rattle.hyd_theorems_on_definitions.specs.TermsOfTheorems.{IsLaw};
+ghost use Rattle.hyd_theorems_on_definitions.specs.SoundLawsAndGrids.{IsLaw};
 
 /// The law of a link or an outflow: the exact flow at a head difference as two relations, and a whole number of flow
 /// ticks below and one above it at a head difference of whole head ticks.

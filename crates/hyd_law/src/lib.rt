@@ -3,18 +3,18 @@
 #![tactic(auto)]
 
 mod composed_laws;
-mod demand_kinds;
+mod demand_law_kinds;
 mod demand_laws;
 mod law;
 mod law_kinds;
-mod link_law;
-mod link_law_by_kind;
+mod link_law_kinds;
+mod link_laws;
 mod quadratic;
 mod single_laws;
 mod straight_line_law;
 mod straight_lines;
 
-pub use demand_kinds::{Fixed, OutLaw, Pda};
+pub use demand_law_kinds::{Fixed, OutLaw, Pda};
 pub use law::Law;
 pub use law_kinds::{Bent, Capped, Held, Knot, Lifted, Linear, OneWay, Quad, Shut};
-pub use link_law::LinkLaw;
+pub use link_law_kinds::LinkLaw;

@@ -1,11 +1,11 @@
-//! Laws that stand alone.
+//! Laws that aren't made of others: closed, quadratic and linear ones.
 #![tactic(auto)]
 
-ghost use Rattle.std.specs.Prelude.{◌*◌, ◌^◌, ◌≤◌, pos, ⊤, unsigned_abs};
+ghost use Rattle.std.specs.Prelude.{◌*◌, ◌^◌, ⊤};
 ghost use Rattle.hyd_num.specs.Rational.{floor, ceiling};
 ghost use Rattle.hyd_spec.specs.Law as exact;
 ghost use Rattle.hyd_spec_certificates.specs.EnclosingFunctions as enclosing;
-ghost use Rattle.hyd_theorems_on_definitions.specs.TermsOfTheorems.{IsSoundCapacity};
+ghost use Rattle.hyd_theorems_on_definitions.specs.SoundLawsAndGrids.{IsSoundCapacity};
 ghost use Rattle.hyd_theorems_on_definitions.proofs.LinkLaws.{IsLaw-shut};
 ghost use Rattle.hyd_theorems_on_definitions.proofs.EachLaw.{IsLaw-quad, IsLaw-straight};
 ghost use Rattle.hyd_law.specs.ComposedLaws.{IsDifference};

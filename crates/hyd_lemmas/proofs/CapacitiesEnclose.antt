@@ -8,8 +8,8 @@ use Rattle.hyd_spec.specs.ProgramTypes.{Origin, Pipe, Valve, Pump, Emitter, Pres
 use Rattle.hyd_spec.specs.Law.{loss_at_most, loss_at_least}
 use Rattle.hyd_spec.specs.CapacityEnclosure.{IsEnclosure}
 use Rattle.hyd_lemmas.proofs.PipeAndValvePairs.{valve-at_most, valve-at_least, pipe-at_most, pipe-at_least}
-use Rattle.hyd_lemmas.proofs.PumpAndOutletPairs.{pump-at_most, pump-at_least, emitter-at_most, emitter-at_least}
-use Rattle.hyd_lemmas.proofs.PumpAndOutletPairs.{pressure-at_most, pressure-at_least}
+use Rattle.hyd_lemmas.proofs.PumpEmitterAndDemandPairs.{pump-at_most, pump-at_least, emitter-at_most, emitter-at_least}
+use Rattle.hyd_lemmas.proofs.PumpEmitterAndDemandPairs.{pressure-at_most, pressure-at_least}
 
 pub pair-at_most : (origin : Origin) (r : Pair) (S q y : ℕ) → StandsFor origin r
     → (q * q) * denominator r.lo ≤ numerator r.lo * (S * y) → loss_at_most origin S q y

@@ -9,7 +9,7 @@ use Rattle.hyd_num.specs.declared.pairs.Pair.{Pair}
 use Rattle.hyd_num.specs.Fraction.{Fraction, power, AtMost}
 use Rattle.hyd_num.specs.BinaryNumbers.{as_fraction}
 use Rattle.hyd_lemmas.proofs.RoundingErrors.{grain, grain_above}
-use Rattle.hyd_lemmas.proofs.Widths.{IsNear, above, high, low}
+use Rattle.hyd_lemmas.proofs.PairWidths.{IsNear, above, high, low}
 
 -- x is at most n factors above y
 pub record IsWithin (n : ℕ) (x y : Fraction) : Type 0 where

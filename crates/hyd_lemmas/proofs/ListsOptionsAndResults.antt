@@ -23,6 +23,12 @@ item_is {X} [] k x d at = absurd (cc)
 item_is {X} (y ∷ xs) zero x d at = cc
 item_is {X} (y ∷ xs) (suc k) x d at = item_is xs k x d at
 
+pub mapped : {X Y : Type 0} (f : X → Y) (xs : List X) (k : ℕ) (d : Y) (e : X) → k < length xs
+    → slice_index_or (map f xs) k d ≡ f (slice_index_or xs k e)
+mapped {X} {Y} f [] k d e h = absurd (omega (arith, h))
+mapped {X} {Y} f (x ∷ xs) zero d e h = refl
+mapped {X} {Y} f (x ∷ xs) (suc k) d e h = mapped f xs k d e (omega (arith, h))
+
 pub item_there : {X : Type 0} (xs : List X) (k : ℕ) → k < length xs → (x : X) × (slice_get xs k ≡ Some x)
 item_there {X} [] k h = absurd (omega (arith, h))
 item_there {X} (x ∷ xs) zero h = (x, refl)
@@ -104,3 +110,9 @@ numbered_at {X} {Y} f from (y ∷ xs) (suc k) x d e =
 pub as_long : {X Y : Type 0} (f : ℕ → X → Y) (from : ℕ) (xs : List X) → length (map_from f from xs) ≡ length xs
 as_long {X} {Y} f from [] = refl
 as_long {X} {Y} f from (x ∷ xs) = ap suc (as_long f (suc from) xs)
+
+-- the item that was read at a place
+pub each_is : {X : Type 0} (xs ys : List X) (k : ℕ) (here each : X) → here ≡ slice_index_or ys k here → ys ≡ xs
+    → slice_get xs k ≡ Some each → here ≡ each
+each_is {X} xs ys k here each is are at =
+    is ∙ ap (λ (zs : List X). slice_index_or zs k here) are ∙ item_is xs k each here at

@@ -14,8 +14,8 @@ use Rattle.hyd_spec.specs.ProgramTypes.{Origin, Pipe, Valve, Pump, Emitter, Pres
 use Rattle.hyd_num.proofs.EndsInOrder.{denominator_positive, numerator_positive}
 use Rattle.hyd_lemmas.proofs.Fractions.{AtMost-itself, AtMost-along, times-rises, over-rises, plus-rises}
 use Rattle.hyd_lemmas.proofs.PairOperations.{down_below, up_above}
-use Rattle.hyd_lemmas.proofs.PumpAndOutletPairs.{ratio-above}
-use Rattle.hyd_lemmas.proofs.Sharpness.{some_factor}
+use Rattle.hyd_lemmas.proofs.PumpEmitterAndDemandPairs.{ratio-above}
+use Rattle.hyd_lemmas.proofs.SharpCapacities.{some_factor}
 
 -- neither end of r is above that of s
 pub record IsBelow (r s : Pair) : Type 0 where

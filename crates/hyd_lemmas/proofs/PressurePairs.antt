@@ -16,8 +16,8 @@ use Rattle.hyd_num.specs.CapacityPairs.{IsPairOf, IsSquareOver, IsPressurePair, 
 use Rattle.hyd_num.specs.declared.link_capacities.Capacity.{Capacity}
 use Rattle.hyd_num.specs.declared.link_capacities.Origin.TheVariants.{PressureDemand}
 use Rattle.hyd_num.proofs.EndsInOrder.{denominator_positive}
-use Rattle.hyd_lemmas.proofs.Products.{product_of}
-use Rattle.hyd_lemmas.proofs.Ratios.{ratio_of, quotient_of}
+use Rattle.hyd_lemmas.proofs.PairProducts.{product_of}
+use Rattle.hyd_lemmas.proofs.PairRatios.{ratio_of, quotient_of}
 
 pub pressure_pair : (demand : ℤ) (minimum required : Decimal) (us : Bool) (n m : ℕ) (flows head r : Pair)
     → n ≡ up demand → m ≡ up (required.nano -ℤ minimum.nano) → IsRatio n 1 flows

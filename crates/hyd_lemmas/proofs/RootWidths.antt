@@ -12,11 +12,11 @@ use Rattle.hyd_num.proofs.Powers.{pow_one}
 use Rattle.hyd_lemmas.proofs.PairOperations.{own-encloses}
 use Rattle.hyd_lemmas.proofs.Losses.{square_is}
 use Rattle.hyd_lemmas.proofs.RoundingErrors.{grain, above_of, below_of}
-use Rattle.hyd_lemmas.proofs.Widths.{IsNear, above, power-near}
+use Rattle.hyd_lemmas.proofs.PairWidths.{IsNear, above, power-near}
 use Rattle.hyd_lemmas.proofs.FractionsFactorsApart.{IsWithin, within-none, within-along, within-power, within-root}
 use Rattle.hyd_lemmas.proofs.FractionsFactorsApart.{within-wider}
 use Rattle.hyd_lemmas.proofs.FractionsFactorsApart.{ends-within, near-within}
-use Rattle.hyd_lemmas.proofs.Products.{own_power}
+use Rattle.hyd_lemmas.proofs.PairProducts.{own_power}
 
 -- one factor
 one_factor : (x y g u : ℕ) → x * g ≤ y * u → x * g ^ 1 ≤ y * u ^ 1

@@ -2,9 +2,9 @@
 #![tactic(auto)]
 
 mod headings;
-mod line_and_word_bytes;
 mod lines;
+mod lines_and_words_split;
 
 pub use hyd_spec_lines::{LexCause, LexFault, Line, Section};
-pub use line_and_word_bytes::{is_keyword, split_word};
 pub use lines::Lines;
+pub use lines_and_words_split::{is_keyword, split_word};

@@ -10,7 +10,7 @@ ghost use Rattle.hyd_spec_lines.specs.Lines as lines_form;
 ghost use Rattle.hyd_lex.specs.RemainingRows as walk;
 
 use crate::headings::heading_kind;
-use crate::line_and_word_bytes::{body, first_line, is_plain, word};
+use crate::lines_and_words_split::{body, first_line, is_plain, word};
 use hyd_spec_lines::{Kind, LexCause, LexFault, Line, Region};
 use std::marker::Model;
 

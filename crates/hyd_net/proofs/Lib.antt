@@ -1,2 +1,2 @@
 pub mod IdLemmas
-pub mod Equal
+pub mod EqualValues

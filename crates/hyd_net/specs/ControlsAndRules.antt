@@ -4,7 +4,7 @@ use Rattle.std.specs.Prelude.{ℕ, ◌+◌, ◌^◌, ◌<◌, ◌≤◌, ◌⊎�
 use Rattle.std.specs.List.{All}
 use Rattle.hyd_net.specs.Ids.{IsId}
 use Rattle.hyd_net.specs.NumberRanges.{Lies, LiesWithin, IsHead, Numbers}
-use Rattle.hyd_net.specs.States.{CanBeSet}
+use Rattle.hyd_net.specs.LinkStates.{CanBeSet}
 use Rattle.hyd_net.specs.declared.links.LinkKind.{LinkKind}
 use Rattle.hyd_net.specs.declared.links.LinkKind.TheVariants.{Pipe, CheckPipe, Pump, CurvePump, Tcv, Fcv, Gpv}
 use Rattle.hyd_net.specs.declared.links.LinkState.{LinkState}

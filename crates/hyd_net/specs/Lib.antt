@@ -8,5 +8,5 @@ pub mod RoundedFileNumbers
 pub mod NumberRanges
 pub mod NetworkRanges
 pub mod Sound
-pub mod States
+pub mod LinkStates
 pub mod ProjectAsCompared

@@ -5,7 +5,7 @@ use Rattle.hyd_num.specs.CapacityPairs.{IsMade}
 use Rattle.hyd_num.specs.QuotientsAndRoots.{IsFloor, IsCeiling}
 use Rattle.hyd_num.specs.FileQuantity.{is_us_unit, head_ticks, flow_ticks, pressure_numerator, pressure_denominator}
 use Rattle.hyd_num.specs.declared.flow_units.FlowUnit.{FlowUnit}
-use Rattle.hyd_num.specs.declared.decimals.Span.{Span}
+use Rattle.hyd_num.specs.declared.spans.Span.{Span}
 use Rattle.hyd_num.specs.declared.link_capacities.Origin.{Origin}
 use Rattle.hyd_num.specs.declared.link_capacities.Origin.TheVariants.{Valve as ValveOrigin}
 use Rattle.hyd_net.specs.NetworkRanges.{IsValve}

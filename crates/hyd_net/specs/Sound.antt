@@ -8,7 +8,7 @@ use Rattle.hyd_net.specs.NumberRanges.{LiesWithin}
 use Rattle.hyd_net.specs.CountLimits.{most_junctions, most_reservoirs, most_tanks, most_links, most_patterns}
 use Rattle.hyd_net.specs.CountLimits.{most_multipliers, most_curves, most_points, most_demands, most_controls}
 use Rattle.hyd_net.specs.CountLimits.{most_rules, most_parts}
-use Rattle.hyd_net.specs.States.{CanHave}
+use Rattle.hyd_net.specs.LinkStates.{CanHave}
 use Rattle.hyd_net.specs.NetworkRanges.{HasQuantities}
 use Rattle.hyd_net.specs.RoundedFileNumbers.{IsAllMade}
 use Rattle.hyd_net.specs.ControlsAndRules.{node_count, IsControl, IsRule}

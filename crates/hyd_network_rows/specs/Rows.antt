@@ -1,12 +1,14 @@
 -- What the rows of nodes, links and what belongs to them say, as the results of their readers.
 use Rattle.std.specs.Prelude.{◌≡◌, ℕ, true, false, List, drop, Some, slice_get, if◌then◌else◌, pos}
 use Rattle.hyd_spec_lines.specs.WordsOfLines.{text_of, words_in}
-use Rattle.hyd_option_and_rule_lines.specs.Meanings.{IsAsked}
+use Rattle.hyd_option_and_rule_lines.specs.WhatLinesSay.{IsAsked}
 use Rattle.hyd_spec_input.specs.Columns.{word, amount, amount_or}
-use Rattle.hyd_spec_input.specs.NetworkRows.{tank_curve, tank_overflows, has_check_valve, is_closed_pipe, pipe_minor}
-use Rattle.hyd_spec_input.specs.NetworkRows.{pump_curve, pump_pattern, pump_speed, is_throttle, is_general, valve_minor}
-use Rattle.hyd_network_rows.specs.declared.nodes.JunctionRow.{JunctionRow}
-use Rattle.hyd_network_rows.specs.declared.nodes.ReservoirRow.{ReservoirRow}
+use Rattle.hyd_spec_input.specs.NodeAndLinkRows.{tank_curve, tank_overflows, has_check_valve, is_closed_pipe}
+use Rattle.hyd_spec_input.specs.NodeAndLinkRows.{pipe_minor}
+use Rattle.hyd_spec_input.specs.NodeAndLinkRows.{pump_curve, pump_pattern, pump_speed, is_throttle, is_general}
+use Rattle.hyd_spec_input.specs.NodeAndLinkRows.{valve_minor}
+use Rattle.hyd_network_rows.specs.declared.junctions_and_reservoirs.JunctionRow.{JunctionRow}
+use Rattle.hyd_network_rows.specs.declared.junctions_and_reservoirs.ReservoirRow.{ReservoirRow}
 use Rattle.hyd_network_rows.specs.declared.tanks.TankRow.{TankRow}
 use Rattle.hyd_network_rows.specs.declared.end_nodes.LinkEnds.{LinkEnds}
 use Rattle.hyd_network_rows.specs.declared.pipes.PipeRow.{PipeRow}
@@ -16,10 +18,10 @@ use Rattle.hyd_network_rows.specs.declared.pumps.PumpRow.{PumpRow}
 use Rattle.hyd_network_rows.specs.declared.valves.ValveRow.{ValveRow}
 use Rattle.hyd_network_rows.specs.declared.valves.ValveSetting.{ValveSetting}
 use Rattle.hyd_network_rows.specs.declared.valves.ValveSetting.TheVariants.{Throttle, Curve, Flow}
-use Rattle.hyd_network_rows.specs.declared.demands_curves_and_statuses.DemandRow.{DemandRow}
-use Rattle.hyd_network_rows.specs.declared.demands_curves_and_statuses.EmitterRow.{EmitterRow}
-use Rattle.hyd_network_rows.specs.declared.demands_curves_and_statuses.CurveRow.{CurveRow}
-use Rattle.hyd_network_rows.specs.declared.demands_curves_and_statuses.StatusRow.{StatusRow}
+use Rattle.hyd_network_rows.specs.declared.demands_emitters_curves_and_statuses.DemandRow.{DemandRow}
+use Rattle.hyd_network_rows.specs.declared.demands_emitters_curves_and_statuses.EmitterRow.{EmitterRow}
+use Rattle.hyd_network_rows.specs.declared.demands_emitters_curves_and_statuses.CurveRow.{CurveRow}
+use Rattle.hyd_network_rows.specs.declared.demands_emitters_curves_and_statuses.StatusRow.{StatusRow}
 use Rattle.hyd_network_rows.specs.declared.patterns.PatternRow.{PatternRow}
 
 -- ---- nodes

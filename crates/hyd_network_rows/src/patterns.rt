@@ -1,15 +1,15 @@
 //! Rows of patterns (EPANET 2.2 User Manual, [PATTERNS]).
 #![tactic(auto)]
 
-ghost use Rattle.std.specs.Prelude.{◌≡◌, ◌^◌};
+ghost use Rattle.std.specs.Prelude.{◌^◌};
 ghost use Rattle.hyd_spec_lines.specs.WordsOfLines.{words_in};
 ghost use Rattle.hyd_spec_lines.specs.Lines.{LiesIn};
 ghost use Rattle.hyd_row_words.specs.FaultOrValue.{Judged, words_at};
 ghost use Rattle.hyd_spec_input.specs.Columns as column;
-ghost use Rattle.hyd_spec_input.specs.DemandCurveAndStatusRows as row;
+ghost use Rattle.hyd_spec_input.specs.DemandEmitterCurvePatternAndStatusRows as row;
 ghost use Rattle.hyd_network_rows.specs.Rows.{IsPatternRow};
 
-use crate::columns::{behind_first, within};
+use crate::optional_and_bounded_words::{behind_first, within};
 use hyd_lex::{Line, Lines, split_word};
 use hyd_net::Cause;
 use hyd_net::ranges::GREATEST_MULTIPLIER;

@@ -1,16 +1,16 @@
 //! Rows of pumps (EPANET 2.2 User Manual, [PUMPS]).
 #![tactic(auto)]
 
-ghost use Rattle.std.specs.Prelude.{◌≡◌, [], ◌∷◌, None, codes, drop};
+ghost use Rattle.std.specs.Prelude.{◌≡◌, None, codes, drop};
 ghost use Rattle.hyd_spec_lines.specs.WordsOfLines.{text_of, words_in};
 ghost use Rattle.hyd_spec_lines.specs.Headings.{is_one_of};
 ghost use Rattle.hyd_spec_lines.specs.Lines.{LiesIn};
 ghost use Rattle.hyd_row_words.specs.FaultOrValue.{Judged, words_at};
-ghost use Rattle.hyd_spec_input.specs.NetworkRows as row;
+ghost use Rattle.hyd_spec_input.specs.NodeAndLinkRows as row;
 ghost use Rattle.hyd_network_rows.specs.Rows.{IsPumpRow};
 
-use crate::columns::{behind_first, within};
 use crate::end_nodes::{LinkEnds, read_ends};
+use crate::optional_and_bounded_words::{behind_first, within};
 use hyd_lex::{Line, Lines, is_keyword, split_word};
 use hyd_net::Cause;
 use hyd_net::ranges::GREATEST_SPEED;

@@ -1,16 +1,16 @@
 //! Rows of tanks (EPANET 2.2 User Manual, [TANKS]).
 #![tactic(auto)]
 
-ghost use Rattle.std.specs.Prelude.{◌≡◌, [], ◌∷◌, codes, slice_get};
+ghost use Rattle.std.specs.Prelude.{◌≡◌, [], ◌∷◌, codes};
 ghost use Rattle.hyd_spec_lines.specs.WordsOfLines.{text_of};
 ghost use Rattle.hyd_spec_lines.specs.Lines.{LiesIn};
 ghost use Rattle.hyd_row_words.specs.FaultOrValue.{Judged, words_at};
 ghost use Rattle.hyd_spec_input.specs.Columns as column;
 ghost use Rattle.hyd_spec_input.specs.Columns.{amount};
-ghost use Rattle.hyd_spec_input.specs.NetworkRows as row;
+ghost use Rattle.hyd_spec_input.specs.NodeAndLinkRows as row;
 ghost use Rattle.hyd_network_rows.specs.Rows.{IsTankRow};
 
-use crate::columns::{level_from, not_negative_or_0};
+use crate::optional_and_bounded_words::{level_from, not_negative_or_0};
 use hyd_lex::{Line, Lines, is_keyword};
 use hyd_net::Cause;
 use hyd_num::Decimal;

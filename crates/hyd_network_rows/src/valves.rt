@@ -6,11 +6,11 @@ ghost use Rattle.hyd_spec_lines.specs.Headings.{is_one_of};
 ghost use Rattle.hyd_spec_lines.specs.Lines.{LiesIn};
 ghost use Rattle.hyd_row_words.specs.FaultOrValue.{Judged, words_at};
 ghost use Rattle.hyd_spec_input.specs.Columns as column;
-ghost use Rattle.hyd_spec_input.specs.NetworkRows as row;
+ghost use Rattle.hyd_spec_input.specs.NodeAndLinkRows as row;
 ghost use Rattle.hyd_network_rows.specs.Rows.{IsValveRow, IsValveSetting};
 
-use crate::columns::within_or_0;
 use crate::end_nodes::{LinkEnds, read_ends};
+use crate::optional_and_bounded_words::within_or_0;
 use hyd_lex::{Line, Lines, is_keyword};
 use hyd_net::Cause;
 use hyd_net::ranges::{GREATEST_COEFFICIENT, GREATEST_DIAMETER};

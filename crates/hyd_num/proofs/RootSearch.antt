@@ -11,7 +11,7 @@ use Rattle.hyd_num.specs.declared.binary.Scaled.{Scaled}
 use Rattle.hyd_num.specs.declared.pairs.Pair.{Pair}
 use Rattle.hyd_num.specs.BinaryNumbers.{numerator, denominator}
 use Rattle.hyd_num.specs.Pairs.{IsPower, RootsBelow, RootsAbove}
-use Rattle.hyd_num.specs.CutsOfNumbers.{RootsOver, RootsUnder}
+use Rattle.hyd_num.specs.CutsOfBinaryNumbers.{RootsOver, RootsUnder}
 use Rattle.hyd_num.proofs.RoundingLemmas.{not_between, not_below, crossed}
 use Rattle.hyd_num.proofs.EndsInOrder.{numerator_positive, denominator_positive}
 use Rattle.hyd_num.proofs.Powers.{Below, high_rises, high_encloses, high_of_two, low_rises, low_encloses, low_of_two}

@@ -10,7 +10,7 @@ use Rattle.std.proofs.lemmas.Bool.{cases_order, cases_lt, eqb-false}
 use borrow.Author.Differences.{up, down}
 use Rattle.hyd_num.specs.declared.binary.Scaled.{Scaled}
 use Rattle.hyd_num.specs.BinaryNumbers.{numerator, denominator, reach, IsDown, IsUp}
-use Rattle.hyd_num.specs.CutsOfNumbers.{IsCut, IsNext, IsShortened}
+use Rattle.hyd_num.specs.CutsOfBinaryNumbers.{IsCut, IsNext, IsShortened}
 
 -- two powers of two are equal, or one is at least twice the other
 pub Apart : ℕ → ℕ → Type 0

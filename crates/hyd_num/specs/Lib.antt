@@ -4,9 +4,9 @@ pub mod Pairs
 pub mod Numeral
 pub mod FileQuantity
 pub mod CapacityPairs
-pub mod CutsOfNumbers
+pub mod CutsOfBinaryNumbers
 pub mod QuotientsAndRoots
 pub mod PrintedDecimals
 pub mod Rational
 pub mod CapacityRange
-pub mod NumbersInParts
+pub mod WideNumbers

@@ -2,9 +2,9 @@
 //! whether something was lost.
 #![tactic(auto)]
 
-ghost use Rattle.std.specs.Prelude.{◌≡◌, ℕ, ◌+◌, ◌*◌, ◌^◌, ◌<◌, ◌≤◌, unsigned_abs, pos, negsuc, ◌+ℤ◌, ◌≤ℤ◌};
-ghost use Rattle.hyd_num.specs.BinaryNumbers.{numerator, denominator, reach, IsDown, IsUp};
-ghost use Rattle.hyd_num.specs.CutsOfNumbers.{IsCut, IsNext, IsShortened};
+ghost use Rattle.std.specs.Prelude.{◌≡◌, ℕ, ◌+◌, ◌*◌, ◌^◌, ◌<◌, ◌≤◌, unsigned_abs, pos, ◌+ℤ◌, ◌≤ℤ◌};
+ghost use Rattle.hyd_num.specs.BinaryNumbers.{numerator, denominator, reach, IsUp};
+ghost use Rattle.hyd_num.specs.CutsOfBinaryNumbers.{IsCut, IsNext, IsShortened};
 
 use crate::binary::Scaled;
 

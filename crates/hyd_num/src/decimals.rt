@@ -1,7 +1,7 @@
-//! Numbers as a file gives them, and spans, which enclose a number by two whole ones.
+//! Numbers as a file gives them.
 #![tactic(auto)]
 
-ghost use Rattle.std.specs.Prelude.{◌^◌, ◌≤◌, ◌≤ℤ◌, unsigned_abs};
+ghost use Rattle.std.specs.Prelude.{◌^◌, ◌≤◌, unsigned_abs};
 
 use thiserror::Error;
 
@@ -10,14 +10,6 @@ use thiserror::Error;
 pub struct Decimal {
     pub nano: i128,
     pub ghost bounded: { unsigned_abs nano ≤ 10 ^ 21 },
-}
-
-/// A whole number that is known to lie from `lo` to `hi`, both included.
-#[derive(Debug, Clone, Copy, PartialEq, Eq, Drop)]
-pub struct Span {
-    pub lo: i128,
-    pub hi: i128,
-    pub ghost ordered: { lo ≤ℤ hi },
 }
 
 /// Why a text gives no [`Decimal`].

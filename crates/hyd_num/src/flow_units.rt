@@ -1,4 +1,4 @@
-//! The units in which a file gives its flows.
+//! The units in which a file gives its flows, and what a foot, a metre and a pound a square inch are worth.
 #![tactic(auto)]
 
 ghost use Rattle.std.specs.Prelude.{◌≡◌};

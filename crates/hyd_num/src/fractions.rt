@@ -1,9 +1,9 @@
 //! Rounding of fractions of whole numbers, by long division.
 #![tactic(auto)]
 
-ghost use Rattle.std.specs.Prelude.{◌≡◌, ℕ, ◌+◌, ◌*◌, ◌^◌, ◌<◌, ◌≤◌};
+ghost use Rattle.std.specs.Prelude.{◌≡◌, ◌+◌, ◌*◌, ◌^◌, ◌<◌, ◌≤◌};
 ghost use Rattle.hyd_num.specs.BinaryNumbers.{reach};
-ghost use Rattle.hyd_num.specs.CutsOfNumbers.{IsCut};
+ghost use Rattle.hyd_num.specs.CutsOfBinaryNumbers.{IsCut};
 
 use crate::binary_arithmetic::{Cut, cut_at};
 

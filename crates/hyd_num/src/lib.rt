@@ -16,11 +16,12 @@ mod power_5_33;
 mod products;
 mod quotients;
 mod roots;
-mod scaled_roots;
+mod roots_of_binary_numbers;
+mod spans;
 mod square_comparison;
 
 pub use binary::Scaled;
-pub use decimals::{Decimal, NumFault, Span};
+pub use decimals::{Decimal, NumFault};
 pub use flow_units::{
     FlowUnit, HEAD_TICKS_IN_BILLIONTH_OF_METRE, NUMERATOR_OF_BILLIONTH_OF_POUND,
     TEN_THOUSANDTHS_OF_METRE_IN_FOOT, TEN_THOUSANDTHS_OF_POUND_IN_FOOT,
@@ -33,5 +34,6 @@ pub use power_5_33::root533;
 pub use products::whole_product;
 pub use quotients::{mul_div_ceil, mul_div_floor};
 pub use roots::isqrt;
-pub use scaled_roots::{sqrt_down, sqrt_up};
+pub use roots_of_binary_numbers::{sqrt_down, sqrt_up};
+pub use spans::Span;
 pub use square_comparison::compare_squares;

@@ -1,4 +1,4 @@
-//! Capacities of links and outlets.
+//! Capacities of links, emitters and pressure-driven demands.
 #![tactic(auto)]
 
 ghost use Rattle.std.specs.Prelude.{◌≤◌, ◌<◌, ◌*◌, ◌^◌};

@@ -1,9 +1,9 @@
 //! Reading of numbers.
 #![tactic(auto)]
 
-ghost use Rattle.std.specs.Prelude.{◌≡◌, ℕ, ◌+◌, ◌-◌, ◌*◌, ◌/◌, ◌^◌, ◌<◌, ◌≤◌, ◌↔◌, ◌++◌, true, false, ◌&&◌, nat_le};
+ghost use Rattle.std.specs.Prelude.{◌≡◌, ◌+◌, ◌-◌, ◌*◌, ◌/◌, ◌^◌, ◌<◌, ◌≤◌, ◌↔◌, ◌++◌, true, false, ◌&&◌, nat_le};
 ghost use Rattle.std.specs.Prelude.{if◌then◌else◌, [], min, length, fold, take, drop, IfOk, unwrap_or, position, pos};
-ghost use Rattle.std.specs.Prelude.{◌+ℤ◌, ◌-ℤ◌, ◌≤ℤ◌, unsigned_abs};
+ghost use Rattle.std.specs.Prelude.{◌+ℤ◌, ◌-ℤ◌, unsigned_abs};
 ghost use Rattle.std.specs.List.{before_first, after_first, list_all, list_any};
 ghost use borrow.Author.Differences.{up, down};
 ghost use Rattle.hyd_num.specs.Numeral as numeral;

@@ -5,7 +5,7 @@
 //! chain of them fits.
 #![tactic(auto)]
 
-ghost use Rattle.std.specs.Prelude.{ℕ, ◌+◌, ◌*◌, ◌^◌, ◌<◌, ◌≤◌, ◌≡◌, ◌⊎◌};
+ghost use Rattle.std.specs.Prelude.{◌+◌, ◌*◌, ◌^◌, ◌<◌, ◌≤◌, ◌≡◌, ◌⊎◌};
 ghost use Rattle.hyd_num.specs.BinaryNumbers.{numerator, denominator, reach, IsDown, IsUp};
 ghost use Rattle.hyd_num.specs.Pairs.{IsRatio, IsProduct, IsQuotient, IsSum, IsPower, StaysNear, pair_reach};
 

@@ -1,11 +1,11 @@
 //! The power 5.33 of a pair, by way of its 533rd power and 100th roots of that.
 #![tactic(auto)]
 
-ghost use Rattle.std.specs.Prelude.{◌≡◌, ℕ, ◌+◌, ◌*◌, ◌^◌, ◌<◌, ◌≤◌, true, false, pos, ◌+ℤ◌, ◌*ℤ◌, ◌≤ℤ◌, ◌<ℤ◌};
+ghost use Rattle.std.specs.Prelude.{◌≡◌, ◌+◌, ◌*◌, ◌^◌, ◌<◌, ◌≤◌, true, false, pos, ◌+ℤ◌, ◌*ℤ◌, ◌≤ℤ◌, ◌<ℤ◌};
 ghost use Rattle.std.specs.Prelude.{unsigned_abs};
 ghost use Rattle.hyd_num.specs.BinaryNumbers.{numerator, denominator, reach};
 ghost use Rattle.hyd_num.specs.Pairs.{IsOwnPower, RootsBelow, RootsAbove, IsRootDown, IsRootUp, IsRoot533, pair_reach};
-ghost use Rattle.hyd_num.specs.CutsOfNumbers.{RootsOver, RootsUnder};
+ghost use Rattle.hyd_num.specs.CutsOfBinaryNumbers.{RootsOver, RootsUnder};
 
 use crate::binary::Scaled;
 use crate::binary_arithmetic::scaled;

@@ -3,7 +3,7 @@
 #![tactic(auto)]
 
 ghost use Rattle.std.specs.Prelude.{◌≡◌, ◌*◌, ◌^◌, ◌<◌};
-ghost use Rattle.hyd_num.specs.NumbersInParts.{value, HasParts, IsOrder};
+ghost use Rattle.hyd_num.specs.WideNumbers.{value, HasParts, IsOrder};
 
 use std::cmp::Ordering;
 

@@ -8,7 +8,7 @@ use Rattle.std.proofs.lemmas.List.{take_rest}
 use Rattle.std.proofs.lemmas.List.Sums.{prefix_len-le-length}
 use Rattle.std.proofs.lemmas.List.Splits.{slice_split_first}
 use Rattle.hyd_lex.proofs.FirstLine.{one_piece}
-use Rattle.hyd_spec_input.specs.Moments.{is_colon, has_colon, are_parts}
+use Rattle.hyd_spec_input.specs.TimesAndClockTimes.{is_colon, has_colon, are_parts}
 
 pub split_at : (p : ℕ → Bool) (xs : List ℕ) (k : ℕ) → position p xs ≡ Some k → slice_split p xs ≡ take k xs
     ∷ slice_split p (take (length xs - (k + 1)) (drop (k + 1) xs))

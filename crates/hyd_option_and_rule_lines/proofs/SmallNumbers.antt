@@ -6,7 +6,7 @@ use Rattle.std.proofs.Math.Nat.{pow-le-pow_right}
 use Rattle.std.proofs.lemmas.Bool.{and_parts}
 use Rattle.hyd_num.specs.Numeral.{is_digit, number}
 use Rattle.hyd_num.proofs.Digits.{below_power}
-use Rattle.hyd_spec_input.specs.Moments.{are_digits}
+use Rattle.hyd_spec_input.specs.TimesAndClockTimes.{are_digits}
 
 -- six digits write a number below a million
 pub below_million : (part : List ℕ) → are_digits 6 part ≡ true → number part < 1000000

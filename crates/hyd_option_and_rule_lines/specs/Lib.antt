@@ -1,3 +1,3 @@
-pub mod Hours
-pub mod Moments
-pub mod Meanings
+pub mod HoursMinutesSeconds
+pub mod ClockTimeOrNumber
+pub mod WhatLinesSay

@@ -4,7 +4,7 @@
 ghost use Rattle.std.specs.Prelude.{◌≡◌, ◌≤◌, IfSome};
 ghost use Rattle.hyd_spec_lines.specs.Headings.{is_one_of, first_named, either};
 ghost use Rattle.hyd_spec_input.specs.Keywords as form;
-ghost use Rattle.hyd_spec_input.specs.Moments as moments;
+ghost use Rattle.hyd_spec_input.specs.TimesAndClockTimes as moments;
 ghost use Rattle.hyd_spec_input.specs.RuleRows.{unsupported_attributes};
 
 use hyd_lex::is_keyword;
@@ -512,7 +512,7 @@ fn long_unit(word: &[u8]) -> Option<u32>
 }
 
 /// The seconds of a unit of time.
-#[tactic(auto, unfolding(hyd_spec_input::specs::Moments::unit_seconds))]
+#[tactic(auto, unfolding(hyd_spec_input::specs::TimesAndClockTimes::unit_seconds))]
 pub(crate) fn unit_seconds(word: &[u8]) -> Option<u32>
     ensures seconds { result ≡ moments.unit_seconds word.now }
     ensures short { IfSome result (λ seconds. seconds ≤ 86400) }

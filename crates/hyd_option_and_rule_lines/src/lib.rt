@@ -3,18 +3,18 @@
 #![tactic(auto)]
 
 mod controls;
-mod hours;
+mod hours_minutes_seconds;
 mod keywords;
-mod moments;
 mod options;
 mod rules;
 mod times;
+mod words_of_times_and_clock_times;
 
 pub use controls::{Asked, ControlLine, WhenLine, asked_at, read_control};
 pub use hyd_net::Relation;
 pub use hyd_spec_input::{Attribute, LinkWord, NodeWord};
 pub use keywords::{flow_unit, rule_word};
-pub use moments::{read_clock, read_time};
 pub use options::{OptionSet, read_option};
 pub use rules::{ActionLine, ClauseLine, Object, RuleLine, Value, read_rule_line};
 pub use times::{TimeSet, read_time_line};
+pub use words_of_times_and_clock_times::{read_clock, read_time};

@@ -7,9 +7,9 @@ ghost use Rattle.hyd_num.specs.declared.flow_units.FlowUnit.TheVariants.{Gpm};
 ghost use Rattle.hyd_spec_input.specs.Columns as column;
 ghost use Rattle.hyd_spec_input.specs.Columns.{amount};
 ghost use Rattle.hyd_spec_input.specs.Keywords as keyword_form;
-ghost use Rattle.hyd_spec_input.specs.OptionRows as form;
+ghost use Rattle.hyd_spec_input.specs.OptionAndTimeRows as form;
 ghost use Rattle.hyd_row_words.specs.FaultOrValue.{Judged, words_at};
-ghost use Rattle.hyd_option_and_rule_lines.specs.Meanings.{IsDemandSet, IsOptionSet};
+ghost use Rattle.hyd_option_and_rule_lines.specs.WhatLinesSay.{IsDemandSet, IsOptionSet};
 
 use crate::keywords::{flow_unit, option_word};
 use hyd_lex::{Line, Lines, is_keyword};

@@ -7,16 +7,17 @@ ghost use Rattle.hyd_spec_input.specs.Columns as column;
 ghost use Rattle.hyd_spec_input.specs.Keywords as keyword_form;
 ghost use Rattle.hyd_spec_input.specs.RuleRows as form;
 ghost use Rattle.hyd_row_words.specs.FaultOrValue.{Judged, words_at};
-ghost use Rattle.hyd_option_and_rule_lines.specs.Meanings as meaning;
-ghost use Rattle.hyd_option_and_rule_lines.specs.Meanings.{IsValue, IsComparison, IsClauseLine, IsSet, IsActionLine};
-ghost use Rattle.hyd_option_and_rule_lines.specs.Meanings.{IsRuleLine};
-ghost use Rattle.hyd_option_and_rule_lines.specs.Meanings.{status_value};
+ghost use Rattle.hyd_option_and_rule_lines.specs.WhatLinesSay as meaning;
+ghost use Rattle.hyd_option_and_rule_lines.specs.WhatLinesSay.{IsValue, IsComparison, IsClauseLine, IsSet};
+ghost use Rattle.hyd_option_and_rule_lines.specs.WhatLinesSay.{IsActionLine};
+ghost use Rattle.hyd_option_and_rule_lines.specs.WhatLinesSay.{IsRuleLine};
+ghost use Rattle.hyd_option_and_rule_lines.specs.WhatLinesSay.{status_value};
 
 use crate::controls::{Asked, link_kind};
 use crate::keywords::{
     attribute_word, is_unsupported_attribute, object_word, relation_word, rule_word,
 };
-use crate::moments::{read_clock, read_time};
+use crate::words_of_times_and_clock_times::{read_clock, read_time};
 use hyd_lex::{Line, Lines, is_keyword};
 use hyd_net::{Cause, Relation};
 use hyd_num::Decimal;

@@ -1,11 +1,11 @@
--- The end of a period.
+-- A period that was ended by its vectors: what holds of its facts and of what is left behind it.
 use Rattle.std.proofs.Common.{◌≡◌, ℕ, ℤ, List, ◌++◌, map, sym, ap, subst, ◌∙◌}
 use Rattle.std.specs.Prelude.{None, position, Result, Ok, Err, IfOk}
-use Rattle.hyd_num.specs.declared.decimals.Span.{Span}
+use Rattle.hyd_num.specs.declared.spans.Span.{Span}
 use Rattle.hyd_spec.specs.ProgramTypes.{Project, Tank, LinkState}
 use Rattle.hyd_spec.specs.Lists.{map_from}
 use Rattle.hyd_spec.specs.declared.Change.{Change}
-use Rattle.hyd_spec_certificates.specs.Spans.{flows_of, levels_of}
+use Rattle.hyd_spec_certificates.specs.SpansAsIntervals.{flows_of, levels_of}
 use Rattle.hyd_spec_certificates.specs.Interval.{Interval}
 use Rattle.hyd_spec_certificates.specs.PeriodNetwork.{Grid}
 use Rattle.hyd_spec_certificates.specs.RecordAndStanding.{Record, Standing, Vectors}
@@ -23,8 +23,8 @@ use Rattle.hyd_controls_and_rules.specs.PumpPatternsAndSimpleControls.{IsFirstOp
 use Rattle.hyd_controls_and_rules.specs.declared.pump_patterns_and_simple_controls.LevelOpen.{LevelOpen}
 use Rattle.hyd_period_stocks.specs.TankStart.{IsFirstOpen}
 use Rattle.hyd_period_stocks.specs.declared.states.TankOpen.{TankOpen}
-use Rattle.hyd_rules_in_period.specs.Trial.{AreRead}
-use Rattle.hyd_watched_levels.specs.FactsBeforeEnd.{AreStarted, HaveTanks}
+use Rattle.hyd_rules_at_instant.specs.Readings.{AreRead}
+use Rattle.hyd_period_facts.specs.FactsBeforeEnd.{AreStarted, HaveTanks}
 use Rattle.hyd_period_end.specs.FactsBeforeVectors.{AreBegun}
 use Rattle.hyd_period_end.specs.EndOfPeriod.{Decides, EndsAfter, by_rules, by_clock, IsClosed}
 use Rattle.hyd_period_end.specs.declared.period_end.PeriodEnd.{PeriodEnd}

@@ -1,14 +1,14 @@
--- What certificates tell of a period.
+-- The facts of a period by its certificates.
 use Rattle.std.proofs.Common.{◌≡◌, ℕ, ◌+◌, ℤ, pos, List, ◌++◌, length, map, sym, ap, ◌∙◌, arith}
 use Rattle.std.specs.Prelude.{All}
 use Rattle.std.proofs.lemmas.Int.{ints}
 use Rattle.std.proofs.lemmas.List.{length-map, length-append}
-use Rattle.hyd_num.specs.declared.decimals.Span.{Span}
+use Rattle.hyd_num.specs.declared.spans.Span.{Span}
 use Rattle.hyd_net.specs.ListView.{ListView}
 use Rattle.hyd_spec.specs.ProgramTypes.{Project, Tank}
 use Rattle.hyd_spec.specs.Lists.{map_from}
 use Rattle.hyd_spec.specs.NodeNumbers.{tank_count, nodes_before_tanks}
-use Rattle.hyd_spec_certificates.specs.Spans.{levels_of, flows_of}
+use Rattle.hyd_spec_certificates.specs.SpansAsIntervals.{levels_of, flows_of}
 use Rattle.hyd_spec_certificates.specs.declared.Problem.TheVariants.{Main, Pinned}
 use Rattle.hyd_spec_certificates.specs.declared.Side.TheVariants.{Upper, Lower}
 use Rattle.hyd_spec_certificates.specs.Interval.{Interval}
@@ -17,7 +17,7 @@ use Rattle.hyd_spec_certificates.specs.Certificate.{IsCertificate}
 use Rattle.hyd_spec_certificates.specs.RecordAndStanding.{Record, Standing}
 use Rattle.hyd_spec_certificates.specs.Decided.{heads_below, heads_above, inflow_of_tank}
 use Rattle.hyd_spec_certificates.specs.Valid.{AreCertificates}
-use Rattle.hyd_theorems_on_definitions.specs.TermsOfTheorems.{IsSteady, TanksInOrder}
+use Rattle.hyd_theorems_on_definitions.specs.SoundLawsAndGrids.{IsSteady, TanksInOrder}
 use Rattle.hyd_theorems_on_definitions.proofs.HeadLists.{fixed-in-order, ends-in-order}
 use Rattle.hyd_theorems_on_nesting.proofs.TwoSides.{heads_below_plus}
 use Rattle.hyd_cert.specs.RecordView.{row_of}
@@ -30,9 +30,9 @@ use Rattle.hyd_period_network.proofs.NetOfSoundProject.{long_zipped}
 use Rattle.hyd_bounds.specs.VectorsInOrder.{IsVector, AreInOrder}
 use Rattle.hyd_tank.specs.StockIntervals.{IsInflow}
 use Rattle.hyd_period_facts.specs.declared.facts.Facts.{Facts}
-use Rattle.hyd_tank_inflows.specs.Inflows.{ArePinned}
-use Rattle.hyd_rules_in_period.specs.Trial.{AreRead}
-use Rattle.hyd_watched_levels.specs.FactsBeforeEnd.{AreStarted, HaveTanks}
+use Rattle.hyd_tank_inflows.specs.CertificatesPinningTanks.{ArePinned}
+use Rattle.hyd_rules_at_instant.specs.Readings.{AreRead}
+use Rattle.hyd_period_facts.specs.FactsBeforeEnd.{AreStarted, HaveTanks}
 use Rattle.hyd_period_end.specs.FactsBeforeVectors.{AreBegun, AreReady}
 use Rattle.hyd_lemmas.proofs.ListsOptionsAndResults.{as_long}
 

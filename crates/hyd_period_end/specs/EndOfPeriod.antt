@@ -5,7 +5,7 @@ use Rattle.hyd_spec.specs.ProgramTypes.{Project, LinkState, Tank}
 use Rattle.hyd_spec.specs.NodeNumbers.{tank_count}
 use Rattle.hyd_spec.specs.Tank.{walls_of}
 use Rattle.hyd_spec.specs.declared.Change.{Change}
-use Rattle.hyd_spec_certificates.specs.Spans.{levels_of}
+use Rattle.hyd_spec_certificates.specs.SpansAsIntervals.{levels_of}
 use Rattle.hyd_spec_certificates.specs.PeriodNetwork.{Grid}
 use Rattle.hyd_spec_certificates.specs.RecordAndStanding.{Record, Standing}
 use Rattle.hyd_spec_certificates.specs.Decided.{EndsBy, ByRules, WithoutRules, decided_changes}

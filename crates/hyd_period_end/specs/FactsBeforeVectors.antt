@@ -1,17 +1,17 @@
--- Facts of a period that has begun.
+-- Facts of a period that has begun, before its vectors are known.
 -- Source: this program's.
 use Rattle.std.specs.Prelude.{◌≡◌, ℕ, ◌≤◌, Some, length, map, slice_get}
 use Rattle.hyd_spec.specs.ProgramTypes.{Project, Tank}
 use Rattle.hyd_spec.specs.NodeNumbers.{tank_count}
 use Rattle.hyd_spec.specs.Tank.{walls_of}
-use Rattle.hyd_spec_certificates.specs.Spans.{levels_of}
+use Rattle.hyd_spec_certificates.specs.SpansAsIntervals.{levels_of}
 use Rattle.hyd_spec_certificates.specs.RecordAndStanding.{Standing}
 use Rattle.hyd_spec_certificates.specs.Decided.{links_at}
-use Rattle.hyd_spec_reports.specs.Report.{changes_at}
+use Rattle.hyd_spec_reports.specs.ChangesAtStart.{changes_at}
 use Rattle.hyd_tank.specs.StockIntervals.{AreHeld, volumes_of}
 use Rattle.hyd_period_facts.specs.ReservedMemory.{HasRoom}
 use Rattle.hyd_period_facts.specs.declared.facts.Facts.{Facts}
-use Rattle.hyd_watched_levels.specs.FactsBeforeEnd.{stocks_in}
+use Rattle.hyd_period_facts.specs.FactsBeforeEnd.{stocks_in}
 
 -- Facts hold what is known at a standing where a period begins, with the states of links after the controls of the
 -- start and what these change.

@@ -1,7 +1,7 @@
-//! What a period's vectors tell of it.
+//! What a period's vectors tell of it: what flows into tanks, and what rules look at.
 #![tactic(auto)]
 
-ghost use Rattle.std.specs.Prelude.{◌≡◌, ◌≤◌, ◌+◌, length, All};
+ghost use Rattle.std.specs.Prelude.{◌≡◌, length, All};
 ghost use Rattle.hyd_net.specs.Sound.{IsSound};
 ghost use Rattle.hyd_spec.specs.NodeNumbers.{nodes_before_tanks, tank_count};
 ghost use Rattle.hyd_spec_certificates.specs.RecordAndStanding.{Standing};
@@ -10,11 +10,11 @@ ghost use Rattle.hyd_cert.specs.RecordView.{row_of};
 ghost use Rattle.hyd_controls_and_rules.specs.RuleReadings.{IsBounded};
 ghost use Rattle.hyd_period_network.specs.NetAsPeriodNetwork.{grid_of};
 ghost use Rattle.hyd_period_network.specs.NetsSetToPeriods.{IsNetOf};
-ghost use Rattle.hyd_theorems_on_definitions.specs.TermsOfTheorems.{TanksInOrder};
+ghost use Rattle.hyd_theorems_on_definitions.specs.SoundLawsAndGrids.{TanksInOrder};
 ghost use Rattle.hyd_period_facts.specs.ReservedMemory.{Takes};
 ghost use Rattle.hyd_rule_readings.specs.ReservedMemory.{HasRoom};
-ghost use Rattle.hyd_rules_in_period.specs.Trial.{AreRead};
-ghost use Rattle.hyd_watched_levels.specs.FactsBeforeEnd.{AreStarted, HaveTanks};
+ghost use Rattle.hyd_rules_at_instant.specs.Readings.{AreRead};
+ghost use Rattle.hyd_period_facts.specs.FactsBeforeEnd.{AreStarted, HaveTanks};
 ghost use Rattle.hyd_period_end.specs.FactsBeforeVectors.{AreBegun, AreReady};
 
 use hyd_cert::Record;

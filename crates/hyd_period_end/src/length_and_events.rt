@@ -1,14 +1,14 @@
-//! What the end of a period brings.
+//! How long a period lasts, and what happens at its end.
 #![tactic(auto)]
 
-ghost use Rattle.std.specs.Prelude.{◌≡◌, ◌≤◌, ◌+◌, ◌^◌, length, map};
+ghost use Rattle.std.specs.Prelude.{◌≡◌, ◌≤◌, ◌+◌, ◌^◌, length};
 ghost use Rattle.hyd_net.specs.Sound.{IsSound};
 ghost use Rattle.hyd_spec.specs.NodeNumbers.{tank_count};
 ghost use Rattle.hyd_spec_certificates.specs.PeriodNetwork.{Grid};
 ghost use Rattle.hyd_spec_certificates.specs.RecordAndStanding.{Record, Standing};
 ghost use Rattle.hyd_spec_reports.specs.Report.{events_of};
 ghost use Rattle.hyd_period_facts.specs.ReservedMemory.{Takes};
-ghost use Rattle.hyd_watched_levels.specs.FactsBeforeEnd.{AreStarted, HaveTanks};
+ghost use Rattle.hyd_period_facts.specs.FactsBeforeEnd.{AreStarted, HaveTanks};
 
 use hyd_carried_levels::put_carried;
 use hyd_net::{List, Project};

@@ -7,7 +7,7 @@ ghost use Rattle.hyd_net.specs.ControlsAndRules.{IsControl};
 ghost use Rattle.hyd_spec.specs.ProgramTypes.{Control as Each};
 ghost use Rattle.hyd_spec.specs.Lists.{map_from, present};
 ghost use Rattle.hyd_spec.specs.NodeNumbers.{tank_count};
-ghost use Rattle.hyd_spec_certificates.specs.Spans.{levels_of};
+ghost use Rattle.hyd_spec_certificates.specs.SpansAsIntervals.{levels_of};
 ghost use Rattle.hyd_spec_certificates.specs.Decided.{acts_on};
 ghost use Rattle.hyd_spec_reports.specs.Report.{control_event};
 

@@ -7,7 +7,7 @@ ghost use Rattle.hyd_spec.specs.ProgramTypes.{Tank as Each};
 ghost use Rattle.hyd_spec.specs.declared.TankState.{TankState as State};
 ghost use Rattle.hyd_spec.specs.Lists.{present};
 ghost use Rattle.hyd_spec.specs.NodeNumbers.{tank_count};
-ghost use Rattle.hyd_spec_certificates.specs.Spans.{levels_of};
+ghost use Rattle.hyd_spec_certificates.specs.SpansAsIntervals.{levels_of};
 ghost use Rattle.hyd_spec_certificates.specs.declared.LevelSpan.{LevelSpan as Levels};
 ghost use Rattle.hyd_spec_reports.specs.Report.{tank_event, tank_events};
 

@@ -4,11 +4,12 @@ use Rattle.std.specs.Prelude.{◌≡◌, List, ◌++◌, map}
 use Rattle.hyd_spec.specs.ProgramTypes.{Project}
 use Rattle.hyd_spec.specs.Lists.{map_from}
 use Rattle.hyd_spec.specs.declared.Change.{Change}
-use Rattle.hyd_spec_certificates.specs.Spans.{levels_of, flows_of}
+use Rattle.hyd_spec_certificates.specs.SpansAsIntervals.{levels_of, flows_of}
 use Rattle.hyd_spec_certificates.specs.PeriodNetwork.{Grid}
 use Rattle.hyd_spec_certificates.specs.RecordAndStanding.{Record, Standing}
 use Rattle.hyd_spec_certificates.specs.Decided.{inflow_of_tank, links_at}
-use Rattle.hyd_spec_reports.specs.Report.{changes_at, EndBrings}
+use Rattle.hyd_spec_reports.specs.Report.{EndBrings}
+use Rattle.hyd_spec_reports.specs.ChangesAtStart.{changes_at}
 use Rattle.hyd_tank.specs.StockIntervals.{volumes_of}
 use Rattle.hyd_period_facts.specs.declared.facts.Facts.{Facts}
 

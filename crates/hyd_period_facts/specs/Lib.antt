@@ -1,2 +1,3 @@
+pub mod FactsBeforeEnd
 pub mod FactsOfPeriod
 pub mod ReservedMemory

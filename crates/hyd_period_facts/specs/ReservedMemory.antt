@@ -1,4 +1,4 @@
--- Facts of no period, and the room that facts have.
+-- The room that facts have, and facts of no period.
 use Rattle.std.specs.Prelude.{◌≡◌, ℕ, ◌+◌, ◌≤◌, [], length}
 use Rattle.hyd_net.specs.ListView.{ListView}
 use Rattle.hyd_spec.specs.ProgramTypes.{Project}

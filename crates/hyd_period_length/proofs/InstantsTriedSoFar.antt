@@ -1,16 +1,16 @@
 -- From one instant at which the rules are tried to the next, whatever period the facts are of.
 use Rattle.std.proofs.Common.{◌≡◌, ℕ, ◌+◌, ◌-◌, ◌%◌, ◌<◌, ◌≤◌, ℤ, List, ap, sym, ◌∙◌, subst, arith}
 use Rattle.std.proofs.Math.Nat.{add-mod_right}
-use Rattle.hyd_num.specs.declared.decimals.Span.{Span}
+use Rattle.hyd_num.specs.declared.spans.Span.{Span}
 use Rattle.hyd_spec.specs.ProgramTypes.{Project, LinkState}
 use Rattle.hyd_spec.specs.declared.Change.{Change}
 use Rattle.hyd_spec_certificates.specs.Decided.{RulesMatter}
-use Rattle.hyd_theorems_on_nesting.specs.Nesting.{IsWalked}
+use Rattle.hyd_theorems_on_nesting.specs.FirstAmongWatched.{IsWalked}
 use Rattle.hyd_theorems_on_nesting.proofs.RuleInstants as walking
 use Rattle.hyd_period_facts.specs.declared.facts.Facts.{Facts}
 use Rattle.hyd_period_length.specs.declared.end_kinds.Ending.{Ending}
 use Rattle.hyd_period_length.specs.Endings.{ForPeriod, IsBrought, IsFirstBrought}
-use Rattle.hyd_period_length.proofs.RulesAtInstant.{brought_first}
+use Rattle.hyd_period_length.proofs.WhatRulesBringAbout.{brought_first}
 
 -- a multiple and a step more is a multiple
 pub next_multiple : (time seconds step : ℕ) → (time + seconds) % step ≡ 0 → (time + (seconds + step)) % step ≡ 0

@@ -1,4 +1,4 @@
 pub mod AppendedChanges
-pub mod RulesAtInstant
+pub mod WhatRulesBringAbout
 pub mod InstantsTriedSoFar
 pub mod EndByRulesOrWithout

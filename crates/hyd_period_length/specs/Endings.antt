@@ -2,7 +2,7 @@
 -- Source: EPANET 2.2 User Manual, chapter 3 (hydraulic time steps, rule-based controls).
 use Rattle.std.specs.Prelude.{◌≡◌, ◌≢◌, ⊤, ℕ, ◌≤◌, ℤ, IsFalse, List, [], ◌++◌, map}
 use Rattle.std.specs.List.{list_any}
-use Rattle.hyd_num.specs.declared.decimals.Span.{Span}
+use Rattle.hyd_num.specs.declared.spans.Span.{Span}
 use Rattle.hyd_spec.specs.ProgramTypes.{Project, LinkState}
 use Rattle.hyd_spec.specs.declared.Change.{Change}
 use Rattle.hyd_spec.specs.PeriodLength.{IsLeast}
@@ -14,8 +14,9 @@ use Rattle.hyd_spec_certificates.specs.Decided as decided
 use Rattle.hyd_spec_certificates.specs.Decided.{links_at, rule_truths, decided_changes, RulesMatter}
 use Rattle.hyd_spec_certificates.specs.Decided.{IsOpenRule}
 use Rattle.hyd_period_facts.specs.declared.facts.Facts.{Facts}
-use Rattle.hyd_watched_levels.specs.FactsBeforeEnd.{AreStarted}
-use Rattle.hyd_rules_in_period.specs.Trial.{AreRead, open_rule}
+use Rattle.hyd_period_facts.specs.FactsBeforeEnd.{AreStarted}
+use Rattle.hyd_rules_at_instant.specs.TriedRules.{open_rule}
+use Rattle.hyd_rules_at_instant.specs.Readings.{AreRead}
 use Rattle.hyd_period_length.specs.declared.end_kinds.Ending.{Ending}
 use Rattle.hyd_period_length.specs.declared.end_kinds.Ending.TheVariants.{ByRules, WithoutRules, RuleOpen, EventOpen}
 

@@ -1,4 +1,4 @@
-//! The end of a period.
+//! When a period ends, by the clock, by levels and by rules.
 #![tactic(auto)]
 
 ghost use Rattle.std.specs.Prelude.{◌≡◌, ◌≢◌, ◌+◌, ◌<◌, ◌≤◌, ◌++◌, length};
@@ -10,7 +10,7 @@ ghost use Rattle.hyd_spec_certificates.specs.RecordAndStanding.{Record, Standing
 ghost use Rattle.hyd_spec_certificates.specs.Decided.{IsEarliestEnd, IsLatestEnd, EndsBy};
 ghost use Rattle.hyd_spec_certificates.specs.Valid.{LeavesLinks};
 ghost use Rattle.hyd_controls_and_rules.specs.RuleReadings.{IsBounded};
-ghost use Rattle.hyd_watched_levels.specs.FactsBeforeEnd.{HaveTanks, AreStarted};
+ghost use Rattle.hyd_period_facts.specs.FactsBeforeEnd.{HaveTanks, AreStarted};
 ghost use Rattle.hyd_period_length.specs.Endings.{ForPeriod, IfDecided, UnlessByRules, end_of, changes_by};
 
 use crate::end_kinds::Ending;

@@ -8,7 +8,7 @@ ghost use Rattle.hyd_spec.specs.NodeNumbers.{nodes_before_tanks, tank_count};
 ghost use Rattle.hyd_spec.specs.Rules.{acted, rule_changes};
 ghost use Rattle.hyd_spec_certificates.specs.Decided.{RulesMatter};
 ghost use Rattle.hyd_controls_and_rules.specs.RuleReadings.{IsBounded};
-ghost use Rattle.hyd_watched_levels.specs.FactsBeforeEnd.{HaveTanks};
+ghost use Rattle.hyd_period_facts.specs.FactsBeforeEnd.{HaveTanks};
 ghost use Rattle.hyd_period_length.specs.Endings.{ForPeriod, IfDecided, UnlessByRules, IsBrought, IsFirstBrought};
 
 use crate::end_kinds::Ending;
@@ -16,7 +16,7 @@ use hyd_controls_and_rules::{Changes, act};
 use hyd_net::{LinkState, List, Project};
 use hyd_num::Span;
 use hyd_period_facts::Facts;
-use hyd_rules_in_period::try_rules;
+use hyd_rules_at_instant::try_rules;
 use hyd_spec_certificates::LevelSpan;
 
 // Carries out what rules with these values change, and tells whether that is anything.

@@ -1,7 +1,7 @@
 //! Controls by time and by clock.
 #![tactic(auto)]
 
-ghost use Rattle.std.specs.Prelude.{◌≤◌, ◌<◌, ◌≡◌, ◌^◌};
+ghost use Rattle.std.specs.Prelude.{◌≤◌, ◌<◌, ◌^◌};
 ghost use Rattle.hyd_net.specs.Sound.{IsSound};
 ghost use Rattle.hyd_net.specs.ControlsAndRules.{IsMoment};
 ghost use Rattle.hyd_period_length_by_clock.specs.Instants.{IsToClock, IsFirstComing, IsFirstAmong};

@@ -1,7 +1,7 @@
 //! Multiples of a step.
 #![tactic(auto)]
 
-ghost use Rattle.std.specs.Prelude.{◌≤◌, ◌<◌};
+ghost use Rattle.std.specs.Prelude.{◌≤◌};
 ghost use Rattle.hyd_period_length_by_clock.specs.Instants.{IsToMultiple};
 
 /// How many seconds, at least 1, it is to the next multiple of a step, where so many have passed.

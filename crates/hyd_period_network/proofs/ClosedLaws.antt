@@ -5,9 +5,9 @@ use Rattle.hyd_net.specs.ListView.{ListView}
 use Rattle.hyd_net.specs.declared.curves.HeadPoint.{HeadPoint}
 use Rattle.hyd_spec.specs.ProgramTypes.{Project, Link, LinkKind}
 use Rattle.hyd_spec.specs.Law.{Law}
-use Rattle.hyd_spec.specs.DemandsReservoirHeadsAndCurves.{is_us}
-use Rattle.hyd_law.specs.declared.link_law.LinkLaw.{LinkLaw}
-use Rattle.hyd_period_network.specs.declared.net_types.Setting.{Setting}
+use Rattle.hyd_spec.specs.DemandsHeadsAndPumpLifts.{is_us}
+use Rattle.hyd_law.specs.declared.link_law_kinds.LinkLaw.{LinkLaw}
+use Rattle.hyd_period_network.specs.declared.junctions_ends_and_settings.Setting.{Setting}
 use Rattle.hyd_period_network.specs.LawsInSettings.{Represents, AreLawsOf, AreLaws, IsClosedLaw, AreClosed}
 use Rattle.hyd_period_network.specs.LawsInSettings.{closed_setting}
 use Rattle.hyd_lemmas.proofs.ListsOptionsAndResults.{any_default}

@@ -8,10 +8,10 @@ use Rattle.hyd_num.specs.CapacityPairs.{IsMade}
 use Rattle.hyd_num.specs.FileQuantity.{pressure_numerator, pressure_denominator}
 use Rattle.hyd_num.specs.QuotientsAndRoots.{IsFloor, IsCeiling}
 use Rattle.hyd_num.specs.declared.decimals.Decimal.{Decimal}
-use Rattle.hyd_num.specs.declared.decimals.Span.{Span}
+use Rattle.hyd_num.specs.declared.spans.Span.{Span}
 use Rattle.hyd_net.specs.NetworkRanges.{IsPressure}
 use Rattle.hyd_spec.specs.ProgramTypes.{Project, Junction, Capacity, PressureDemand}
-use Rattle.hyd_spec.specs.DemandsReservoirHeadsAndCurves.{is_us, demand_of, pressure_value}
+use Rattle.hyd_spec.specs.DemandsHeadsAndPumpLifts.{is_us, demand_of, pressure_value}
 use Rattle.hyd_spec.specs.Outflow.{is_pressure_driven}
 use Rattle.hyd_spec_certificates.specs.EnclosingFunctions.{Driven}
 use Rattle.hyd_spec_certificates.specs.Valid.{DemandsAreInRange}
@@ -21,8 +21,8 @@ use Rattle.hyd_theorems_on_definitions.proofs.EachLaw.{IsSoundCapacity-made}
 use Rattle.hyd_demands_and_reservoir_heads.specs.DemandsAndHeadsByNumber.{junction_demand}
 use Rattle.hyd_demands_and_reservoir_heads.proofs.DemandsAndReservoirHeads.{demand_read}
 use Rattle.hyd_law.specs.ComposedLaws.{IsLift}
-use Rattle.hyd_law.specs.declared.demand_kinds.OutLaw.{OutLaw}
-use Rattle.hyd_law.specs.declared.demand_kinds.OutLaw.TheVariants.{Fixed as FixedOut, Pda as PdaOut}
+use Rattle.hyd_law.specs.declared.demand_law_kinds.OutLaw.{OutLaw}
+use Rattle.hyd_law.specs.declared.demand_law_kinds.OutLaw.TheVariants.{Fixed as FixedOut, Pda as PdaOut}
 use Rattle.hyd_units.proofs.FloorsAndCeilings.{IsFloor-floor, IsCeiling-ceiling}
 use Rattle.hyd_period_network.specs.Demands.{demand_held, IsOutLawOf, IsHeld, AreHeld, AreDemandsAt}
 use Rattle.hyd_theorems_on_definitions.proofs.Outflows.{pressure-above}

@@ -2,11 +2,11 @@
 use Rattle.std.proofs.Common.{◌≡◌, ℤ, pos, refl}
 use Rattle.hyd_num.specs.Rational.{floor, ceiling}
 use Rattle.hyd_spec.specs.ProgramTypes.{Project}
-use Rattle.hyd_spec.specs.DemandsReservoirHeadsAndCurves.{pressure_value}
+use Rattle.hyd_spec.specs.DemandsHeadsAndPumpLifts.{pressure_value}
 use Rattle.hyd_spec_certificates.specs.EnclosingFunctions.{demand_low, demand_high, quadratic_low, quadratic_high}
 use Rattle.hyd_law.specs.DemandLaws.{out_low, out_high, IsSoundOut}
-use Rattle.hyd_law.specs.declared.demand_kinds.OutLaw.{OutLaw}
-use Rattle.hyd_law.specs.declared.demand_kinds.OutLaw.TheVariants.{Fixed as FixedOut, Pda as PdaOut}
+use Rattle.hyd_law.specs.declared.demand_law_kinds.OutLaw.{OutLaw}
+use Rattle.hyd_law.specs.declared.demand_law_kinds.OutLaw.TheVariants.{Fixed as FixedOut, Pda as PdaOut}
 use Rattle.hyd_period_network.specs.Demands.{demand_of_law, IsHeld}
 use Rattle.hyd_theorems_on_definitions.specs.PressureDrivenDemand.{stepped}
 

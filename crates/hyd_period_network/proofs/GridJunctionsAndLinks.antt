@@ -1,11 +1,11 @@
 -- How many junctions and links the grid of a net has, and which.
 use Rattle.std.proofs.Common.{◌≡◌, ℕ, zero, suc, List, [], ◌∷◌, length, Some, slice_get, IfSome, refl, ap, arith}
 use Rattle.hyd_spec_certificates.specs.PeriodNetwork.{GridLink, GridJunction}
-use Rattle.hyd_law.specs.declared.link_law.LinkLaw.{LinkLaw}
-use Rattle.hyd_law.specs.declared.demand_kinds.OutLaw.{OutLaw}
-use Rattle.hyd_period_network.specs.declared.net_types.NetJunction.{NetJunction}
-use Rattle.hyd_period_network.specs.declared.net_types.Ends.{Ends}
-use Rattle.hyd_period_network.specs.declared.net_types.Setting.{Setting}
+use Rattle.hyd_law.specs.declared.link_law_kinds.LinkLaw.{LinkLaw}
+use Rattle.hyd_law.specs.declared.demand_law_kinds.OutLaw.{OutLaw}
+use Rattle.hyd_period_network.specs.declared.junctions_ends_and_settings.NetJunction.{NetJunction}
+use Rattle.hyd_period_network.specs.declared.junctions_ends_and_settings.Ends.{Ends}
+use Rattle.hyd_period_network.specs.declared.junctions_ends_and_settings.Setting.{Setting}
 use Rattle.hyd_period_network.specs.NetAsPeriodNetwork.{junction_of, junctions_of, link_of, links_of}
 
 pub junctions_count : (junctions : List NetJunction) (demands : List OutLaw) → length demands ≡ length junctions

@@ -4,7 +4,7 @@ use Rattle.std.proofs.Common.{slice_index_or, refl, sym, ap, ◌∙◌, arith}
 use Rattle.std.proofs.lemmas.List.{get_or_append_left, get_or-append_right}
 use Rattle.hyd_spec.specs.Assignment.{head_at}
 use Rattle.hyd_spec.specs.Lists.{map_from}
-use Rattle.hyd_spec_certificates.specs.Spans.{levels_of}
+use Rattle.hyd_spec_certificates.specs.SpansAsIntervals.{levels_of}
 use Rattle.hyd_spec_certificates.specs.declared.Problem.{Problem}
 use Rattle.hyd_spec_certificates.specs.declared.Side.{Side}
 use Rattle.hyd_spec_certificates.specs.declared.Side.TheVariants.{Upper, Lower}
@@ -12,7 +12,7 @@ use Rattle.hyd_spec_certificates.specs.PeriodNetwork.{end_on, tank_side, all_hea
 use Rattle.hyd_spec_certificates.specs.declared.LevelSpan.{LevelSpan}
 use Rattle.hyd_period_network.specs.NetView.{NetView}
 use Rattle.hyd_period_network.specs.NetAsPeriodNetwork.{grid_of}
-use Rattle.hyd_period_network.specs.NetInvariant.{is_upper}
+use Rattle.hyd_period_network.specs.SoundNets.{is_upper}
 
 tank_end : (problem : Problem) (side : Side) (k : ℕ) (tanks : List LevelSpan) (t : ℕ) (d : LevelSpan) → t < length tanks
     → head_at (map_from (λ k tank. end_on (tank_side problem side k) tank) k (map levels_of tanks)) t

@@ -9,18 +9,18 @@ use Rattle.hyd_spec.specs.Law.{Law}
 use Rattle.hyd_spec.specs.Scale.{missed_flow_ticks}
 use Rattle.hyd_spec_certificates.specs.NetOutflow.{margin}
 use Rattle.hyd_law.specs.declared.law_kinds.Quad.{Quad}
-use Rattle.hyd_law.specs.declared.link_law.LinkLaw.{LinkLaw}
-use Rattle.hyd_law.specs.declared.demand_kinds.OutLaw.{OutLaw}
-use Rattle.hyd_period_network.specs.declared.net_types.NetJunction.{NetJunction}
-use Rattle.hyd_period_network.specs.declared.net_types.Ends.{Ends}
-use Rattle.hyd_period_network.specs.declared.net_types.Setting.{Setting}
-use Rattle.hyd_period_network.specs.declared.net_types.Tie.{Tie}
+use Rattle.hyd_law.specs.declared.link_law_kinds.LinkLaw.{LinkLaw}
+use Rattle.hyd_law.specs.declared.demand_law_kinds.OutLaw.{OutLaw}
+use Rattle.hyd_period_network.specs.declared.junctions_ends_and_settings.NetJunction.{NetJunction}
+use Rattle.hyd_period_network.specs.declared.junctions_ends_and_settings.Ends.{Ends}
+use Rattle.hyd_period_network.specs.declared.junctions_ends_and_settings.Setting.{Setting}
+use Rattle.hyd_period_network.specs.declared.junctions_ends_and_settings.Tie.{Tie}
 use Rattle.hyd_period_network.specs.NetView.{NetView}
 use Rattle.hyd_period_network.specs.Demands.{demand_of_law}
 use Rattle.hyd_period_network.specs.ExactLaw.{exact_law}
 use Rattle.hyd_period_network.specs.LawsInSettings.{Stands, restricted}
 use Rattle.hyd_period_network.specs.NetAsPeriodNetwork.{grid_of, capacity_of}
-use Rattle.hyd_period_network.specs.NetInvariant.{HasLaws, HaveLaws, IsSoundNet}
+use Rattle.hyd_period_network.specs.SoundNets.{HasLaws, HaveLaws, IsSoundNet}
 use Rattle.hyd_period_network.specs.LinkEnds.{ties_from, AreRowsOf}
 use Rattle.hyd_period_network.proofs.GridJunctionsAndLinks.{at_junction, at_link}
 use Rattle.hyd_period_network.proofs.SumsOverLinkEnds.{count_of_ties}

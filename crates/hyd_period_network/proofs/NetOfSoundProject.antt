@@ -14,20 +14,20 @@ use Rattle.hyd_net.specs.ControlsAndRules.{node_count as nodes_of}
 use Rattle.hyd_net.specs.declared.curves.HeadPoint.{HeadPoint}
 use Rattle.hyd_net.specs.declared.patterns.Pattern.{Pattern}
 use Rattle.hyd_spec.specs.ProgramTypes.{Project, Junction, Link, LinkKind, Capacity}
-use Rattle.hyd_spec.specs.DemandsReservoirHeadsAndCurves.{is_us}
+use Rattle.hyd_spec.specs.DemandsHeadsAndPumpLifts.{is_us}
 use Rattle.hyd_spec.specs.Law.{Law}
-use Rattle.hyd_theorems_on_definitions.specs.TermsOfTheorems.{IsSoundCapacity}
+use Rattle.hyd_theorems_on_definitions.specs.SoundLawsAndGrids.{IsSoundCapacity}
 use Rattle.hyd_theorems_on_definitions.proofs.EachLaw.{IsSoundCapacity-made}
 use Rattle.hyd_law.specs.declared.law_kinds.Quad.{Quad}
-use Rattle.hyd_law.specs.declared.link_law.LinkLaw.{LinkLaw}
-use Rattle.hyd_period_network.specs.declared.net_types.NetJunction.{NetJunction}
-use Rattle.hyd_period_network.specs.declared.net_types.Setting.{Setting}
+use Rattle.hyd_law.specs.declared.link_law_kinds.LinkLaw.{LinkLaw}
+use Rattle.hyd_period_network.specs.declared.junctions_ends_and_settings.NetJunction.{NetJunction}
+use Rattle.hyd_period_network.specs.declared.junctions_ends_and_settings.Setting.{Setting}
 use Rattle.hyd_period_network.specs.NetView.{NetView}
 use Rattle.hyd_period_network.specs.Demands.{IsNetJunction}
 use Rattle.hyd_period_network.specs.LawsInSettings.{Stands, restricted, AreLaws, AreLawsOf}
 use Rattle.hyd_period_network.specs.LinkEnds.{HasEnds}
 use Rattle.hyd_period_network.specs.NetAsPeriodNetwork.{node_count, capacity_of}
-use Rattle.hyd_period_network.specs.NetInvariant.{IsSoundJunction, AreHeads, HasLaws, HaveLaws, IsSoundNet}
+use Rattle.hyd_period_network.specs.SoundNets.{IsSoundJunction, AreHeads, HasLaws, HaveLaws, IsSoundNet}
 use Rattle.hyd_period_network.specs.NetsSetToPeriods.{ends_of, IsNetOf}
 
 pub long_zipped : {X Y : Type 0} (P : X → Y → Type 0) (xs : List X) (ys : List Y) → AllZip P xs ys

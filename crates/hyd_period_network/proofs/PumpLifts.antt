@@ -8,7 +8,7 @@ use Rattle.hyd_num.proofs.Integers.{times_neg, times_reflects}
 use Rattle.hyd_num.specs.Rational.{Rational, floor, ceiling}
 use Rattle.hyd_lemmas.proofs.Integers.{floor_low, floor_greatest, floor_at_most_ceiling}
 use Rattle.hyd_spec.specs.ProgramTypes.{ShutoffHead}
-use Rattle.hyd_spec.specs.DemandsReservoirHeadsAndCurves.{shutoff_head, lift_of}
+use Rattle.hyd_spec.specs.DemandsHeadsAndPumpLifts.{shutoff_head, lift_of}
 use Rattle.hyd_law.specs.KnotsOfStraightLines.{IsValue}
 
 -- the quotients of the code, as a fraction's floor and ceiling

@@ -7,7 +7,7 @@ use Rattle.hyd_net.specs.declared.curves.HeadPoint.{HeadPoint}
 use Rattle.hyd_net.specs.declared.patterns.Pattern.{Pattern}
 use Rattle.hyd_net.specs.NetworkRanges.{HasSizes, IsPumpOrigin}
 use Rattle.hyd_net.specs.NumberRanges.{IsFlow}
-use Rattle.hyd_net.specs.States.{CanHave, IsSpeed}
+use Rattle.hyd_net.specs.LinkStates.{CanHave, IsSpeed}
 use Rattle.hyd_spec.specs.ProgramTypes.{FlowUnit, Origin, Pipe, Valve, Pump, Emitter, PressureDemand, LinkKind}
 use Rattle.hyd_spec.specs.ProgramTypes.{PipeLink}
 use Rattle.hyd_spec.specs.ProgramTypes.{CheckPipe, PumpLink, CurvePump, Tcv, Fcv, Gpv, Closed, Speed, Limit}

@@ -6,8 +6,8 @@ use Rattle.hyd_net.specs.NetworkRanges.{HasBend}
 use Rattle.hyd_net.specs.ListView.{ListView}
 use Rattle.hyd_net.specs.declared.curves.HeadPoint.{HeadPoint}
 use Rattle.hyd_spec.specs.ProgramTypes.{LinkKind, PipeLink, CheckPipe, PumpLink, CurvePump, Tcv, Fcv, Gpv}
-use Rattle.hyd_spec.specs.DemandsReservoirHeadsAndCurves.{points_of}
-use Rattle.hyd_law.specs.declared.link_law.LinkLaw.{LinkLaw}
+use Rattle.hyd_spec.specs.DemandsHeadsAndPumpLifts.{points_of}
+use Rattle.hyd_law.specs.declared.link_law_kinds.LinkLaw.{LinkLaw}
 use Rattle.hyd_period_network.specs.LawsInSettings.{HasRoom, HasRoomFor}
 
 -- a law that keeps whatever room another has

@@ -1,35 +1,37 @@
 -- Every law of a net's grid is sound.
-use Rattle.std.proofs.Common.{◌≡◌, suc, ◌<◌, ℤ, Bool, true, false, List, [], ◌∷◌, length, All, Option, Some, None}
+use Rattle.std.proofs.Common.{◌≡◌, suc, ◌<◌, Bool, true, false, List, [], ◌∷◌, length, All, Option, Some, None}
 use Rattle.std.proofs.Common.{IfSome, arith, lit<}
 use Rattle.std.specs.List.{AllByRecursion}
 use Rattle.std.specs.Option.{option_map}
 use Rattle.std.proofs.lemmas.Int.{ints}
 use Rattle.std.proofs.lemmas.Bool.{cond_both}
 use Rattle.hyd_spec.specs.ProgramTypes.{Decimal}
-use Rattle.hyd_spec.specs.DemandsReservoirHeadsAndCurves.{pressure_value}
+use Rattle.hyd_spec.specs.DemandsHeadsAndPumpLifts.{pressure_value}
 use Rattle.hyd_spec.specs.Law.{Law, Shut as ShutLaw, Held as HeldLaw, Bent as BentLaw}
 use Rattle.hyd_spec_certificates.specs.PeriodNetwork.{GridLink, GridJunction}
-use Rattle.hyd_theorems_on_definitions.specs.TermsOfTheorems.{IsSoundLaw, IsSoundCapacity}
-use Rattle.hyd_theorems_on_definitions.specs.TermsOfTheorems.{IsSoundDemand as IsSoundDemandLaw, IsSteady}
+use Rattle.hyd_theorems_on_definitions.specs.SoundLawsAndGrids.{IsSoundLaw, IsSoundCapacity}
+use Rattle.hyd_theorems_on_definitions.specs.SoundLawsAndGrids.{IsSoundDemand as IsSoundDemandLaw, IsSteady}
 use Rattle.hyd_law.specs.ComposedLawsAreLaws.{lift-above}
 use Rattle.hyd_law.specs.KnotsOfStraightLines.{places}
 use Rattle.hyd_law.specs.LinkLaws.{IsSoundLink}
 use Rattle.hyd_law.specs.declared.law_kinds.Quad.{Quad as QuadValue}
-use Rattle.hyd_law.specs.declared.link_law.LinkLaw.{LinkLaw}
-use Rattle.hyd_law.specs.declared.link_law.LinkLaw.TheVariants.{Shut, Quad, Linear, QuadOneWay, LinearOneWay, Pump}
-use Rattle.hyd_law.specs.declared.link_law.LinkLaw.TheVariants.{Limit, LinearLimit, LimitOneWay, LinearLimitOneWay}
-use Rattle.hyd_law.specs.declared.link_law.LinkLaw.TheVariants.{Bent}
-use Rattle.hyd_law.specs.declared.demand_kinds.OutLaw.{OutLaw}
-use Rattle.hyd_law.specs.declared.demand_kinds.OutLaw.TheVariants.{Fixed, Pda}
-use Rattle.hyd_period_network.specs.declared.net_types.NetJunction.{NetJunction}
-use Rattle.hyd_period_network.specs.declared.net_types.Ends.{Ends}
-use Rattle.hyd_period_network.specs.declared.net_types.Setting.{Setting}
+use Rattle.hyd_law.specs.declared.link_law_kinds.LinkLaw.{LinkLaw}
+use Rattle.hyd_law.specs.declared.link_law_kinds.LinkLaw.TheVariants.{Shut, Quad, Linear, QuadOneWay, LinearOneWay}
+use Rattle.hyd_law.specs.declared.link_law_kinds.LinkLaw.TheVariants.{Pump}
+use Rattle.hyd_law.specs.declared.link_law_kinds.LinkLaw.TheVariants.{Limit, LinearLimit, LimitOneWay}
+use Rattle.hyd_law.specs.declared.link_law_kinds.LinkLaw.TheVariants.{LinearLimitOneWay}
+use Rattle.hyd_law.specs.declared.link_law_kinds.LinkLaw.TheVariants.{Bent}
+use Rattle.hyd_law.specs.declared.demand_law_kinds.OutLaw.{OutLaw}
+use Rattle.hyd_law.specs.declared.demand_law_kinds.OutLaw.TheVariants.{Fixed, Pda}
+use Rattle.hyd_period_network.specs.declared.junctions_ends_and_settings.NetJunction.{NetJunction}
+use Rattle.hyd_period_network.specs.declared.junctions_ends_and_settings.Ends.{Ends}
+use Rattle.hyd_period_network.specs.declared.junctions_ends_and_settings.Setting.{Setting}
 use Rattle.hyd_period_network.specs.NetView.{NetView}
 use Rattle.hyd_period_network.specs.Demands.{demand_of_law}
 use Rattle.hyd_period_network.specs.ExactLaw.{exact_law, is_nothing, one_way_law}
 use Rattle.hyd_period_network.specs.LawsInSettings.{restricted}
 use Rattle.hyd_period_network.specs.NetAsPeriodNetwork.{grid_of, junctions_of, links_of, capacity_of}
-use Rattle.hyd_period_network.specs.NetInvariant.{IsSoundJunction, IsSoundDemand, HaveLaws, IsSoundNet}
+use Rattle.hyd_period_network.specs.SoundNets.{IsSoundJunction, IsSoundDemand, HaveLaws, IsSoundNet}
 
 one_way_sound : (forward : Bool) (law : Law) → IsSoundLaw law → IsSoundLaw (one_way_law forward law)
 one_way_sound true law sound = sound

@@ -7,10 +7,10 @@ use Rattle.hyd_spec.specs.Assignment.{head_at, where_so}
 use Rattle.hyd_spec.specs.Law.{Law}
 use Rattle.hyd_spec_certificates.specs.PeriodNetwork.{GridLink}
 use Rattle.hyd_spec_certificates.specs.NetOutflow.{net, one_if, link_ends}
-use Rattle.hyd_law.specs.declared.link_law.LinkLaw.{LinkLaw}
-use Rattle.hyd_period_network.specs.declared.net_types.Ends.{Ends}
-use Rattle.hyd_period_network.specs.declared.net_types.Setting.{Setting}
-use Rattle.hyd_period_network.specs.declared.net_types.Tie.{Tie}
+use Rattle.hyd_law.specs.declared.link_law_kinds.LinkLaw.{LinkLaw}
+use Rattle.hyd_period_network.specs.declared.junctions_ends_and_settings.Ends.{Ends}
+use Rattle.hyd_period_network.specs.declared.junctions_ends_and_settings.Setting.{Setting}
+use Rattle.hyd_period_network.specs.declared.junctions_ends_and_settings.Tie.{Tie}
 use Rattle.hyd_period_network.specs.NetView.{NetView}
 use Rattle.hyd_period_network.specs.NetAsPeriodNetwork.{grid_of, link_of, links_of}
 use Rattle.hyd_period_network.specs.LinkEnds.{tie_if, ties_of, ties_from, tie_share, ties_share}

@@ -6,21 +6,21 @@ use Rattle.std.proofs.lemmas.Option.{slice_get-map, slice_get-get_or, slice_get_
 use Rattle.hyd_spec.specs.ProgramTypes.{Project, LinkState}
 use Rattle.hyd_spec.specs.declared.TankState.{TankState}
 use Rattle.hyd_spec.specs.Law.{Law, Shut}
-use Rattle.hyd_spec_certificates.specs.Spans.{levels_of}
+use Rattle.hyd_spec_certificates.specs.SpansAsIntervals.{levels_of}
 use Rattle.hyd_spec_certificates.specs.EnclosingFunctions.{DemandLaw, Fixed, demand_low, demand_high}
 use Rattle.hyd_spec_certificates.specs.PeriodNetwork.{Grid, GridLink, GridJunction}
 use Rattle.hyd_spec_certificates.specs.NetOutflow.{margin}
 use Rattle.hyd_spec_certificates.specs.declared.LevelSpan.{LevelSpan}
-use Rattle.hyd_law.specs.declared.link_law.LinkLaw.{LinkLaw}
-use Rattle.hyd_law.specs.declared.demand_kinds.OutLaw.{OutLaw}
+use Rattle.hyd_law.specs.declared.link_law_kinds.LinkLaw.{LinkLaw}
+use Rattle.hyd_law.specs.declared.demand_law_kinds.OutLaw.{OutLaw}
 use Rattle.hyd_law.specs.DemandLaws.{IsSoundOut}
-use Rattle.hyd_period_network.specs.declared.net_types.Ends.{Ends}
+use Rattle.hyd_period_network.specs.declared.junctions_ends_and_settings.Ends.{Ends}
 use Rattle.hyd_period_network.specs.NetView.{NetView}
 use Rattle.hyd_period_network.specs.Demands.{demand_of_law}
 use Rattle.hyd_period_network.specs.ExactLaw.{exact_law}
 use Rattle.hyd_period_network.specs.LawsInSettings.{Stands}
 use Rattle.hyd_period_network.specs.NetAsPeriodNetwork.{grid_of, states_of, own_laws}
-use Rattle.hyd_period_network.specs.NetInvariant.{IsSoundNet, IsSoundDemand}
+use Rattle.hyd_period_network.specs.SoundNets.{IsSoundNet, IsSoundDemand}
 use Rattle.hyd_period_network.specs.LinkEnds.{ties_from}
 use Rattle.hyd_period_network.specs.NetsSetToPeriods.{IsNetOf, IsSetTo, PassAlike, GiveAlike, AnswerAlike, own_laws_of}
 use Rattle.hyd_period_network.proofs.GridJunctionsAndLinks.{links_count, junctions_count}

@@ -1,17 +1,17 @@
--- The laws of junctions' demands at a time.
+-- The laws of junctions' demands at a time, and junctions as a net has them.
 -- Source: EPANET 2.2 User Manual, chapter 3 (demands, pressure-driven demand).
 use Rattle.std.specs.Prelude.{◌≡◌, ◌<◌, ◌≤◌, ◌*◌, ℕ, ℤ, unsigned_abs, List, length, slice_index_or}
 use Rattle.std.specs.Option.{option_map}
 use Rattle.hyd_spec.specs.ProgramTypes.{Project, Junction}
-use Rattle.hyd_spec.specs.DemandsReservoirHeadsAndCurves.{demand_of, pressure_value}
+use Rattle.hyd_spec.specs.DemandsHeadsAndPumpLifts.{demand_of, pressure_value}
 use Rattle.hyd_spec_certificates.specs.Certificate.{box_limit}
 use Rattle.hyd_spec_certificates.specs.EnclosingFunctions.{DemandLaw, Fixed, Driven}
 use Rattle.hyd_spec_certificates.specs.PeriodNetwork.{IsDemandLaw}
 use Rattle.hyd_law.specs.DemandLaws.{IsSoundOut, OutAccepts}
 use Rattle.hyd_law.specs.declared.law_kinds.Quad.{Quad}
-use Rattle.hyd_law.specs.declared.demand_kinds.OutLaw.{OutLaw}
-use Rattle.hyd_law.specs.declared.demand_kinds.OutLaw.TheVariants.{Fixed as FixedOut, Pda as PdaOut}
-use Rattle.hyd_period_network.specs.declared.net_types.NetJunction.{NetJunction}
+use Rattle.hyd_law.specs.declared.demand_law_kinds.OutLaw.{OutLaw}
+use Rattle.hyd_law.specs.declared.demand_law_kinds.OutLaw.TheVariants.{Fixed as FixedOut, Pda as PdaOut}
+use Rattle.hyd_period_network.specs.declared.junctions_ends_and_settings.NetJunction.{NetJunction}
 
 -- the law of a demand that a law of the program stands for
 abbrev pub demand_of_law : OutLaw → DemandLaw

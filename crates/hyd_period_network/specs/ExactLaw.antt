@@ -1,15 +1,17 @@
 -- The exact law that a law of the program stands for.
 -- Source: EPANET 2.2 User Manual, chapter 3 (the network model).
 use Rattle.std.specs.Prelude.{ℤ, pos, Bool, true, false, ◌&&◌, if◌then◌else◌}
-use Rattle.hyd_spec.specs.Scale.{is_same_number}
-use Rattle.hyd_spec.specs.DemandsReservoirHeadsAndCurves.{lift_of}
+use Rattle.hyd_spec.specs.WholeNumbers.{is_same_number}
+use Rattle.hyd_spec.specs.DemandsHeadsAndPumpLifts.{lift_of}
 use Rattle.hyd_spec.specs.Law.{Law, Shut as ShutLaw, QuadraticLaw, LinearLaw, Lifted, ForwardOnly, ReverseOnly, Capped}
 use Rattle.hyd_spec.specs.Law.{Bent as BentLaw, Held}
 use Rattle.hyd_law.specs.KnotsOfStraightLines.{places}
-use Rattle.hyd_law.specs.declared.link_law.LinkLaw.{LinkLaw}
-use Rattle.hyd_law.specs.declared.link_law.LinkLaw.TheVariants.{Shut, Quad, Linear, QuadOneWay, LinearOneWay, Pump}
-use Rattle.hyd_law.specs.declared.link_law.LinkLaw.TheVariants.{Limit, LinearLimit, LimitOneWay, LinearLimitOneWay}
-use Rattle.hyd_law.specs.declared.link_law.LinkLaw.TheVariants.{Bent}
+use Rattle.hyd_law.specs.declared.link_law_kinds.LinkLaw.{LinkLaw}
+use Rattle.hyd_law.specs.declared.link_law_kinds.LinkLaw.TheVariants.{Shut, Quad, Linear, QuadOneWay, LinearOneWay}
+use Rattle.hyd_law.specs.declared.link_law_kinds.LinkLaw.TheVariants.{Pump}
+use Rattle.hyd_law.specs.declared.link_law_kinds.LinkLaw.TheVariants.{Limit, LinearLimit, LimitOneWay}
+use Rattle.hyd_law.specs.declared.link_law_kinds.LinkLaw.TheVariants.{LinearLimitOneWay}
+use Rattle.hyd_law.specs.declared.link_law_kinds.LinkLaw.TheVariants.{Bent}
 
 -- the law that passes one way only
 abbrev pub one_way_law : Bool → Law → Law

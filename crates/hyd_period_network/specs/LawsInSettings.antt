@@ -1,5 +1,5 @@
 -- The laws of links in their states, between tanks that may be full or empty.
-use Rattle.std.specs.Prelude.{◌≡◌, ◌↔◌, ◌<◌, ◌≤◌, ◌+◌, ◌*◌, ◌^◌, ℕ, ℤ, Bool, List, unsigned_abs, length, slice_index_or}
+use Rattle.std.specs.Prelude.{◌≡◌, ◌↔◌, ◌<◌, ◌≤◌, ◌+◌, ◌*◌, ℕ, ℤ, Bool, List, unsigned_abs, length, slice_index_or}
 use Rattle.std.specs.Prelude.{if◌then◌else◌, ⊤, Option, None, slice_get}
 use Rattle.std.specs.Prelude.{All, true, false}
 use Rattle.hyd_net.specs.ListView.{ListView}
@@ -7,23 +7,23 @@ use Rattle.hyd_net.specs.RoundedFileNumbers.{IsKindMade, IsStateMade, IsValveMad
 use Rattle.hyd_num.specs.CapacityPairs.{IsMade}
 use Rattle.hyd_net.specs.NumberRanges.{shutoff_head_limit}
 use Rattle.hyd_net.specs.NetworkRanges.{HasSizes}
-use Rattle.hyd_net.specs.States.{CanHave}
+use Rattle.hyd_net.specs.LinkStates.{CanHave}
 use Rattle.hyd_net.specs.declared.curves.HeadPoint.{HeadPoint}
 use Rattle.hyd_spec.specs.ProgramTypes.{Project, Link, LinkKind, PipeLink, CheckPipe, PumpLink, CurvePump, Tcv, Fcv}
 use Rattle.hyd_spec.specs.ProgramTypes.{Gpv}
 use Rattle.hyd_spec.specs.ProgramTypes.{LinkState, Closed, ShutoffHead}
 use Rattle.hyd_spec.specs.declared.TankState.{TankState}
 use Rattle.hyd_spec.specs.NodeNumbers.{is_tank, tank_number}
-use Rattle.hyd_spec.specs.DemandsReservoirHeadsAndCurves.{is_us, shutoff_head, points_of}
+use Rattle.hyd_spec.specs.DemandsHeadsAndPumpLifts.{is_us, shutoff_head, points_of}
 use Rattle.hyd_spec.specs.Law.{Law, Shut, ForwardOnly, ReverseOnly, flow_at_least, flow_at_most}
 use Rattle.hyd_spec.specs.LinkLaw.{own_law, forbids_forward, forbids_reverse}
 use Rattle.hyd_spec_certificates.specs.Certificate.{box_limit}
 use Rattle.hyd_spec_certificates.specs.EnclosingFunctions.{low, high}
 use Rattle.hyd_law.specs.LinkLaws.{link_at_least, link_at_most, link_low, link_high, IsSoundLink, LinkAccepts}
-use Rattle.hyd_law.specs.declared.link_law.LinkLaw.{LinkLaw}
-use Rattle.hyd_law.specs.declared.link_law.LinkLaw.TheVariants.{Bent}
+use Rattle.hyd_law.specs.declared.link_law_kinds.LinkLaw.{LinkLaw}
+use Rattle.hyd_law.specs.declared.link_law_kinds.LinkLaw.TheVariants.{Bent}
 use Rattle.hyd_period_network.specs.ExactLaw.{exact_law}
-use Rattle.hyd_period_network.specs.declared.net_types.Setting.{Setting}
+use Rattle.hyd_period_network.specs.declared.junctions_ends_and_settings.Setting.{Setting}
 
 -- a law of the program stands for an exact law: it says the same of the exact flow, it has its enclosing functions, its
 -- numbers are sound, and it accepts each difference of two heads of the box

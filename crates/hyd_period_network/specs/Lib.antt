@@ -4,5 +4,5 @@ pub mod Demands
 pub mod ExactLaw
 pub mod LawsInSettings
 pub mod NetAsPeriodNetwork
-pub mod NetInvariant
+pub mod SoundNets
 pub mod NetsSetToPeriods

@@ -6,8 +6,8 @@ use Rattle.smallvec.specs.SmallVec.{SmallVec}
 use Rattle.hyd_spec.specs.Assignment.{head_at}
 use Rattle.hyd_spec.specs.Law.{Law}
 use Rattle.hyd_spec_certificates.specs.PeriodNetwork.{GridLink}
-use Rattle.hyd_period_network.specs.declared.net_types.Ends.{Ends}
-use Rattle.hyd_period_network.specs.declared.net_types.Tie.{Tie}
+use Rattle.hyd_period_network.specs.declared.junctions_ends_and_settings.Ends.{Ends}
+use Rattle.hyd_period_network.specs.declared.junctions_ends_and_settings.Tie.{Tie}
 
 -- a link end where the test holds, else none
 abbrev pub tie_if : Bool → Tie → List Tie

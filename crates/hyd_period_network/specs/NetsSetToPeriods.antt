@@ -1,27 +1,28 @@
--- What a net of a network always is, and what is asked of a period.
+-- What a net is that was opened for a network, what is asked of a period, what a net is that was set to one, and when
+-- two of them answer alike.
 use Rattle.std.specs.Prelude.{◌≡◌, ◌<◌, ℕ, ℤ, pos, ◌+ℤ◌, ◌≤ℤ◌, true, List, [], ◌∷◌, length, map, All}
 use Rattle.std.specs.Prelude.{Some, slice_get, slice_index_or}
 use Rattle.std.specs.List.{AllZip}
 use Rattle.hyd_spec.specs.ProgramTypes.{Project, Link, Tank, LinkState}
-use Rattle.hyd_spec.specs.DemandsReservoirHeadsAndCurves.{is_us}
+use Rattle.hyd_spec.specs.DemandsHeadsAndPumpLifts.{is_us}
 use Rattle.hyd_spec.specs.Law.{Law, Shut}
 use Rattle.hyd_spec.specs.LinkLaw.{own_law, forbids_forward, forbids_reverse}
 use Rattle.hyd_spec.specs.declared.TankState.{TankState}
-use Rattle.hyd_spec_certificates.specs.Spans.{levels_of}
+use Rattle.hyd_spec_certificates.specs.SpansAsIntervals.{levels_of}
 use Rattle.hyd_spec_certificates.specs.PeriodNetwork.{IsGrid}
 use Rattle.hyd_spec_certificates.specs.NetOutflow.{margin}
 use Rattle.hyd_law.specs.LinkLaws.{link_low, link_high}
 use Rattle.hyd_law.specs.DemandLaws.{out_low, out_high}
-use Rattle.hyd_law.specs.declared.link_law.LinkLaw.{LinkLaw}
-use Rattle.hyd_law.specs.declared.demand_kinds.OutLaw.{OutLaw}
-use Rattle.hyd_law.specs.declared.demand_kinds.OutLaw.TheVariants.{Fixed}
-use Rattle.hyd_period_network.specs.declared.net_types.Ends.{Ends}
+use Rattle.hyd_law.specs.declared.link_law_kinds.LinkLaw.{LinkLaw}
+use Rattle.hyd_law.specs.declared.demand_law_kinds.OutLaw.{OutLaw}
+use Rattle.hyd_law.specs.declared.demand_law_kinds.OutLaw.TheVariants.{Fixed}
+use Rattle.hyd_period_network.specs.declared.junctions_ends_and_settings.Ends.{Ends}
 use Rattle.hyd_spec_certificates.specs.declared.LevelSpan.{LevelSpan}
 use Rattle.hyd_period_network.specs.NetView.{NetView}
 use Rattle.hyd_period_network.specs.ExactLaw.{exact_law}
 use Rattle.hyd_period_network.specs.LawsInSettings.{AreLaws, closed_setting}
 use Rattle.hyd_period_network.specs.Demands.{IsNetJunction, AreHeld}
-use Rattle.hyd_period_network.specs.NetInvariant.{AreHeads}
+use Rattle.hyd_period_network.specs.SoundNets.{AreHeads}
 use Rattle.hyd_period_network.specs.NetAsPeriodNetwork.{grid_of, states_of, own_laws}
 use Rattle.hyd_period_network.specs.LinkEnds.{ties_from}
 

@@ -2,18 +2,17 @@
 //! is taken.
 #![tactic(auto)]
 
-ghost use Rattle.std.specs.Prelude.{◌≡◌, ◌<◌, ◌≤◌, ◌+◌, ◌*◌, ◌^◌, ◌++◌, [], ◌∷◌, ℕ, pos, neg_ℤ, ℤ, List, Bool, length};
-ghost use Rattle.std.specs.Prelude.{map, reverse, Option, ◌≤ℤ◌};
+ghost use Rattle.std.specs.Prelude.{◌≡◌, ◌<◌, ◌≤◌, ◌+◌, ◌*◌, ◌++◌, [], ◌∷◌, ℕ, pos, neg_ℤ, ℤ, List, Bool, length};
+ghost use Rattle.std.specs.Prelude.{map, reverse, Option};
 ghost use Rattle.std.specs.List.{All};
-ghost use Rattle.hyd_net.specs.ListView.{ListView};
 ghost use Rattle.hyd_net.specs.Curves.{IsPumpCurve, IsLossCurve};
 ghost use Rattle.hyd_net.specs.NumberRanges.{IsHead, IsFlow, Lies, shutoff_head_limit};
-ghost use Rattle.hyd_net.specs.States.{IsSpeed};
+ghost use Rattle.hyd_net.specs.LinkStates.{IsSpeed};
 ghost use Rattle.hyd_net.specs.declared.curves.HeadPoint.{HeadPoint};
 ghost use Rattle.hyd_spec.specs.ProgramTypes.{CurvePump, Gpv};
 ghost use Rattle.hyd_spec.specs.Law as exact;
 ghost use Rattle.hyd_spec.specs.LinkLaw as spec;
-ghost use Rattle.hyd_spec.specs.DemandsReservoirHeadsAndCurves.{points_of, pump_knots, valve_knots};
+ghost use Rattle.hyd_spec.specs.DemandsHeadsAndPumpLifts.{points_of, pump_knots, valve_knots};
 ghost use Rattle.hyd_law.specs.KnotsOfStraightLines.{IsCurve, IsKnot, place_of, places};
 ghost use Rattle.hyd_law.specs.LinkLaws.{IsSoundLink};
 ghost use Rattle.hyd_period_network.specs.LawsInSettings.{HasRoom, Represents};

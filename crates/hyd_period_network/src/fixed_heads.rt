@@ -4,10 +4,10 @@
 ghost use Rattle.std.specs.Prelude.{◌≡◌, pos, ◌+ℤ◌, ◌≤ℤ◌, length, map, All};
 ghost use Rattle.hyd_net.specs.NumberRanges.{IsHead};
 ghost use Rattle.hyd_net.specs.Sound.{IsSound};
-ghost use Rattle.hyd_spec.specs.DemandsReservoirHeadsAndCurves.{reservoir_head};
-ghost use Rattle.hyd_spec_certificates.specs.Spans.{levels_of};
+ghost use Rattle.hyd_spec.specs.DemandsHeadsAndPumpLifts.{reservoir_head};
+ghost use Rattle.hyd_spec_certificates.specs.SpansAsIntervals.{levels_of};
 ghost use Rattle.hyd_spec_certificates.specs.PeriodNetwork.{tank_intervals};
-ghost use Rattle.hyd_period_network.specs.NetInvariant.{AreHeads};
+ghost use Rattle.hyd_period_network.specs.SoundNets.{AreHeads};
 ghost use Rattle.hyd_period_network.specs.NetsSetToPeriods.{AreLevels, IsSpanOf, HasHeads};
 
 use hyd_demands_and_reservoir_heads::head_at;

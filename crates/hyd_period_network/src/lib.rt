@@ -1,23 +1,23 @@
 //! The network of a period: its links with their laws, and the link ends at each junction.
 #![tactic(auto)]
 
-mod accessors;
-mod closed_link_laws;
 mod curves;
 mod demands;
 mod fault;
 mod fixed_heads;
+mod junctions_ends_and_settings;
 mod laws;
+mod laws_of_new_net;
 mod link_ends;
 mod net;
-mod net_types;
+mod net_opened_and_set_to_period;
+mod nodes_and_links_of_net;
 mod parts_of_new_net;
-mod period;
 mod pumps;
-mod settings;
-mod theorems;
+mod states_and_forbidden_ways;
+mod theorems_on_nets_of_one_period;
 
 pub use fault::PeriodDemand;
+pub use junctions_ends_and_settings::{Ends, NetJunction, Setting, Tie};
 pub use net::Net;
-pub use net_types::{Ends, NetJunction, Setting, Tie};
-pub use theorems::periods;
+pub use theorems_on_nets_of_one_period::periods;

@@ -4,7 +4,7 @@
 ghost use Rattle.std.specs.Prelude.{◌≡◌, ◌<◌, ◌≤◌, ◌^◌, [], length, IfOk, OnOk};
 ghost use Rattle.hyd_period_network.specs.LinkEnds.{AddsTie, AreRows};
 
-use crate::net_types::{Ends, Tie};
+use crate::junctions_ends_and_settings::{Ends, Tie};
 use smallvec::SmallVec;
 use std::alloc::{AllocError as OutOfMemory, Global};
 

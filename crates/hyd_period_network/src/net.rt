@@ -1,7 +1,7 @@
 //! The network of a period.
 #![tactic(auto)]
 
-use crate::net_types::{Ends, NetJunction, Setting, Tie};
+use crate::junctions_ends_and_settings::{Ends, NetJunction, Setting, Tie};
 use hyd_law::{LinkLaw, OutLaw};
 use hyd_spec_certificates::LevelSpan;
 use smallvec::SmallVec;
@@ -25,7 +25,7 @@ pub struct Net {
 impl Model for Net {
     ghost use Rattle.std.specs.Prelude.{◌+◌, length};
     ghost use Rattle.hyd_period_network.specs.NetView.{NetView};
-    ghost use Rattle.hyd_period_network.specs.NetInvariant.{IsSoundNet};
+    ghost use Rattle.hyd_period_network.specs.SoundNets.{IsSoundNet};
     ghost use Rattle.hyd_period_network.specs.LinkEnds.{AreRowsOf};
 
     ghost Value = { NetView };

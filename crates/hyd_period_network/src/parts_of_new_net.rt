@@ -6,7 +6,7 @@ ghost use Rattle.std.specs.List.{AllZip};
 ghost use Rattle.hyd_period_network.specs.Demands.{IsNetJunction};
 ghost use Rattle.hyd_period_network.specs.NetsSetToPeriods.{ends_of};
 
-use crate::net_types::{Ends, NetJunction};
+use crate::junctions_ends_and_settings::{Ends, NetJunction};
 use hyd_law::Quad;
 use hyd_net::{Junction, Link};
 use std::alloc::{AllocError as OutOfMemory, Global};

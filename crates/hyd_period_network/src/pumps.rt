@@ -1,13 +1,13 @@
-//! The law of a running pump.
+//! The law of a running pump that has a capacity and a shutoff head.
 #![tactic(auto)]
 
-ghost use Rattle.std.specs.Prelude.{◌≡◌, ◌<◌, ◌≤◌, ◌*◌, ◌^◌, unsigned_abs, pos, ◌*ℤ◌, ◌<ℤ◌, Bool};
+ghost use Rattle.std.specs.Prelude.{◌≡◌, ◌<◌, ◌≤◌, ◌*◌, ◌^◌, unsigned_abs, pos, ◌*ℤ◌, ◌<ℤ◌};
 ghost use Rattle.hyd_num.specs.Rational.{Rational};
 ghost use Rattle.hyd_num.specs.CapacityPairs.{IsMade};
 ghost use Rattle.hyd_net.specs.NumberRanges.{shutoff_head_limit};
-ghost use Rattle.hyd_net.specs.States.{IsSpeed};
+ghost use Rattle.hyd_net.specs.LinkStates.{IsSpeed};
 ghost use Rattle.hyd_spec.specs.Law as exact;
-ghost use Rattle.hyd_spec.specs.DemandsReservoirHeadsAndCurves.{shutoff_head, lift_of};
+ghost use Rattle.hyd_spec.specs.DemandsHeadsAndPumpLifts.{shutoff_head, lift_of};
 ghost use Rattle.hyd_law.specs.ComposedLaws.{IsLift};
 ghost use Rattle.hyd_law.specs.KnotsOfStraightLines.{IsValue};
 ghost use Rattle.hyd_period_network.specs.LawsInSettings.{Represents, IsShutoff};

@@ -8,7 +8,7 @@ use Rattle.hyd_spec.specs.ProgramTypes.{Project, Tank}
 use Rattle.hyd_spec.specs.Lists.{map_from}
 use Rattle.hyd_spec.specs.Tank.{walls_of, kept_volume, tank_state}
 use Rattle.hyd_spec.specs.declared.TankState.{TankState}
-use Rattle.hyd_spec_certificates.specs.Spans.{levels_of}
+use Rattle.hyd_spec_certificates.specs.SpansAsIntervals.{levels_of}
 use Rattle.hyd_spec_certificates.specs.Interval.{Interval, exactly}
 use Rattle.hyd_spec_certificates.specs.RecordAndStanding.{initial_standing}
 use Rattle.hyd_spec_certificates.specs.Stocks.{Stocks, state_of}

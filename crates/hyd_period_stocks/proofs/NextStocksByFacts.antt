@@ -6,7 +6,7 @@ use Rattle.std.proofs.lemmas.Option.{slice_get_within}
 use Rattle.hyd_spec.specs.ProgramTypes.{Project, Tank}
 use Rattle.hyd_spec.specs.Lists.{map_from}
 use Rattle.hyd_spec.specs.Tank.{walls_of}
-use Rattle.hyd_spec_certificates.specs.Spans.{levels_of}
+use Rattle.hyd_spec_certificates.specs.SpansAsIntervals.{levels_of}
 use Rattle.hyd_spec_certificates.specs.Interval.{Interval}
 use Rattle.hyd_spec_certificates.specs.PeriodNetwork.{Grid}
 use Rattle.hyd_spec_certificates.specs.RecordAndStanding.{Record, Standing}
@@ -19,8 +19,8 @@ use Rattle.hyd_tank.specs.declared.stock_intervals.VolumeSpan.{VolumeSpan}
 use Rattle.hyd_period_facts.specs.declared.facts.Facts.{Facts}
 use Rattle.hyd_lemmas.proofs.ListsOptionsAndResults.{item_is, same_from}
 use Rattle.hyd_tank_inflows.proofs.ItemForEachNumber.{placed_first}
-use Rattle.hyd_watched_levels.specs.FactsBeforeEnd.{AreStarted, inflow_in}
-use Rattle.hyd_watched_levels.proofs.FirstSecondsByFacts.{stocks_are, inflow_is}
+use Rattle.hyd_period_facts.specs.FactsBeforeEnd.{AreStarted, inflow_in}
+use Rattle.hyd_period_facts.proofs.StocksAndInflowsByFacts.{stocks_are, inflow_is}
 use Rattle.hyd_period_stocks.specs.TankStart.{next_in, stocks_among}
 
 next_is : (project : Project) (grid : Grid) (standing : Standing) (row : Record) (facts : Facts) (seconds : ℕ)

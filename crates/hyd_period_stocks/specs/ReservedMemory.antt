@@ -1,4 +1,4 @@
--- What no period begins with, and the room for what one begins with.
+-- The room for what a period begins with, and what no period begins with.
 use Rattle.std.specs.Prelude.{◌≡◌, []}
 use Rattle.hyd_spec.specs.ProgramTypes.{Project}
 use Rattle.hyd_spec.specs.NodeNumbers.{tank_count}

@@ -1,9 +1,9 @@
--- What the next period begins with.
+-- The stocks and the states of tanks with which the next period begins.
 -- Source: EPANET 2.2 User Manual, chapter 3 (tanks), between two ends.
 use Rattle.std.specs.Prelude.{◌≡◌, ℕ, List, Some, None, map, slice_get, slice_index_or, position}
 use Rattle.hyd_spec.specs.ProgramTypes.{Project, Tank}
 use Rattle.hyd_spec.specs.Tank.{walls_of}
-use Rattle.hyd_spec_certificates.specs.Spans.{levels_of}
+use Rattle.hyd_spec_certificates.specs.SpansAsIntervals.{levels_of}
 use Rattle.hyd_spec_certificates.specs.Interval.{Interval}
 use Rattle.hyd_spec_certificates.specs.Stocks.{Stocks, next_stocks}
 use Rattle.hyd_spec_certificates.specs.Decided.{nowhere}
@@ -12,12 +12,12 @@ use Rattle.hyd_spec_reports.specs.Stops.{open_states}
 use Rattle.hyd_tank.specs.StockIntervals.{volumes_of}
 use Rattle.hyd_tank.specs.declared.stock_intervals.VolumeSpan.{VolumeSpan}
 use Rattle.hyd_period_facts.specs.declared.facts.Facts.{Facts}
-use Rattle.hyd_watched_levels.specs.FactsBeforeEnd.{stocks_in, inflow_in}
+use Rattle.hyd_period_facts.specs.FactsBeforeEnd.{stocks_in, inflow_in}
 use Rattle.hyd_controls_and_rules.specs.PumpPatternsAndSimpleControls.{IsFirstOpen as IsFirstControl}
 use Rattle.hyd_period_stocks.specs.declared.states.TankOpen.{TankOpen}
-use Rattle.hyd_period_stocks.specs.declared.unsettled_at_levels.Unsettled.{Unsettled}
-use Rattle.hyd_period_stocks.specs.declared.unsettled_at_levels.Unsettled.TheVariants.{Tank as TankIsOpen}
-use Rattle.hyd_period_stocks.specs.declared.unsettled_at_levels.Unsettled.TheVariants.{Control as ControlIsOpen}
+use Rattle.hyd_period_stocks.specs.declared.states_and_level_controls.Unsettled.{Unsettled}
+use Rattle.hyd_period_stocks.specs.declared.states_and_level_controls.Unsettled.TheVariants.{Tank as TankIsOpen}
+use Rattle.hyd_period_stocks.specs.declared.states_and_level_controls.Unsettled.TheVariants.{Control as ControlIsOpen}
 
 -- the stocks of a tank some seconds after the start of the period of some facts
 abbrev pub next_in : Project → Facts → ℕ → ℕ → Tank → Stocks

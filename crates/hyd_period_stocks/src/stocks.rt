@@ -1,4 +1,4 @@
-//! Stocks of all tanks.
+//! The stocks of all tanks with which the next period begins.
 #![tactic(auto)]
 
 ghost use Rattle.std.specs.Prelude.{◌≡◌, ◌<◌, ◌≤◌, ◌+◌, ◌^◌, ◌++◌, ◌∷◌, [], ℕ, Some, length, map, slice_get};
@@ -6,19 +6,18 @@ ghost use Rattle.hyd_net.specs.Sound.{IsSound};
 ghost use Rattle.hyd_spec.specs.ProgramTypes.{Tank};
 ghost use Rattle.hyd_spec.specs.NodeNumbers.{tank_count};
 ghost use Rattle.hyd_spec.specs.Tank.{walls_of};
-ghost use Rattle.hyd_spec_certificates.specs.Spans.{levels_of};
+ghost use Rattle.hyd_spec_certificates.specs.SpansAsIntervals.{levels_of};
 ghost use Rattle.hyd_spec_certificates.specs.PeriodNetwork.{Grid};
 ghost use Rattle.hyd_spec_certificates.specs.RecordAndStanding.{Record, Standing};
 ghost use Rattle.hyd_spec_certificates.specs.Valid.{levels_next, volumes_next};
 ghost use Rattle.hyd_tank.specs.StockIntervals.{stocks_of, AreHeld, volumes_of};
-ghost use Rattle.hyd_watched_levels.specs.FactsBeforeEnd.{HaveTanks, AreStarted};
+ghost use Rattle.hyd_period_facts.specs.FactsBeforeEnd.{HaveTanks, AreStarted};
 ghost use Rattle.hyd_period_stocks.specs.TankStart.{next_in, stocks_among};
 
 use hyd_net::{List, Project};
-use hyd_period_facts::{Facts, add_level};
+use hyd_period_facts::{Facts, add_level, inflow_at, stock_at};
 use hyd_spec_certificates::LevelSpan;
 use hyd_tank::{Stock, VolumeSpan, next_stock};
-use hyd_watched_levels::{inflow_at, stock_at};
 
 // The stock of one tank.
 fn next_of(project: &Project, facts: &Facts, tank: u32, seconds: u32) -> Stock

@@ -1,12 +1,12 @@
-//! What a period begins with.
+//! What a period begins with: the stocks and the states of tanks.
 #![tactic(auto)]
 
-ghost use Rattle.std.specs.Prelude.{◌≡◌, ◌≤◌, length, IfOk};
+ghost use Rattle.std.specs.Prelude.{◌≡◌, ◌≤◌, IfOk};
 ghost use Rattle.hyd_net.specs.Sound.{IsSound};
 
-use crate::initial::{put_initial, put_initial_states};
+use crate::initial_stocks::{put_initial, put_initial_states};
+use crate::states_and_level_controls::{Unsettled, put_settled};
 use crate::stocks::put_stocks;
-use crate::unsettled_at_levels::{Unsettled, put_settled};
 use hyd_net::{List, Project};
 use hyd_period_facts::Facts;
 use hyd_spec::TankState;
@@ -29,12 +29,12 @@ impl TankStart {
     ghost use Rattle.std.specs.Prelude.{◌^◌, ℕ, Some, map, slice_get, IfErr, OnOk};
     ghost use Rattle.hyd_spec.specs.ProgramTypes.{Tank};
     ghost use Rattle.hyd_spec.specs.Tank.{walls_of};
-    ghost use Rattle.hyd_spec_certificates.specs.Spans.{levels_of};
+    ghost use Rattle.hyd_spec_certificates.specs.SpansAsIntervals.{levels_of};
     ghost use Rattle.hyd_spec_certificates.specs.PeriodNetwork.{Grid};
     ghost use Rattle.hyd_spec_certificates.specs.RecordAndStanding.{Record, Standing, initial_standing};
     ghost use Rattle.hyd_spec_certificates.specs.Valid.{AreStates, ControlsAreDecided, levels_next, volumes_next};
     ghost use Rattle.hyd_tank.specs.StockIntervals.{AreHeld, volumes_of};
-    ghost use Rattle.hyd_watched_levels.specs.FactsBeforeEnd.{HaveTanks, AreStarted};
+    ghost use Rattle.hyd_period_facts.specs.FactsBeforeEnd.{HaveTanks, AreStarted};
     ghost use Rattle.hyd_period_stocks.specs.TankStart.{stocks_among, IsUnsettled};
     ghost use Rattle.hyd_period_stocks.specs.ReservedMemory.{HasRoom, AreNone};
 

@@ -1,6 +1,6 @@
 pub mod VectorsInTurn
 pub mod SoughtVectors
-pub mod BurningTest
+pub mod CertificatesBeyondProposedHeads
 pub mod RoundsSpentAnywhere
 pub mod StartFromOtherSide
 pub mod SearchGoesOn

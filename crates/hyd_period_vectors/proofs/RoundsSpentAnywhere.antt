@@ -8,17 +8,17 @@ use Rattle.hyd_spec_certificates.specs.declared.Side.{Side}
 use Rattle.hyd_spec_certificates.specs.declared.Side.TheVariants.{Upper, Lower}
 use Rattle.hyd_spec_certificates.specs.PeriodNetwork.{Grid}
 use Rattle.hyd_spec_certificates.specs.Certificate.{box_limit, IsInBox}
-use Rattle.hyd_spec_certificates.specs.SearchSteps.{LiesBeyond, IsStart}
-use Rattle.hyd_theorems_on_definitions.specs.TermsOfTheorems.{IsSteady}
+use Rattle.hyd_spec_certificates.specs.StartsRaisesAndLeaps.{LiesBeyond, IsStart}
+use Rattle.hyd_theorems_on_definitions.specs.SoundLawsAndGrids.{IsSteady}
 use Rattle.hyd_theorems_on_definitions.specs.Sides.{along}
-use Rattle.hyd_spec_reports.specs.Stops.{beginning}
-use Rattle.hyd_theorems_on_raises.proofs.GreatestLead.{is-beyond}
+use Rattle.hyd_spec_reports.specs.TurnsOfProblems.{beginning}
+use Rattle.hyd_theorems_on_raises.proofs.WhereOneLiesBeyondByMost.{is-beyond}
 use Rattle.hyd_theorems_on_raises.proofs.RaisesAndTightVector.{along-floor}
 use Rattle.hyd_theorems_on_raises.proofs.RaisesInAnyOrder.{spent-nearer}
-use Rattle.hyd_theorems_on_raises.proofs.Beginnings.{start-end}
+use Rattle.hyd_theorems_on_raises.proofs.SearchStarts.{start-end}
 use Rattle.hyd_sweep.specs.Sweeps.{SweepGives}
-use Rattle.hyd_sweep.specs.declared.answers.Swept.TheVariants.{RoundsSpent}
-use Rattle.hyd_period_vectors.specs.Vectors.{AreSpent}
+use Rattle.hyd_sweep.specs.declared.answers_of_sweeps.Swept.TheVariants.{RoundsSpent}
+use Rattle.hyd_period_vectors.specs.SoughtVectors.{AreSpent}
 
 replicated : (n m : ℕ) (x : ℤ) → m < n → slice_index_or (replicate n x) m (pos 0) ≡ x
 replicated zero m x lt = absurd (omega (arith, lt))

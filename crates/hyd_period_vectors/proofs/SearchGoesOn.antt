@@ -1,4 +1,4 @@
--- Vectors that come, for a search that goes on.
+-- The turns of vectors, one after another, and that a search that goes on keeps what came before.
 use Rattle.std.proofs.Common.{◌≡◌, ℕ, ◌+◌, ℤ, Bool, List, refl, subst, arith}
 use Rattle.std.specs.Prelude.{Option}
 use Rattle.hyd_spec_certificates.specs.declared.Problem.{Problem}
@@ -6,9 +6,9 @@ use Rattle.hyd_spec_certificates.specs.declared.Problem.TheVariants.{Main, Pinne
 use Rattle.hyd_spec_certificates.specs.declared.Side.TheVariants.{Upper, Lower}
 use Rattle.hyd_spec_certificates.specs.PeriodNetwork.{Grid}
 use Rattle.hyd_spec_certificates.specs.RecordAndStanding.{Record}
-use Rattle.hyd_spec_reports.specs.Stops.{turn}
-use Rattle.hyd_period_vectors.specs.OpenedSearch.{Room}
-use Rattle.hyd_period_vectors.specs.Vectors.{Comes, EachBefore}
+use Rattle.hyd_spec_reports.specs.TurnsOfProblems.{turn}
+use Rattle.hyd_period_vectors.specs.SizeOfSearch.{Room}
+use Rattle.hyd_period_vectors.specs.SoughtVectors.{Comes, EachBefore}
 
 -- both sides of a problem come one after the other
 pub next-turn : (problem : Problem) → turn problem Lower + 1 ≡ turn problem Upper + 2

@@ -8,7 +8,8 @@ use Rattle.hyd_spec_certificates.specs.Certificate.{IsCertificate, IsTight}
 use Rattle.hyd_period_network.specs.NetView.{NetView}
 use Rattle.hyd_finders.specs.ProposedVectors.{Leaves, IsOfSize, told_vector}
 use Rattle.hyd_sweep.specs.LeapingRounds.{AreLeapingRounds}
-use Rattle.hyd_period_vectors.specs.Vectors.{IsTold, IsFound, IsSought, IsAtHand, IsBegun, IsReached, Tells, Comes}
+use Rattle.hyd_period_vectors.specs.SoughtVectors.{IsTold, IsFound, IsSought, IsAtHand, IsBegun, IsReached, Tells}
+use Rattle.hyd_period_vectors.specs.SoughtVectors.{Comes}
 
 -- where a finder tells no certificate the tight vector is one that is found
 pub tight-sought : (tight : Bool) (told : Option (List ℤ)) (grid : Grid) (tanks : ℕ) (problem : Problem) (side : Side)

@@ -6,9 +6,9 @@ use Rattle.hyd_spec_certificates.specs.declared.Problem.TheVariants.{Main}
 use Rattle.hyd_spec_certificates.specs.declared.Side.{Side}
 use Rattle.hyd_spec_certificates.specs.PeriodNetwork.{Grid, opposite}
 use Rattle.hyd_spec_certificates.specs.Certificate.{IsCertificate}
-use Rattle.hyd_spec_certificates.specs.SearchSteps.{IsStart}
-use Rattle.hyd_theorems_on_definitions.specs.TermsOfTheorems.{IsSteady, TanksInOrder}
-use Rattle.hyd_theorems_on_raises.proofs.Beginnings.{start-other, main-fixed}
+use Rattle.hyd_spec_certificates.specs.StartsRaisesAndLeaps.{IsStart}
+use Rattle.hyd_theorems_on_definitions.specs.SoundLawsAndGrids.{IsSteady, TanksInOrder}
+use Rattle.hyd_theorems_on_raises.proofs.SearchStarts.{start-other, main-fixed}
 
 pub start-across : (grid : Grid) → IsSteady grid → TanksInOrder grid → (problem : Problem) (side : Side) (u : List ℤ)
     → IsCertificate grid Main (opposite side) u → IsStart None grid problem side u

@@ -6,10 +6,10 @@ use Rattle.hyd_spec_certificates.specs.declared.Problem.TheVariants.{Main, Pinne
 use Rattle.hyd_spec_certificates.specs.declared.Side.{Side}
 use Rattle.hyd_spec_certificates.specs.declared.Side.TheVariants.{Upper, Lower}
 use Rattle.hyd_spec_certificates.specs.RecordAndStanding.{Record, vector_of}
-use Rattle.hyd_spec_reports.specs.Stops.{turn}
+use Rattle.hyd_spec_reports.specs.TurnsOfProblems.{turn}
 use Rattle.hyd_cert.specs.RecordView.{IsProblemOf}
-use Rattle.hyd_cert.specs.Vectors.{place_in}
-use Rattle.hyd_period_vectors.specs.Vectors.{EachBefore, OfEach}
+use Rattle.hyd_cert.specs.VectorsOfRecord.{place_in}
+use Rattle.hyd_period_vectors.specs.SoughtVectors.{EachBefore, OfEach}
 
 -- the place of a vector in a record is its turn
 pub place-turn : (problem : Problem) (side : Side) → place_in problem side ≡ turn problem side

@@ -1,3 +1,3 @@
-pub mod OpenedSearch
-pub mod TurnsTowardProposedHeads
-pub mod Vectors
+pub mod SizeOfSearch
+pub mod WayToProposedHeads
+pub mod SoughtVectors

@@ -3,15 +3,15 @@
 
 ghost use Rattle.std.specs.Prelude.{◌≡◌, ◌≤◌, ℕ, ℤ, List, length, None, false, IfErr, OnOk, OnErr, IsTrue};
 ghost use Rattle.hyd_spec_certificates.specs.Certificate.{IsTight};
-ghost use Rattle.hyd_spec_certificates.specs.SearchSteps.{IsStart};
+ghost use Rattle.hyd_spec_certificates.specs.StartsRaisesAndLeaps.{IsStart};
 ghost use Rattle.hyd_cert.specs.RecordView.{header_of, row_of};
 ghost use Rattle.hyd_period_network.specs.NetAsPeriodNetwork.{grid_of};
-ghost use Rattle.hyd_period_network.specs.NetInvariant.{HasProblem};
+ghost use Rattle.hyd_period_network.specs.SoundNets.{HasProblem};
 ghost use Rattle.hyd_sweep.specs.LeapingRounds.{AreLeapingRounds};
-ghost use Rattle.hyd_theorems_on_definitions.specs.TermsOfTheorems.{TanksInOrder};
-ghost use Rattle.hyd_period_vectors.specs.Vectors.{HasOther, Fits, IsFound, IsTold};
-ghost use Rattle.hyd_period_vectors.specs.Vectors.{IsSought, IsOffered, Tells};
-ghost use Rattle.hyd_period_vectors.specs.Vectors.{Comes, Lacks};
+ghost use Rattle.hyd_theorems_on_definitions.specs.SoundLawsAndGrids.{TanksInOrder};
+ghost use Rattle.hyd_period_vectors.specs.SoughtVectors.{HasOther, Fits, IsFound, IsTold};
+ghost use Rattle.hyd_period_vectors.specs.SoughtVectors.{IsSought, IsOffered, Tells};
+ghost use Rattle.hyd_period_vectors.specs.SoughtVectors.{Comes, Lacks};
 
 use crate::missing_vector::Lack;
 use crate::search_start::{Starter, begin_near};

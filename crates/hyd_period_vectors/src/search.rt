@@ -1,15 +1,15 @@
 //! Searches for the vectors of a record.
 #![tactic(auto)]
 
-ghost use Rattle.std.specs.Prelude.{◌≡◌, ◌+◌, ◌*◌, ℤ, List, length, IfOk, IfErr, OnOk, OnErr};
+ghost use Rattle.std.specs.Prelude.{◌≡◌, ◌+◌, length, IfOk, IfErr, OnOk};
 ghost use Rattle.hyd_spec_certificates.specs.declared.Side.TheVariants.{Upper};
-ghost use Rattle.hyd_spec_reports.specs.Stops.{turn};
+ghost use Rattle.hyd_spec_reports.specs.TurnsOfProblems.{turn};
 ghost use Rattle.hyd_cert.specs.RecordView.{header_of, row_of};
 ghost use Rattle.hyd_period_network.specs.NetAsPeriodNetwork.{grid_of};
-ghost use Rattle.hyd_period_network.specs.NetInvariant.{HasProblem};
-ghost use Rattle.hyd_period_vectors.specs.Vectors.{IsSought, Comes, LacksFirst, EachBefore};
-ghost use Rattle.hyd_theorems_on_definitions.specs.TermsOfTheorems.{TanksInOrder};
-ghost use Rattle.hyd_period_vectors.specs.Vectors.{OfEach, Stays, Fits};
+ghost use Rattle.hyd_period_network.specs.SoundNets.{HasProblem};
+ghost use Rattle.hyd_period_vectors.specs.SoughtVectors.{IsSought, Comes, LacksFirst, EachBefore};
+ghost use Rattle.hyd_theorems_on_definitions.specs.SoundLawsAndGrids.{TanksInOrder};
+ghost use Rattle.hyd_period_vectors.specs.SoughtVectors.{OfEach, Stays, Fits};
 
 use crate::missing_vector::Lack;
 use crate::one_vector::find;
@@ -34,7 +34,7 @@ pub struct Search {
 
 impl Model for Search {
     ghost use Rattle.std.specs.Prelude.{◌≡◌, length};
-    ghost use Rattle.hyd_period_vectors.specs.OpenedSearch.{Room};
+    ghost use Rattle.hyd_period_vectors.specs.SizeOfSearch.{Room};
 
     ghost Value = { Room };
 

@@ -1,7 +1,7 @@
 pub mod ChangeLemmas
 pub mod JoinedTexts
 pub mod LineLemmas
-pub mod LinkLemmas
+pub mod StatusWordOfLink
 pub mod LoopLemmas
 pub mod PrintLemmas
 pub mod ReportLemmas

@@ -6,7 +6,7 @@ use Rattle.hyd_num.proofs.Floors.{floor_is, ceiling_is}
 use Rattle.hyd_num.specs.PrintedDecimals.{IsRoundedDown, IsRoundedUp}
 use Rattle.hyd_units.proofs.FloorsAndCeilings.{IsFloor-floor, IsCeiling-ceiling}
 use Rattle.hyd_spec.specs.ProgramTypes.{Project}
-use Rattle.hyd_spec.specs.DemandsReservoirHeadsAndCurves.{is_us}
+use Rattle.hyd_spec.specs.DemandsHeadsAndPumpLifts.{is_us}
 use Rattle.hyd_spec_certificates.specs.Interval.{Interval}
 use Rattle.hyd_spec_reports.specs.Report.{Prints}
 use Rattle.hyd_report.specs.PrintedIntervals.{in_ten_thousandths, printed, quantity_in}

@@ -6,12 +6,12 @@ use Rattle.std.specs.Option.{option_map}
 use Rattle.std.proofs.lemmas.Option.{slice_get_within, slice_get-get_or, slice_get-map}
 use Rattle.hyd_spec.specs.ProgramTypes.{Project, Tank, Link, LinkState}
 use Rattle.hyd_spec.specs.Lists.{map_from}
-use Rattle.hyd_spec.specs.DemandsReservoirHeadsAndCurves.{is_us}
+use Rattle.hyd_spec.specs.DemandsHeadsAndPumpLifts.{is_us}
 use Rattle.hyd_spec.specs.Assignment.{head_at}
 use Rattle.hyd_spec.specs.Rules.{state_of_link}
 use Rattle.hyd_spec.specs.declared.TankState.{TankState}
 use Rattle.hyd_spec.specs.declared.TankState.TheVariants.{Between}
-use Rattle.hyd_spec_certificates.specs.Spans.{levels_of, flows_of}
+use Rattle.hyd_spec_certificates.specs.SpansAsIntervals.{levels_of, flows_of}
 use Rattle.hyd_spec_certificates.specs.Interval.{Interval, shifted}
 use Rattle.hyd_spec_certificates.specs.PeriodNetwork.{Grid, GridLink, GridJunction}
 use Rattle.hyd_spec_certificates.specs.FlowIntervals.{difference, flow_box}
@@ -19,8 +19,10 @@ use Rattle.hyd_spec_certificates.specs.RecordAndStanding.{Record, Standing}
 use Rattle.hyd_spec_certificates.specs.Decided.{heads_below, heads_above, nowhere, inflow_of_tank, level_of_tank}
 use Rattle.hyd_spec_reports.specs.ReportLine.{ReportLine, TimeLine, LinkLine}
 use Rattle.hyd_spec_reports.specs.Report.{Prints, LineEach, IsJunctionLine, IsReservoirLine, IsTankLine, IsLinkLine}
-use Rattle.hyd_spec_reports.specs.Report.{AreStateLines, AreEndLines, IsReport, is_report_time, change_line, event_line}
-use Rattle.hyd_spec_reports.specs.Report.{changes_at, status_of}
+use Rattle.hyd_spec_reports.specs.Report.{AreStateLines, AreEndLines, IsReport, is_report_time, event_line}
+use Rattle.hyd_spec_reports.specs.ChangesAtStart.{change_line}
+use Rattle.hyd_spec_reports.specs.Report.{status_of}
+use Rattle.hyd_spec_reports.specs.ChangesAtStart.{changes_at}
 use Rattle.hyd_period_facts.specs.declared.facts.Facts.{Facts}
 use Rattle.hyd_period_facts.specs.FactsOfPeriod.{AreFacts}
 use Rattle.hyd_report.specs.PrintedIntervals.{printed, quantity_in}

@@ -1,4 +1,4 @@
--- Words that end lines, as the program makes them, and changes by what made them.
+-- The texts of events, as the program makes them, and which changes are made by rules.
 use Rattle.std.specs.Prelude.{ℕ, ◌+◌, Bool, true, false, List, [], ◌∷◌, ◌++◌, codes, if◌then◌else◌}
 use Rattle.std.specs.Fmt.{decimal}
 use Rattle.hyd_spec.specs.declared.Change.{Change}

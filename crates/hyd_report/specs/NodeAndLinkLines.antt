@@ -1,16 +1,17 @@
--- The lines of a period, as the program makes them from a net's grid, from vectors below and above and from facts.
+-- The lines of nodes and links, as the program makes them from a net's grid, from vectors below and above and from
+-- facts.
 use Rattle.std.specs.Prelude.{ℕ, ℤ, ◌-ℤ◌, List, map, slice_index_or}
 use Rattle.hyd_spec.specs.ProgramTypes.{Project, Tank, Link, LinkState}
 use Rattle.hyd_spec.specs.Law.{Shut}
 use Rattle.hyd_spec.specs.Lists.{joined}
-use Rattle.hyd_spec.specs.DemandsReservoirHeadsAndCurves.{is_us}
+use Rattle.hyd_spec.specs.DemandsHeadsAndPumpLifts.{is_us}
 use Rattle.hyd_spec.specs.Assignment.{head_at}
 use Rattle.hyd_spec.specs.Rules.{state_of_link}
 use Rattle.hyd_spec.specs.declared.TankState.{TankState}
 use Rattle.hyd_spec.specs.declared.TankState.TheVariants.{Between}
-use Rattle.hyd_spec_certificates.specs.Spans.{levels_of, flows_of}
+use Rattle.hyd_spec_certificates.specs.SpansAsIntervals.{levels_of, flows_of}
 use Rattle.hyd_spec_certificates.specs.declared.LevelSpan.{LevelSpan}
-use Rattle.hyd_num.specs.declared.decimals.Span.{Span}
+use Rattle.hyd_num.specs.declared.spans.Span.{Span}
 use Rattle.hyd_spec_certificates.specs.Decided.{nowhere}
 use Rattle.hyd_spec_certificates.specs.Interval.{Interval, exactly, shifted}
 use Rattle.hyd_spec_certificates.specs.PeriodNetwork.{Grid, GridLink, GridJunction}

@@ -2,7 +2,7 @@
 
 ghost use Rattle.std.specs.Prelude.{◌≡◌, ◌≤◌, length, map, IsTrue, None};
 ghost use Rattle.hyd_spec.specs.Lists.{joined};
-ghost use Rattle.hyd_spec_reports.specs.Report.{change_line};
+ghost use Rattle.hyd_spec_reports.specs.ChangesAtStart.{change_line};
 ghost use Rattle.hyd_report.specs.EventTextsAndChangesByRules.{is_by_rule, before_rules};
 ghost use Rattle.hyd_io.specs.Output.{OnCert};
 ghost use Rattle.hyd_net.specs.Sound.{IsSound};
@@ -10,8 +10,8 @@ ghost use Rattle.hyd_spec_reports.specs.ReportLine.{ControlLine, RuleLine, line_
 ghost use Rattle.hyd_io.specs.TextPutIn.{Puts};
 
 use crate::ids::{link_id, rule_id};
+use crate::line_pieces::put_pieces;
 use crate::numbers_times_and_settings::{clock, number};
-use crate::pieces::put_pieces;
 use crate::states::state_text;
 use hyd_io::{Desk, OutFault, Pen};
 use hyd_net::{LinkState, Project};

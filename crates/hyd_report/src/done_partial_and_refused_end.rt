@@ -5,8 +5,8 @@ ghost use Rattle.hyd_io.specs.Output.{OnCert};
 ghost use Rattle.hyd_spec_reports.specs.ReportLine.{done_line, partial_line, refused_end_line};
 ghost use Rattle.hyd_io.specs.TextPutIn.{Puts};
 
+use crate::line_pieces::put_pieces;
 use crate::numbers_times_and_settings::number;
-use crate::pieces::put_pieces;
 use hyd_io::{Desk, OutFault, Pen};
 
 /// Puts the last line of a finished run, with the number of its records. Its faults and its needs are those of

@@ -10,8 +10,8 @@ ghost use Rattle.hyd_io.specs.TextPutIn.{Puts};
 ghost use Rattle.hyd_report.specs.EventTextsAndChangesByRules.{event_text};
 
 use crate::ids::tank_id;
+use crate::line_pieces::put_pieces;
 use crate::numbers_times_and_settings::{clock, number};
-use crate::pieces::put_pieces;
 use crate::short_text::Text;
 use hyd_io::{Desk, OutFault, Pen};
 use hyd_net::Project;

@@ -1,15 +1,12 @@
 //! The lines of junctions.
 
-ghost use Rattle.std.specs.Prelude.{◌≡◌, ◌<◌, ◌≤◌, ◌^◌, ◌≤ℤ◌, ◌-ℤ◌, pos, length, unsigned_abs, slice_get, IsTrue};
+ghost use Rattle.std.specs.Prelude.{◌≡◌, ◌<◌, ◌≤◌, ◌≤ℤ◌, pos, length, slice_get, IsTrue};
 ghost use Rattle.std.specs.Prelude.{IfSome, None};
 ghost use Rattle.hyd_io.specs.Output.{OnCert};
 ghost use Rattle.hyd_net.specs.Sound.{IsSound};
 ghost use Rattle.hyd_spec.specs.Lists.{map_from};
 ghost use Rattle.hyd_spec_certificates.specs.Certificate.{IsInBox};
-ghost use Rattle.hyd_spec_certificates.specs.PeriodNetwork.{all_heads};
 ghost use Rattle.hyd_spec_certificates.specs.Interval.{Interval};
-ghost use Rattle.hyd_spec_certificates.specs.declared.Problem.TheVariants.{Main};
-ghost use Rattle.hyd_spec_certificates.specs.declared.Side.TheVariants.{Upper, Lower};
 ghost use Rattle.hyd_spec_reports.specs.ReportLine.{JunctionLine, line_text};
 ghost use Rattle.hyd_period_network.specs.NetAsPeriodNetwork.{grid_of};
 ghost use Rattle.hyd_bounds.specs.VectorsInOrder.{IsVector, AreInOrder};
@@ -18,7 +15,7 @@ ghost use Rattle.hyd_report.specs.PrintedIntervals.{ArePrinted};
 ghost use Rattle.hyd_report.specs.NodeAndLinkLines.{texts, junction_between, junction_line};
 
 use crate::ids::node_id;
-use crate::pieces::put_pieces;
+use crate::line_pieces::put_pieces;
 use crate::printed_intervals::{Ends, print_flows, print_heads, print_pressures};
 use hyd_bounds::out_box;
 use hyd_io::{Desk, OutFault, Pen};

@@ -18,7 +18,7 @@ ghost use Rattle.hyd_report.specs.PrintedIntervals.{ArePrinted};
 ghost use Rattle.hyd_report.specs.NodeAndLinkLines.{texts, link_line};
 
 use crate::ids::link_id;
-use crate::pieces::put_pieces;
+use crate::line_pieces::put_pieces;
 use crate::printed_intervals::{Ends, print_flows};
 use crate::states::status_word;
 use hyd_bounds::{flow_box, status_of};

@@ -1,6 +1,6 @@
 //! Numbers, times and settings as words.
 
-ghost use Rattle.std.specs.Prelude.{◌≡◌, ◌+◌, ◌≤◌, ◌/◌, ◌%◌, ◌++◌, ◌<◌, ◌^◌, [], ◌∷◌, length, decimal};
+ghost use Rattle.std.specs.Prelude.{◌≡◌, ◌+◌, ◌≤◌, ◌/◌, ◌%◌, ◌++◌, ◌<◌, [], ◌∷◌, length, decimal};
 ghost use Rattle.std.specs.Fmt.{signed_decimal};
 ghost use Rattle.hyd_num.specs.PrintedDecimals.{last_digits, setting_text};
 ghost use Rattle.hyd_spec_reports.specs.ReportLine.{clock_text};

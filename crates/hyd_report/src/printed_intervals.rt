@@ -1,7 +1,7 @@
 //! The two ends of intervals as printed decimals.
 
 ghost use Rattle.std.specs.Prelude.{◌≡◌, ◌≤◌, ◌^◌, ◌+ℤ◌, ◌-ℤ◌, unsigned_abs};
-ghost use Rattle.hyd_spec_certificates.specs.Spans.{levels_of, flows_of};
+ghost use Rattle.hyd_spec_certificates.specs.SpansAsIntervals.{levels_of, flows_of};
 ghost use Rattle.hyd_spec_certificates.specs.Interval.{shifted};
 ghost use Rattle.hyd_units.specs.PrintedText.{IsDecimalOf};
 ghost use Rattle.hyd_report.specs.PrintedIntervals.{printed, quantity_in, ArePrinted};

@@ -7,8 +7,8 @@ ghost use Rattle.hyd_spec_reports.specs.CertificateText.{words};
 ghost use Rattle.hyd_spec_reports.specs.ReportLine.{refused_period, refusal_words, refused_line};
 ghost use Rattle.hyd_io.specs.TextPutIn.{Puts};
 
+use crate::line_pieces::put_pieces;
 use crate::numbers_times_and_settings::number;
-use crate::pieces::put_pieces;
 use crate::stops::put_failing;
 use hyd_io::{Desk, OutFault, Pen};
 use hyd_net::Project;

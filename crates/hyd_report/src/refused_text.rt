@@ -5,8 +5,8 @@ ghost use Rattle.hyd_io.specs.Output.{OnCert};
 ghost use Rattle.hyd_io.specs.TextPutIn.{Puts};
 ghost use Rattle.hyd_report.specs.RefusedText.{cause_number, detail_of, refused_text_line};
 
+use crate::line_pieces::put_pieces;
 use crate::numbers_times_and_settings::number;
-use crate::pieces::put_pieces;
 use crate::short_text::Text;
 use hyd_io::{Desk, OutFault, Pen};
 use hyd_net::Cause;

@@ -8,8 +8,8 @@ ghost use Rattle.hyd_spec.specs.ProgramTypes.{Project};
 ghost use Rattle.hyd_spec_reports.specs.ReportLine.{TimeLine, line_text};
 ghost use Rattle.hyd_io.specs.TextPutIn.{Puts};
 
+use crate::line_pieces::put_pieces;
 use crate::numbers_times_and_settings::clock;
-use crate::pieces::put_pieces;
 use hyd_io::{Desk, OutFault, Pen};
 use hyd_net::Project;
 

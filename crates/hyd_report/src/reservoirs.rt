@@ -12,7 +12,7 @@ ghost use Rattle.hyd_report.specs.PrintedIntervals.{ArePrinted};
 ghost use Rattle.hyd_report.specs.NodeAndLinkLines.{texts, reservoir_line};
 
 use crate::ids::reservoir_id;
-use crate::pieces::put_pieces;
+use crate::line_pieces::put_pieces;
 use crate::printed_intervals::{Ends, print_heads};
 use hyd_io::{Desk, OutFault, Pen};
 use hyd_net::Project;

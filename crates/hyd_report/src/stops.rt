@@ -10,8 +10,8 @@ ghost use Rattle.std.specs.Fmt.{signed_decimal};
 ghost use Rattle.hyd_io.specs.TextPutIn.{Puts};
 
 use crate::ids::{node_id, rule_id, tank_id};
+use crate::line_pieces::{put_piece, put_pieces};
 use crate::numbers_times_and_settings::{clock, number, signed};
-use crate::pieces::{put_piece, put_pieces};
 use crate::states::side_word;
 use hyd_io::{Desk, OutFault, Pen};
 use hyd_net::Project;

@@ -1,11 +1,11 @@
 //! The lines of tanks.
 
-ghost use Rattle.std.specs.Prelude.{◌≡◌, ◌<◌, ◌≤◌, ◌^◌, ◌++◌, codes, length, slice_get, unsigned_abs, All, IsTrue};
+ghost use Rattle.std.specs.Prelude.{◌≡◌, ◌<◌, ◌++◌, codes, length, slice_get, All, IsTrue};
 ghost use Rattle.std.specs.Prelude.{IfSome, None};
 ghost use Rattle.hyd_io.specs.Output.{OnCert};
 ghost use Rattle.hyd_net.specs.Sound.{IsSound};
 ghost use Rattle.hyd_spec.specs.Lists.{map_from};
-ghost use Rattle.hyd_spec_certificates.specs.Spans.{levels_of, flows_of};
+ghost use Rattle.hyd_spec_certificates.specs.SpansAsIntervals.{levels_of, flows_of};
 ghost use Rattle.hyd_spec_certificates.specs.Interval.{Interval};
 ghost use Rattle.hyd_spec_reports.specs.ReportLine.{TankLine, line_text, tank_word};
 ghost use Rattle.hyd_io.specs.TextPutIn.{Puts};
@@ -13,7 +13,7 @@ ghost use Rattle.hyd_report.specs.PrintedIntervals.{ArePrinted, IsSmall};
 ghost use Rattle.hyd_report.specs.NodeAndLinkLines.{texts, tank_at, tank_line};
 
 use crate::ids::tank_id;
-use crate::pieces::put_pieces;
+use crate::line_pieces::put_pieces;
 use crate::printed_intervals::{Ends, print_flows, print_levels, print_tank_heads};
 use crate::short_text::Text;
 use crate::states::tank_word;

@@ -2,9 +2,9 @@
 //! what is wrong with it (EPANET 2.2 User Manual, appendix C).
 #![tactic(auto)]
 
-mod columns;
+mod word_values;
 
-pub use columns::{
+pub use word_values::{
     check_id, either_keyword, ends, id, keyword, needed, not_negative, number, number_of,
     number_within, or_empty, word_is,
 };

@@ -2,10 +2,10 @@
 use Rattle.std.proofs.Common.{◌≡◌, ◌+◌, ℕ, Bool, true, false, List, take, slice_get, Some, refl, sym, ap, ◌∙◌}
 use Rattle.hyd_spec_lines.specs.Lines.{Row}
 use Rattle.hyd_spec_lines.specs.declared.section.Section.{Section}
-use Rattle.hyd_spec_input.specs.Tables.{is_of, rows_of}
-use Rattle.hyd_spec_input.specs.InForce.{last_where}
-use Rattle.hyd_rows_and_tables.proofs.FoundLemmas.{filter_more, filter_same}
-use Rattle.hyd_theorems_on_input.proofs.InForce.{last_where_push}
+use Rattle.hyd_spec_input.specs.SectionsAndTables.{is_of, rows_of}
+use Rattle.hyd_spec_input.specs.OptionsAndTimesInForce.{last_where}
+use Rattle.hyd_rows_and_tables.proofs.FirstWrongRowLemmas.{filter_more, filter_same}
+use Rattle.hyd_theorems_on_input.proofs.OptionsAndTimesInForce.{last_where_push}
 
 pub last_here : (section : Section) (p : Row → Bool) (rows : List Row) (k : ℕ) (row : Row)
     → slice_get rows k ≡ Some row → is_of section row ≡ true → p row ≡ true

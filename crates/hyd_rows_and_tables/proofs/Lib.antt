@@ -1,6 +1,6 @@
-pub mod FoundLemmas
-pub mod LeastLemmas
+pub mod FirstWrongRowLemmas
+pub mod EarlierOfTwoLemmas
 pub mod TableLemmas
-pub mod SectionLemmas
+pub mod WrongInSectionLemmas
 pub mod RowsSoFar
 pub mod LastLines

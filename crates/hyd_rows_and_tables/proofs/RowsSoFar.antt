@@ -5,7 +5,7 @@ use Rattle.std.proofs.lemmas.List.{map-append, append_assoc}
 use Rattle.hyd_spec_lines.specs.Lines.{Row, row_of, rows_in}
 use Rattle.hyd_spec_lines.specs.declared.line.Line.{Line}
 use Rattle.hyd_spec_lines.specs.declared.fault.LexFault.{LexFault}
-use Rattle.hyd_rows_and_tables.specs.FirstWrongRow.{rows_at}
+use Rattle.hyd_rows_and_tables.specs.RowsOfLines.{rows_at}
 
 -- one more line was gathered, and what is left no longer begins with its row
 pub one_more : (text : List ℕ) (lines : List Line) (line : Line) (after : List (Result Row LexFault)) (all : List Row)

@@ -14,9 +14,9 @@ use Rattle.std.proofs.lemmas.Option.{slice_get-map, slice_get_read}
 use Rattle.std.proofs.lemmas.Map.Views.{Contains-from_any, list_any-from_Contains}
 use Rattle.hyd_spec_lines.specs.Lines.{Row, row_of, LiesIn}
 use Rattle.hyd_spec_lines.specs.declared.line.Line.{Line}
-use Rattle.hyd_spec_input.specs.Tables.{own_id, row_with, has_id}
-use Rattle.hyd_spec_input.specs.InForce.{or_earlier}
-use Rattle.hyd_rows_and_tables.specs.FirstWrongRow.{rows_at}
+use Rattle.hyd_spec_input.specs.SectionsAndTables.{own_id, row_with, has_id}
+use Rattle.hyd_spec_input.specs.OptionsAndTimesInForce.{or_earlier}
+use Rattle.hyd_rows_and_tables.specs.RowsOfLines.{rows_at}
 use Rattle.hyd_rows_and_tables.specs.IdTables.{AreFirsts}
 
 abbrev pub is_there : Option Row → Bool

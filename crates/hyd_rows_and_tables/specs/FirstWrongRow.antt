@@ -1,19 +1,9 @@
 -- The first wrong row among the first rows of a file.
-use Rattle.std.specs.Prelude.{◌≡◌, ℕ, ◌<◌, ◌⊎◌, Bool, true, List, Option, Some, None, slice_get, map, nat_lt}
+use Rattle.std.specs.Prelude.{◌≡◌, ℕ, ◌<◌, ◌⊎◌, Bool, true, List, Option, Some, None, slice_get, nat_lt}
 use Rattle.std.specs.Prelude.{if◌then◌else◌}
-use Rattle.std.specs.Option.{option_map}
-use Rattle.hyd_spec_lines.specs.Lines.{Row, row_of}
-use Rattle.hyd_spec_lines.specs.declared.line.Line.{Line}
+use Rattle.hyd_spec_lines.specs.Lines.{Row}
 use Rattle.hyd_net.specs.declared.refusal_cause.Cause.{Cause}
 use Rattle.hyd_rows_and_tables.specs.declared.first_wrong.Found.{Found}
-
--- the rows that lines of a text stand for
-abbrev pub rows_at : List ℕ → List Line → List Row
-rows_at text lines = map (row_of text) lines
-
--- the row of a line that may be there
-abbrev pub row_in : List ℕ → Option Line → Option Row
-row_in text line = option_map (row_of text) line
 
 -- the first row that is wrong: its place, line and cause
 pub record IsFirstAt (rows : List Row) (Wrong : ℕ → Cause → Type 0) (found : Found) : Type 0 where

@@ -1,10 +1,10 @@
--- Tables of IDs.
+-- Tables of IDs, and tables and lists with nothing in them.
 use Rattle.std.specs.Prelude.{◌≡◌, ℕ, List, map, length, Option, None, []}
 use Rattle.std.specs.List.{All}
 use Rattle.hyd_spec_lines.specs.Lines.{Row, LiesIn}
 use Rattle.hyd_spec_lines.specs.declared.line.Line.{Line}
-use Rattle.hyd_spec_input.specs.Tables.{own_id, row_with}
-use Rattle.hyd_rows_and_tables.specs.FirstWrongRow.{rows_at}
+use Rattle.hyd_spec_input.specs.SectionsAndTables.{own_id, row_with}
+use Rattle.hyd_rows_and_tables.specs.RowsOfLines.{rows_at}
 use Rattle.hyd_rows_and_tables.specs.declared.id_table.Table.{Table}
 use Rattle.hyd_net.specs.ListView.{ListView}
 

@@ -3,7 +3,7 @@ use Rattle.std.specs.Prelude.{◌≡◌, ℕ, List, Option, Some, None}
 use Rattle.hyd_spec_lines.specs.Lines.{Row}
 use Rattle.hyd_spec_lines.specs.declared.section.Section.{Section}
 use Rattle.hyd_spec_input.specs.Faults.{IsWrongWithOthers}
-use Rattle.hyd_spec_input.specs.Tables.{is_of}
+use Rattle.hyd_spec_input.specs.SectionsAndTables.{is_of}
 use Rattle.hyd_net.specs.declared.refusal_cause.Cause.{Cause}
 use Rattle.hyd_net.specs.declared.refusal_cause.Cause.TheVariants.{Limit}
 use Rattle.hyd_rows_and_tables.specs.FirstWrongRow.{IsWrongAmong}

@@ -4,7 +4,7 @@
 ghost use Rattle.std.specs.Prelude.{◌≡◌, ◌^◌, ◌≤◌, length, IfOk};
 ghost use Rattle.std.specs.List.{All};
 ghost use Rattle.hyd_spec_lines.specs.Lines.{LiesIn, items_of, rows_in, fault_in};
-ghost use Rattle.hyd_rows_and_tables.specs.FirstWrongRow.{rows_at};
+ghost use Rattle.hyd_rows_and_tables.specs.RowsOfLines.{rows_at};
 
 use hyd_lex::{LexFault, Line, Lines};
 use hyd_net::OutOfMemory;

@@ -4,8 +4,8 @@
 ghost use Rattle.std.specs.Prelude.{◌≡◌, ◌^◌, ◌<◌, ◌≤◌, ◌+◌, [], ◌∷◌, ◌++◌, ℕ, List, length, not, if◌then◌else◌, Some};
 ghost use Rattle.std.specs.Prelude.{None, IfOk, IfSome, IfNone};
 ghost use Rattle.hyd_spec_lines.specs.Lines.{LiesIn, row_of, Row};
-ghost use Rattle.hyd_spec_input.specs.Tables as table;
-ghost use Rattle.hyd_spec_input.specs.Tables.{row_with, has_id};
+ghost use Rattle.hyd_spec_input.specs.SectionsAndTables as table;
+ghost use Rattle.hyd_spec_input.specs.SectionsAndTables.{row_with, has_id};
 ghost use Rattle.hyd_rows_and_tables.specs.IdTables.{IsTable, IsEven};
 
 use hyd_lex::{Line, Lines};

@@ -1,4 +1,4 @@
-//! Ranges of quantities in ticks.
+//! Whether quantities lie in their ranges, in ticks.
 #![tactic(auto)]
 
 ghost use Rattle.std.specs.Prelude.{◌≡◌};

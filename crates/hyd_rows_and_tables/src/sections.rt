@@ -2,7 +2,7 @@
 #![tactic(auto)]
 
 ghost use Rattle.std.specs.Prelude.{◌≡◌, ◌==◌};
-ghost use Rattle.hyd_spec_input.specs.Tables.{place as section_place};
+ghost use Rattle.hyd_spec_input.specs.SectionsAndTables.{place as section_place};
 
 use hyd_lex::Section;
 

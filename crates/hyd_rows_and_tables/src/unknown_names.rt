@@ -1,12 +1,12 @@
-//! Names that rows give.
+//! Whether the names that rows give stand in their tables, and the causes where they don't.
 #![tactic(auto)]
 
-ghost use Rattle.std.specs.Prelude.{◌≡◌, List, ℕ};
+ghost use Rattle.std.specs.Prelude.{◌≡◌, List};
 ghost use Rattle.hyd_spec_lines.specs.WordsOfLines.{text_of};
 ghost use Rattle.hyd_spec_lines.specs.Lines.{Row};
 ghost use Rattle.hyd_spec_lines.specs.declared.section.Section.TheVariants.{Curves, Patterns};
-ghost use Rattle.hyd_spec_input.specs.Tables.{has_id, rows_of, node_rows};
-ghost use Rattle.hyd_spec_input.specs.RowsTogether as others;
+ghost use Rattle.hyd_spec_input.specs.SectionsAndTables.{has_id, rows_of, node_rows};
+ghost use Rattle.hyd_spec_input.specs.FaultsWithOtherRows as others;
 ghost use Rattle.hyd_rows_and_tables.specs.IdTables.{IsTable, IsEven};
 
 use crate::id_table::Table;

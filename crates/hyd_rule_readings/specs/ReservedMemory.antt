@@ -1,5 +1,5 @@
--- Readings of no period, and the room that readings have.
-use Rattle.std.specs.Prelude.{◌≡◌, List, [], length}
+-- The room that readings have, and readings of no period.
+use Rattle.std.specs.Prelude.{◌≡◌, [], length}
 use Rattle.hyd_spec.specs.ProgramTypes.{Project}
 use Rattle.hyd_spec.specs.NodeNumbers.{nodes_before_tanks}
 use Rattle.hyd_period_facts.specs.ReservedMemory.{Takes}

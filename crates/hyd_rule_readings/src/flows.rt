@@ -1,8 +1,8 @@
-//! Flows of links.
+//! The flows of links that rules look at.
 #![tactic(auto)]
 
 ghost use Rattle.std.specs.Prelude.{◌≡◌, ◌<◌, ◌≤◌, ◌+◌, ◌++◌, ◌∷◌, [], pos, length, map, All};
-ghost use Rattle.hyd_spec_certificates.specs.Spans.{flows_of};
+ghost use Rattle.hyd_spec_certificates.specs.SpansAsIntervals.{flows_of};
 ghost use Rattle.hyd_spec_certificates.specs.declared.Problem.TheVariants.{Main};
 ghost use Rattle.hyd_spec_certificates.specs.declared.Side.TheVariants.{Upper, Lower};
 ghost use Rattle.hyd_spec_certificates.specs.PeriodNetwork.{all_heads};

@@ -1,4 +1,4 @@
-//! Heads of junctions and of reservoirs.
+//! The heads of junctions and of reservoirs that rules look at.
 #![tactic(auto)]
 
 ghost use Rattle.std.specs.Prelude.{◌≡◌, ◌<◌, ◌≤◌, ◌+◌, ◌++◌, ◌∷◌, [], Some, length, slice_get};

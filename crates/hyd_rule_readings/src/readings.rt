@@ -1,6 +1,6 @@
-//! Heads and flows of a period.
+//! The heads and flows of a period that rules look at.
 
-ghost use Rattle.std.specs.Prelude.{pos, length, IfOk, All};
+ghost use Rattle.std.specs.Prelude.{pos, IfOk, All};
 ghost use Rattle.hyd_net.specs.Sound.{IsSound};
 
 use crate::flows::put_flows;
@@ -31,7 +31,7 @@ impl Readings {
     ghost use Rattle.hyd_period_network.specs.NetsSetToPeriods.{IsNetOf};
     ghost use Rattle.hyd_bounds.specs.VectorsInOrder.{IsVector, AreInOrder};
     ghost use Rattle.hyd_controls_and_rules.specs.RuleReadings.{IsBounded};
-    ghost use Rattle.hyd_rules_in_period.specs.Trial.{AreRead};
+    ghost use Rattle.hyd_rules_at_instant.specs.Readings.{AreRead};
     ghost use Rattle.hyd_rule_readings.specs.ReservedMemory.{HasRoom, AreNone};
 
     /// Readings of no period, with room for those of each period of a network: filling them takes no memory.

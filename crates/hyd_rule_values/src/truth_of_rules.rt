@@ -7,7 +7,7 @@ ghost use Rattle.hyd_net.specs.Sound.{IsSound};
 ghost use Rattle.hyd_spec.specs.ProgramTypes.{Rule};
 ghost use Rattle.hyd_spec.specs.NodeNumbers.{nodes_before_tanks, tank_count};
 ghost use Rattle.hyd_spec.specs.Rules.{Readings};
-ghost use Rattle.hyd_spec_certificates.specs.Spans.{levels_of, flows_of};
+ghost use Rattle.hyd_spec_certificates.specs.SpansAsIntervals.{levels_of, flows_of};
 ghost use Rattle.hyd_controls_and_rules.specs.AlikeButTankHeads.{AreAlike};
 ghost use Rattle.hyd_controls_and_rules.specs.RuleReadings.{IsBounded, lower_readings};
 ghost use Rattle.hyd_controls_and_rules.specs.RuleReadings.{upper_readings};

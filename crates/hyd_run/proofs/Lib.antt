@@ -2,4 +2,4 @@ pub mod PenLemmas
 pub mod PeriodLemmas
 pub mod RunLemmas
 pub mod StepLemmas
-pub mod EndLemmas
+pub mod WholeRunLemmas

@@ -15,7 +15,7 @@ use Rattle.hyd_spec_certificates.specs.Certificate.{IsCertificate}
 use Rattle.hyd_spec_certificates.specs.RecordAndStanding.{Record, Standing, Vectors, no_vectors}
 use Rattle.hyd_spec_certificates.specs.Valid.{AreCertificates, IsValid, LeadsOn, continues, finishes}
 use Rattle.hyd_spec_reports.specs.CertificateText.{IsRow, IsVector as IsRowVector}
-use Rattle.hyd_theorems_on_definitions.specs.TermsOfTheorems.{IsSteady, TanksInOrder}
+use Rattle.hyd_theorems_on_definitions.specs.SoundLawsAndGrids.{IsSteady, TanksInOrder}
 use Rattle.hyd_theorems_on_definitions.proofs.HeadLists.{fixed-in-order, ends-in-order}
 use Rattle.hyd_theorems_on_nesting.proofs.TwoSides.{heads_below_plus}
 use Rattle.hyd_period_network.specs.NetAsPeriodNetwork.{grid_of}
@@ -25,8 +25,8 @@ use Rattle.hyd_period_network.proofs.GridJunctionsAndLinks.{junctions_count, lin
 use Rattle.hyd_period_network.proofs.NetOfSoundProject.{long_zipped}
 use Rattle.hyd_period_facts.specs.declared.facts.Facts.{Facts}
 use Rattle.hyd_report.specs.PeriodLines.{AreBounds, AreTankFacts}
-use Rattle.hyd_watched_levels.specs.FactsBeforeEnd.{HaveTanks}
-use Rattle.hyd_sim.specs.View.{SimView, IsSim, standing_of}
+use Rattle.hyd_period_facts.specs.FactsBeforeEnd.{HaveTanks}
+use Rattle.hyd_sim.specs.RunView.{SimView, IsSim, standing_of}
 use Rattle.hyd_run.specs.Runs.{periods_left}
 
 -- ---- bounds

@@ -12,7 +12,7 @@ use Rattle.hyd_period_network.specs.NetsSetToPeriods.{IsNetOf}
 use Rattle.hyd_report.specs.PeriodLines.{AreTankFacts, lines_of}
 use Rattle.hyd_report.proofs.ReportLemmas.{lines_are_report}
 use Rattle.hyd_io.specs.declared.output.OutFault.{OutFault}
-use Rattle.hyd_sim.specs.View.{SimView, IsSim, standing_of}
+use Rattle.hyd_sim.specs.RunView.{SimView, IsSim, standing_of}
 use Rattle.hyd_sim.specs.Steps.{IsPeriod}
 use Rattle.hyd_sim.specs.declared.settings.Settings.{Settings}
 use Rattle.hyd_net.specs.Sound.{IsSound}
@@ -28,7 +28,7 @@ use Rattle.hyd_run.specs.Runs.{sharpness_of, IsStep, IsSoFar, IsCutShort, DidPer
 use Rattle.hyd_spec_reports.specs.PromisesOfRunsAndChecks.{Outcome}
 use Rattle.hyd_run.proofs.PeriodLemmas.{tank-facts-of, row-fits, grid-count, number-next, each-link, fewer-left}
 use Rattle.hyd_run.proofs.RunLemmas.{so-far-more, so-far-cut-off}
-use Rattle.hyd_theorems_on_definitions.specs.TermsOfTheorems.{TanksInOrder}
+use Rattle.hyd_theorems_on_definitions.specs.SoundLawsAndGrids.{TanksInOrder}
 
 -- what a period found
 abbrev pub found-of : SimView → SimView → Found

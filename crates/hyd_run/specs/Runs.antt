@@ -17,7 +17,7 @@ use Rattle.hyd_io.specs.declared.output.OutFault.{OutFault}
 use Rattle.hyd_io.specs.Output.{PenState}
 use Rattle.hyd_io.specs.DeskBytes.{append_known}
 use Rattle.hyd_sim.specs.declared.settings.Settings.{Settings}
-use Rattle.hyd_sim.specs.View.{SimView, standing_of}
+use Rattle.hyd_sim.specs.RunView.{SimView, standing_of}
 use Rattle.hyd_run.specs.Pens.{Told, RunMoment, PutIn, IsCutOff}
 use Rattle.hyd_run.specs.declared.outcome.RunEnd.{RunEnd}
 use Rattle.hyd_run.specs.declared.outcome.RunEnd.TheVariants.{Finished as EndFinished, Stopped as EndStopped}

@@ -3,13 +3,13 @@
 //! of a report, and the emptying of a pen.
 #![tactic(auto)]
 
-mod first_lines_and_emptying;
+mod first_lines_and_emptied_pens;
 mod outcome;
 mod period_and_last_lines;
 mod steps;
 mod whole_run;
 
-pub use first_lines_and_emptying::{empty, put_first};
+pub use first_lines_and_emptied_pens::{empty, put_first};
 pub use outcome::{RunEnd, is_finished};
 pub use period_and_last_lines::put_last_line;
 pub use whole_run::run;

@@ -1,4 +1,4 @@
-//! The steps of a run.
+//! The steps of a run, each put into the certificate and the report.
 #![tactic(auto)]
 
 ghost use Rattle.std.specs.Prelude.{◌≡◌, OnOk};

@@ -1,10 +1,10 @@
-//! A run.
+//! A whole run, put out through two pens.
 #![tactic(auto)]
 
 ghost use Rattle.std.specs.Prelude.{◌≡◌, IsTrue, IfOk, IfErr, OnOk};
 ghost use Rattle.hyd_io.specs.declared.output.Channel.TheVariants.{Cert, Report};
 ghost use Rattle.hyd_spec_certificates.specs.RecordAndStanding.{initial_standing};
-ghost use Rattle.hyd_sim.specs.View.{standing_of};
+ghost use Rattle.hyd_sim.specs.RunView.{standing_of};
 ghost use Rattle.hyd_net.specs.Sound.{IsSound};
 ghost use Rattle.hyd_spec.specs.ProgramTypes.{Project};
 ghost use Rattle.hyd_spec_reports.specs.PromisesOfRunsAndChecks.{EndsSo};
@@ -12,7 +12,7 @@ ghost use Rattle.hyd_sim.specs.declared.settings.Settings.{Settings};
 ghost use Rattle.hyd_run.specs.Pens.{RunMoment, told, moment, AreOpen, OneRose, LeavesRest};
 ghost use Rattle.hyd_run.specs.Runs.{fresh, outcome_of, sharpness_of, IsSoFar, IsWhole, IsPutOut, IsBrokenOff, RunPuts};
 
-use crate::first_lines_and_emptying::{empty_both, put_front};
+use crate::first_lines_and_emptied_pens::{empty_both, put_front};
 use crate::outcome::RunEnd;
 use crate::period_and_last_lines::put_last;
 use crate::steps::put_steps;

@@ -5,7 +5,7 @@ use Rattle.std.specs.Prelude.{Option, Result, Ok, Err, OnOk, MatchBool}
 use Rattle.std.proofs.lemmas.List.{length-map}
 use Rattle.hyd_spec.specs.ProgramTypes.{Project, Tank}
 use Rattle.hyd_spec.specs.NodeNumbers.{junction_count, tank_count}
-use Rattle.hyd_spec_certificates.specs.Spans.{levels_of}
+use Rattle.hyd_spec_certificates.specs.SpansAsIntervals.{levels_of}
 use Rattle.hyd_spec_certificates.specs.declared.Problem.TheVariants.{Main}
 use Rattle.hyd_spec_certificates.specs.declared.Side.TheVariants.{Upper, Lower}
 use Rattle.hyd_spec_certificates.specs.Interval.{Interval}
@@ -15,7 +15,7 @@ use Rattle.hyd_spec_certificates.specs.RecordAndStanding.{Record, Standing}
 use Rattle.hyd_spec_certificates.specs.Valid.{AreCertificates, IsGridAt, IsValid, LeadsOn, continues, finishes}
 use Rattle.hyd_spec_certificates.specs.Valid.{stocks_next}
 use Rattle.hyd_spec_reports.specs.Stops.{Stops}
-use Rattle.hyd_theorems_on_definitions.specs.TermsOfTheorems.{IsSteady, TanksInOrder}
+use Rattle.hyd_theorems_on_definitions.specs.SoundLawsAndGrids.{IsSteady, TanksInOrder}
 use Rattle.hyd_theorems_on_definitions.proofs.OneRun.{one_grid}
 use Rattle.hyd_cert.specs.RecordView.{row_of}
 use Rattle.hyd_cert.specs.declared.record.Record.{Record as Row}
@@ -25,19 +25,20 @@ use Rattle.hyd_period_network.specs.NetView.{NetView}
 use Rattle.hyd_period_end.specs.FactsBeforeVectors.{AreBegun, AreReady}
 use Rattle.hyd_period_end.specs.OpenMatters.{SharesVectors, IsOpenAt}
 use Rattle.hyd_period_end.specs.declared.period_end.PeriodEnd.{PeriodEnd}
-use Rattle.hyd_period_vectors.specs.Vectors.{HaveSame}
+use Rattle.hyd_period_vectors.specs.SoughtVectors.{HaveSame}
 use Rattle.hyd_sim.specs.PeriodAttempt.{AreSought, IsFault, IsMade, IsStarted, fault_stop_of, later_standing}
 use Rattle.hyd_sim.specs.PeriodAttempt.{next_standing}
 use Rattle.hyd_sim.specs.NarrowRecordsAndStops.{AreNarrow}
 use Rattle.hyd_sim.specs.Steps.{AreTight, AreToldOrLeft, IsAdvanced, IsDone, IsProposal, IsSharp, IsSharpAsSought}
-use Rattle.hyd_sim.specs.View.{IsStanding, standing_for}
+use Rattle.hyd_sim.specs.RunView.{IsStanding, standing_for}
 use Rattle.hyd_sim.specs.declared.settings.Settings.{Settings}
-use Rattle.hyd_sim.specs.declared.attempt.Fault.{Fault}
-use Rattle.hyd_sim.specs.declared.attempt.Fault.TheVariants.{Lack, Open}
+use Rattle.hyd_sim.specs.declared.period_attempt.Fault.{Fault}
+use Rattle.hyd_sim.specs.declared.period_attempt.Fault.TheVariants.{Lack, Open}
 use Rattle.hyd_sim.specs.declared.standing_between_periods.Standing.{Standing as Here}
 use Rattle.hyd_sim.proofs.MissingVectors.{lacks-one, same-as-given}
-use Rattle.hyd_sim.proofs.Proposed.{shares, none-open-at, same-row, same-next}
-use Rattle.hyd_sim.proofs.StopsAndNextStandings.{at-later, lack-stops, open-stops, tight-of, tight-row}
+use Rattle.hyd_sim.proofs.ProposedRecordIsTaken.{shares, none-open-at, same-row, same-next}
+use Rattle.hyd_sim.proofs.StopsAndTightRecords.{lack-stops, open-stops, tight-of, tight-row}
+use Rattle.hyd_sim.proofs.StandingAfter.{at-later}
 use Rattle.hyd_lemmas.proofs.ListsOptionsAndResults.{as_long}
 
 -- ---- narrow records

@@ -6,14 +6,14 @@ use Rattle.hyd_spec_certificates.specs.declared.Problem.{Problem}
 use Rattle.hyd_spec_certificates.specs.declared.Problem.TheVariants.{Main, Pinned}
 use Rattle.hyd_spec_certificates.specs.declared.Side.{Side}
 use Rattle.hyd_spec_certificates.specs.RecordAndStanding.{Record, vector_of}
-use Rattle.hyd_spec_reports.specs.Stops.{turn}
+use Rattle.hyd_spec_reports.specs.TurnsOfProblems.{turn}
 use Rattle.hyd_cert.specs.RecordView.{row_of, IsProblemOf}
-use Rattle.hyd_cert.specs.Vectors.{place_in}
+use Rattle.hyd_cert.specs.VectorsOfRecord.{place_in}
 use Rattle.hyd_cert.specs.declared.record.Record.{Record as Row}
 use Rattle.hyd_cert.proofs.VectorLemmas.{vector_at, vector_within}
 use Rattle.hyd_period_network.specs.NetView.{NetView}
-use Rattle.hyd_period_network.specs.NetInvariant.{HasProblem}
-use Rattle.hyd_period_vectors.specs.Vectors.{EachBefore}
+use Rattle.hyd_period_network.specs.SoundNets.{HasProblem}
+use Rattle.hyd_period_vectors.specs.SoughtVectors.{EachBefore}
 use Rattle.hyd_period_vectors.proofs.VectorsInTurn.{own-turn}
 
 -- a problem of a net is one of its tanks

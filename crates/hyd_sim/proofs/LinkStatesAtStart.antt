@@ -6,12 +6,12 @@ use Rattle.std.specs.Prelude.{Result, Ok, Err, OnOk, IfErr, is_err, slice_index_
 use Rattle.std.proofs.lemmas.List.{length-map}
 use Rattle.std.specs.List.{AllZip}
 use Rattle.std.proofs.lemmas.Bool.{true≢false}
-use Rattle.hyd_net.specs.States.{CanHave}
+use Rattle.hyd_net.specs.LinkStates.{CanHave}
 use Rattle.hyd_net.specs.RoundedFileNumbers.{IsStateMade}
 use Rattle.hyd_spec.specs.ProgramTypes.{Project, Link, LinkState}
 use Rattle.hyd_theorems_on_histories.specs.Agreement.{IsOwnState}
 use Rattle.hyd_spec.specs.Tank.{walls_of}
-use Rattle.hyd_spec_certificates.specs.Spans.{levels_of}
+use Rattle.hyd_spec_certificates.specs.SpansAsIntervals.{levels_of}
 use Rattle.hyd_spec_certificates.specs.Valid.{ControlsAreDecided}
 use Rattle.hyd_spec_certificates.specs.declared.LevelSpan.{LevelSpan}
 use Rattle.hyd_tank.specs.StockIntervals.{AreHeld, volumes_of}
@@ -23,7 +23,7 @@ use Rattle.hyd_period_facts.specs.declared.facts.Facts.{Facts}
 use Rattle.hyd_period_network.specs.LawsInSettings.{AreStates}
 use Rattle.hyd_period_stocks.specs.TankStart.{stocks_among}
 use Rattle.hyd_period_end.specs.FactsBeforeVectors.{AreReady}
-use Rattle.hyd_sim.specs.View.{IsStanding}
+use Rattle.hyd_sim.specs.RunView.{IsStanding}
 use Rattle.hyd_sim.specs.declared.standing_between_periods.Standing.{Standing as Here}
 use Rattle.hyd_theorems_on_definitions.proofs.OneRefusal.{controls-decided}
 

@@ -1,4 +1,4 @@
--- What is lacking.
+-- The first problem and side that lacks a vector, and why it does.
 use Rattle.std.proofs.Common.{◌≡◌, ℕ, ℤ, Bool, false, List, length, inl, inr}
 use Rattle.std.specs.Prelude.{◌⊎◌, Result, Ok, Err, OnOk, IfErr, Option}
 use Rattle.hyd_spec_certificates.specs.declared.Problem.{Problem}
@@ -8,10 +8,10 @@ use Rattle.hyd_spec_certificates.specs.declared.Side.TheVariants.{Upper}
 use Rattle.hyd_spec_certificates.specs.PeriodNetwork.{Grid}
 use Rattle.hyd_spec_certificates.specs.Certificate.{IsCertificate}
 use Rattle.hyd_spec_certificates.specs.RecordAndStanding.{Record, vector_of}
-use Rattle.hyd_theorems_on_definitions.specs.TermsOfTheorems.{IsSteady, TanksInOrder}
+use Rattle.hyd_theorems_on_definitions.specs.SoundLawsAndGrids.{IsSteady, TanksInOrder}
 use Rattle.hyd_theorems_on_definitions.proofs.OneStandingAndTightVector.{one_vector}
-use Rattle.hyd_period_vectors.specs.Vectors.{IsAtHand, IsFound, IsReached, IsSought, IsTold, Comes, Tells}
-use Rattle.hyd_period_vectors.specs.Vectors.{Lacks, AreTold, HaveSame, LacksFirst, OfEach}
+use Rattle.hyd_period_vectors.specs.SoughtVectors.{IsAtHand, IsFound, IsReached, IsSought, IsTold, Comes, Tells}
+use Rattle.hyd_period_vectors.specs.SoughtVectors.{Lacks, AreTold, HaveSame, LacksFirst, OfEach}
 use Rattle.hyd_period_vectors.specs.declared.missing_vector.Lack.{Lack}
 use Rattle.hyd_period_vectors.specs.declared.missing_vector.Lack.TheVariants.{NoCertificate, RoundsSpent}
 use Rattle.hyd_sim.specs.PeriodAttempt.{AreSought}

@@ -5,13 +5,13 @@ use Rattle.hyd_spec_certificates.specs.declared.Problem.{Problem}
 use Rattle.hyd_spec_certificates.specs.declared.Side.{Side}
 use Rattle.hyd_spec_certificates.specs.PeriodNetwork.{Grid}
 use Rattle.hyd_spec_certificates.specs.Certificate.{IsCertificate, IsTight}
-use Rattle.hyd_spec_certificates.specs.SearchSteps.{IsStart}
-use Rattle.hyd_theorems_on_definitions.specs.TermsOfTheorems.{IsSteady, TanksInOrder}
-use Rattle.hyd_theorems_on_raises.proofs.Beginnings.{start-end}
+use Rattle.hyd_spec_certificates.specs.StartsRaisesAndLeaps.{IsStart}
+use Rattle.hyd_theorems_on_definitions.specs.SoundLawsAndGrids.{IsSteady, TanksInOrder}
+use Rattle.hyd_theorems_on_raises.proofs.SearchStarts.{start-end}
 use Rattle.hyd_theorems_on_raises.proofs.RaisesAndTightVector.{start-tight}
 use Rattle.hyd_sweep.specs.LeapingRounds.{AreLeapingRounds, no_round, one_round}
 use Rattle.hyd_sweep.proofs.RaisesRoundsAndSweeps.{round-start}
-use Rattle.hyd_period_vectors.specs.Vectors.{IsAtHand, IsReached}
+use Rattle.hyd_period_vectors.specs.SoughtVectors.{IsAtHand, IsReached}
 use Rattle.hyd_period_vectors.proofs.StartFromOtherSide.{start-across}
 
 module _ (grid : Grid) (steady : IsSteady grid) (order : TanksInOrder grid) (problem : Problem) (side : Side) where

@@ -1,14 +1,14 @@
 -- The standing behind a period.
-use Rattle.std.proofs.Common.{◌≡◌, ◌≢◌, suc, ◌+◌, ◌^◌, ◌≤◌, true, false, length, sym, subst}
-use Rattle.std.proofs.Common.{◌∙◌, arith}
-use Rattle.std.proofs.lemmas.Bool.{true≢false}
+use Rattle.std.proofs.Common.{◌≡◌, ◌≢◌, suc, ◌+◌, ◌^◌, ◌≤◌, true, false, length, sym, subst, ◌∙◌, arith, ℕ, Bool, ap}
+use Rattle.std.proofs.Common.{eq-eqb}
+use Rattle.std.proofs.lemmas.Bool.{true≢false, ne_eqb}
 use Rattle.hyd_net.specs.Sound.{IsSound}
 use Rattle.hyd_spec.specs.ProgramTypes.{Project}
 use Rattle.hyd_spec_certificates.specs.RecordAndStanding.{Standing}
 use Rattle.hyd_spec_certificates.specs.Valid.{IsValid, LeadsOn, Continues, continues, finishes}
 use Rattle.hyd_theorems_on_histories.specs.Agreement.{IsKept}
 use Rattle.hyd_theorems_on_histories.proofs.AgreementAfterPeriod.{kept_next}
-use Rattle.hyd_theorems_on_nesting.specs.Nesting.{IsTidy}
+use Rattle.hyd_theorems_on_nesting.specs.StandingsOfRuns.{IsTidy}
 use Rattle.hyd_theorems_on_nesting.proofs.TightVectorsDecide.{tidy_next}
 use Rattle.hyd_cert.specs.RecordView.{row_of}
 use Rattle.hyd_cert.specs.declared.record.Record.{Record as Row}
@@ -18,11 +18,11 @@ use Rattle.hyd_period_network.specs.NetView.{NetView}
 use Rattle.hyd_period_stocks.specs.ReservedMemory.{HasRoom as HasNextRoom}
 use Rattle.hyd_period_end.specs.EndOfPeriod.{HasRoom, AreKeptIn}
 use Rattle.hyd_period_end.specs.declared.period_end.PeriodEnd.{PeriodEnd}
-use Rattle.hyd_sim.specs.PeriodAttempt.{IsMade, later_standing}
-use Rattle.hyd_sim.specs.View.{IsStanding, standing_at, standing_for}
+use Rattle.hyd_sim.specs.PeriodAttempt.{IsMade, later_standing, next_standing, last_standing}
+use Rattle.hyd_sim.specs.RunView.{IsStanding, standing_at, standing_for}
 use Rattle.hyd_sim.specs.declared.standing_between_periods.Standing.{Standing as Here}
-use Rattle.hyd_sim.proofs.StopsAndNextStandings.{at-later}
 use Rattle.hyd_sim.proofs.LinkStatesAtStart.{zip-length}
+use Rattle.std.specs.Prelude.{if◌then◌else◌}
 
 -- no more periods were done than seconds are over, so their number is small
 pub small-number : (project : Project) (here : Here) → IsSound project → IsStanding project here → here.finished ≡ false
@@ -32,6 +32,20 @@ small-number project here sound is unfinished =
     let within = is.tidy.in_time in
     let short = sound.times.duration in
     omega (arith, few, within, short)
+
+-- ---- which standing is behind a period
+
+pub at-last : (project : Project) (here : Here) (seconds : ℕ) (close : PeriodEnd) → here.time ≡ project.times.duration
+    → next_standing project here seconds close ≡ last_standing here
+at-last project here seconds close e =
+    ap (λ (b : Bool). if b then last_standing here else later_standing here seconds close)
+    (eq-eqb here.time project.times.duration e)
+
+pub at-later : (project : Project) (here : Here) (seconds : ℕ) (close : PeriodEnd) → here.time ≢ project.times.duration
+    → next_standing project here seconds close ≡ later_standing here seconds close
+at-later project here seconds close e =
+    ap (λ (b : Bool). if b then last_standing here else later_standing here seconds close)
+    (ne_eqb here.time project.times.duration e)
 
 -- ---- behind the period at the end of the run
 

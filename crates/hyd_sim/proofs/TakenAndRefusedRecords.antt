@@ -20,23 +20,23 @@ use Rattle.hyd_spec_reports.specs.RefusedRecords.{HasOtherLength, at_end, before
 use Rattle.hyd_theorems_on_definitions.proofs.OneLength.{ends_again}
 use Rattle.hyd_theorems_on_definitions.proofs.OneRefusal.{refused_invalid}
 use Rattle.hyd_cert.specs.RecordView.{row_of, IsProblemOf}
-use Rattle.hyd_cert.specs.Vectors.{two_vectors, behind_two, problems_in}
+use Rattle.hyd_cert.specs.VectorsOfRecord.{two_vectors, behind_two, problems_in}
 use Rattle.hyd_cert.specs.declared.record.Record.{Record as Row}
 use Rattle.hyd_period_end.specs.OpenMatters.{SharesVectors, IsOpenAt}
 use Rattle.hyd_period_end.specs.declared.undecided.Open.{Open}
 use Rattle.hyd_period_end.specs.declared.undecided.Open.TheVariants.{Rule as RuleIsFound, Event as EventIsFound}
 use Rattle.hyd_period_end.specs.declared.undecided.Open.TheVariants.{Tank as TankIsFound, Control as ControlIsFound}
-use Rattle.hyd_rules_in_period.specs.Trial.{open_rule}
+use Rattle.hyd_rules_at_instant.specs.TriedRules.{open_rule}
 use Rattle.hyd_period_end.specs.declared.period_end.PeriodEnd.{PeriodEnd}
 use Rattle.hyd_period_facts.specs.declared.facts.Facts.{Facts}
 use Rattle.hyd_period_network.specs.NetView.{NetView}
 use Rattle.hyd_sim.specs.Acceptance.{FailsAt, IsTaken}
 use Rattle.hyd_sim.specs.PeriodAttempt.{IsMade, next_standing}
-use Rattle.hyd_sim.specs.View.{standing_for}
+use Rattle.hyd_sim.specs.RunView.{standing_for}
 use Rattle.hyd_sim.specs.declared.standing_between_periods.Standing.{Standing as Here}
 use Rattle.hyd_sim.specs.declared.given_vectors.Failing.{Failing}
-use Rattle.hyd_sim.proofs.Proposed.{same-record}
-use Rattle.hyd_sim.proofs.StopsAndNextStandings.{problem-of, problem-in}
+use Rattle.hyd_sim.proofs.ProposedRecordIsTaken.{same-record}
+use Rattle.hyd_sim.proofs.StopsAndTightRecords.{problem-of, problem-in}
 
 -- ---- vectors
 

@@ -1,4 +1,5 @@
--- What it gives to accept a record as that of the period that is due.
+-- What it brings where a record that is handed in is accepted as that of the period that is due, and why one is
+-- refused.
 -- Source: this program's.
 use Rattle.std.specs.Prelude.{◌≡◌, ℕ, None}
 use Rattle.hyd_spec.specs.ProgramTypes.{Project}
@@ -6,7 +7,7 @@ use Rattle.hyd_spec_certificates.specs.PeriodNetwork.{Grid}
 use Rattle.hyd_spec_certificates.specs.Certificate.{IsCertificate, FailsFirst}
 use Rattle.hyd_spec_certificates.specs.RecordAndStanding.{Record, Standing, vector_of}
 use Rattle.hyd_spec_certificates.specs.Valid.{IsValid}
-use Rattle.hyd_spec_reports.specs.Stops.{turn}
+use Rattle.hyd_spec_reports.specs.TurnsOfProblems.{turn}
 use Rattle.hyd_cert.specs.RecordView.{row_of, IsProblemOf}
 use Rattle.hyd_cert.specs.declared.record.Record.{Record as Row}
 use Rattle.hyd_period_facts.specs.FactsOfPeriod.{AreFacts}
@@ -14,11 +15,11 @@ use Rattle.hyd_period_facts.specs.declared.facts.Facts.{Facts}
 use Rattle.hyd_period_network.specs.NetAsPeriodNetwork.{grid_of, states_of}
 use Rattle.hyd_period_network.specs.NetView.{NetView}
 use Rattle.hyd_period_network.specs.LawsInSettings.{AreStates}
-use Rattle.hyd_watched_levels.specs.FactsBeforeEnd.{HaveTanks}
-use Rattle.hyd_period_vectors.specs.Vectors.{EachBefore}
-use Rattle.hyd_sim.specs.View.{SimView, standing_of}
+use Rattle.hyd_period_facts.specs.FactsBeforeEnd.{HaveTanks}
+use Rattle.hyd_period_vectors.specs.SoughtVectors.{EachBefore}
+use Rattle.hyd_sim.specs.RunView.{SimView, standing_of}
 use Rattle.hyd_sim.specs.declared.given_vectors.Failing.{Failing}
-use Rattle.hyd_theorems_on_definitions.specs.TermsOfTheorems.{TanksInOrder}
+use Rattle.hyd_theorems_on_definitions.specs.SoundLawsAndGrids.{TanksInOrder}
 
 -- the first vector of a record, in the order of problems and sides, that isn't a certificate, and the junction at which
 -- it fails first

@@ -1,5 +1,5 @@
 pub mod PeriodAttempt
 pub mod NarrowRecordsAndStops
-pub mod View
+pub mod RunView
 pub mod Steps
 pub mod Acceptance

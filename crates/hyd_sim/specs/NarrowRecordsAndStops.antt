@@ -10,14 +10,14 @@ use Rattle.hyd_spec_certificates.specs.Narrow.{widest}
 use Rattle.hyd_spec_certificates.specs.Decided.{nowhere}
 use Rattle.hyd_spec_certificates.specs.PeriodNetwork.{Grid}
 use Rattle.hyd_spec_certificates.specs.Certificate.{IsCertificate}
-use Rattle.hyd_spec_reports.specs.Stops.{turn}
+use Rattle.hyd_spec_reports.specs.TurnsOfProblems.{turn}
 use Rattle.hyd_spec_reports.specs.declared.StopCause.{StopCause}
 use Rattle.hyd_spec_reports.specs.declared.StopCause.TheVariants.{NoCertificate, RoundsSpent, RuleOpen, EventOpen}
 use Rattle.hyd_spec_reports.specs.declared.StopCause.TheVariants.{TankOpen, ControlOpen}
 use Rattle.hyd_cert.specs.RecordView.{IsProblemOf}
 use Rattle.hyd_period_end.specs.declared.undecided.Open.{Open}
 use Rattle.hyd_period_end.specs.declared.undecided.Open.TheVariants.{Rule, Event, Tank, Control}
-use Rattle.hyd_period_vectors.specs.Vectors.{Lacks}
+use Rattle.hyd_period_vectors.specs.SoughtVectors.{Lacks}
 use Rattle.hyd_period_vectors.specs.declared.missing_vector.Lack.{Lack}
 use Rattle.hyd_period_vectors.specs.declared.missing_vector.Lack.TheVariants.{NoCertificate as LacksCertificate}
 use Rattle.hyd_period_vectors.specs.declared.missing_vector.Lack.TheVariants.{RoundsSpent as SpentRounds}

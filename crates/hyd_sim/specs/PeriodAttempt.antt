@@ -18,14 +18,14 @@ use Rattle.hyd_period_end.specs.FactsBeforeVectors.{AreBegun, AreReady}
 use Rattle.hyd_period_end.specs.EndOfPeriod.{AreKeptIn}
 use Rattle.hyd_period_end.specs.OpenMatters.{IsOpenAt, SharesVectors}
 use Rattle.hyd_period_end.specs.declared.period_end.PeriodEnd.{PeriodEnd}
-use Rattle.hyd_watched_levels.specs.FactsBeforeEnd.{HaveTanks}
-use Rattle.hyd_period_vectors.specs.Vectors.{OfEach, IsSought, Comes, LacksFirst}
+use Rattle.hyd_period_facts.specs.FactsBeforeEnd.{HaveTanks}
+use Rattle.hyd_period_vectors.specs.SoughtVectors.{OfEach, IsSought, Comes, LacksFirst}
 use Rattle.hyd_sim.specs.NarrowRecordsAndStops.{stop_of, open_stop_of}
-use Rattle.hyd_sim.specs.View.{standing_at, standing_for}
-use Rattle.hyd_sim.specs.declared.attempt.Fault.{Fault}
-use Rattle.hyd_sim.specs.declared.attempt.Fault.TheVariants.{Lack, Open}
+use Rattle.hyd_sim.specs.RunView.{standing_at, standing_for}
+use Rattle.hyd_sim.specs.declared.period_attempt.Fault.{Fault}
+use Rattle.hyd_sim.specs.declared.period_attempt.Fault.TheVariants.{Lack, Open}
 use Rattle.hyd_sim.specs.declared.standing_between_periods.Standing.{Standing as Here}
-use Rattle.hyd_theorems_on_definitions.specs.TermsOfTheorems.{TanksInOrder}
+use Rattle.hyd_theorems_on_definitions.specs.SoundLawsAndGrids.{TanksInOrder}
 
 -- where the run ends, the standing after its last period: the stocks, the states and the commands stay
 abbrev pub last_standing : Here → Standing

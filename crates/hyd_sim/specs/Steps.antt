@@ -18,16 +18,16 @@ use Rattle.hyd_period_facts.specs.declared.facts.Facts.{Facts}
 use Rattle.hyd_period_network.specs.NetAsPeriodNetwork.{grid_of, states_of}
 use Rattle.hyd_period_network.specs.NetView.{NetView}
 use Rattle.hyd_period_network.specs.LawsInSettings.{AreStates}
-use Rattle.hyd_watched_levels.specs.FactsBeforeEnd.{HaveTanks}
+use Rattle.hyd_period_facts.specs.FactsBeforeEnd.{HaveTanks}
 use Rattle.hyd_period_end.specs.declared.period_end.PeriodEnd.{PeriodEnd}
-use Rattle.hyd_period_vectors.specs.Vectors.{IsTold, Tells, AreSpent, OfEach}
+use Rattle.hyd_period_vectors.specs.SoughtVectors.{IsTold, Tells, AreSpent, OfEach}
 use Rattle.hyd_sim.specs.PeriodAttempt.{next_standing, IsMade, AreSought}
-use Rattle.hyd_sim.specs.View.{SimView, standing_for, standing_of}
+use Rattle.hyd_sim.specs.RunView.{SimView, standing_for, standing_of}
 use Rattle.hyd_sim.specs.declared.settings.Settings.{Settings}
 use Rattle.hyd_sim.specs.declared.standing_between_periods.Standing.{Standing as Here}
 use Rattle.hyd_sim.specs.declared.steps.Step.{Step}
 use Rattle.hyd_sim.specs.declared.steps.Step.TheVariants.{Period, Finished, Stop}
-use Rattle.hyd_theorems_on_definitions.specs.TermsOfTheorems.{TanksInOrder}
+use Rattle.hyd_theorems_on_definitions.specs.SoundLawsAndGrids.{TanksInOrder}
 
 -- all vectors of a record are the tight ones
 abbrev pub AreTight : Project → Grid → Record → Type 0

@@ -1,4 +1,4 @@
-//! One period.
+//! The period that is due in a run: started, tried, and its record taken where it is narrow.
 #![tactic(auto)]
 
 ghost use Rattle.std.specs.Prelude.{◌≡◌, ◌≢◌, ℕ, length, true, false, Ok, IfOk, IfErr, IsOk, OnOk, OnErr};
@@ -13,15 +13,15 @@ ghost use Rattle.hyd_period_facts.specs.ReservedMemory.{HasRoom};
 ghost use Rattle.hyd_period_network.specs.NetAsPeriodNetwork.{grid_of};
 ghost use Rattle.hyd_period_network.specs.NetsSetToPeriods.{IsNetOf};
 ghost use Rattle.hyd_period_end.specs.EndOfPeriod.{HasRoom as HasCloseRoom};
-ghost use Rattle.hyd_period_vectors.specs.Vectors.{HaveSame};
+ghost use Rattle.hyd_period_vectors.specs.SoughtVectors.{HaveSame};
 ghost use Rattle.hyd_sim.specs.PeriodAttempt.{AreSought, IsMade, IsStarted, fault_stop_of, next_standing};
 ghost use Rattle.hyd_sim.specs.NarrowRecordsAndStops.{SaysNone};
 ghost use Rattle.hyd_sim.specs.Steps.{AreTight, IsAdvanced, IsDone, IsProposal};
-ghost use Rattle.hyd_sim.specs.View.{IsStanding, header_for, standing_for};
+ghost use Rattle.hyd_sim.specs.RunView.{IsStanding, header_for, standing_for};
 
-use crate::attempt::{Fault, try_period};
 use crate::facts_and_links_at_start::begin;
 use crate::narrow_records::are_narrow;
+use crate::period_attempt::{Fault, try_period};
 use crate::settings::Settings;
 use crate::standing_between_periods::Standing;
 use crate::stop_causes::{demand_stop, lack_fits, lack_stop, open_stop};

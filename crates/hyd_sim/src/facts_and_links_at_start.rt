@@ -1,18 +1,18 @@
-//! The start of a period.
+//! The facts and the states of links at the start of a period.
 #![tactic(auto)]
 
 ghost use Rattle.std.specs.Prelude.{◌≡◌, ◌≤◌, ◌+◌, length, map};
 ghost use Rattle.hyd_net.specs.Sound.{IsSound};
 ghost use Rattle.hyd_spec.specs.PumpPatternsAndSimpleControls.{started};
 ghost use Rattle.hyd_spec.specs.NodeNumbers.{tank_count};
-ghost use Rattle.hyd_spec_certificates.specs.Spans.{levels_of};
+ghost use Rattle.hyd_spec_certificates.specs.SpansAsIntervals.{levels_of};
 ghost use Rattle.hyd_spec_certificates.specs.Decided.{acts_on};
 ghost use Rattle.hyd_spec_certificates.specs.Valid.{ControlsAreDecided};
-ghost use Rattle.hyd_spec_reports.specs.Report.{start_changes};
+ghost use Rattle.hyd_spec_reports.specs.ChangesAtStart.{start_changes};
 ghost use Rattle.hyd_period_facts.specs.ReservedMemory.{HasRoom};
 ghost use Rattle.hyd_period_network.specs.LawsInSettings.{AreStates};
 ghost use Rattle.hyd_period_end.specs.FactsBeforeVectors.{AreBegun, AreReady};
-ghost use Rattle.hyd_sim.specs.View.{IsStanding, standing_for};
+ghost use Rattle.hyd_sim.specs.RunView.{IsStanding, standing_for};
 
 use crate::standing_between_periods::Standing;
 use hyd_controls_and_rules::{Changes, settle};

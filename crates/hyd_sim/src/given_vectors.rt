@@ -4,11 +4,11 @@
 ghost use Rattle.std.specs.Prelude.{◌≡◌, ◌+◌, length, IfErr, OnOk};
 ghost use Rattle.hyd_spec_certificates.specs.declared.Side.TheVariants.{Upper};
 ghost use Rattle.hyd_spec_certificates.specs.Certificate.{IsCertificate};
-ghost use Rattle.hyd_spec_reports.specs.Stops.{turn};
+ghost use Rattle.hyd_spec_reports.specs.TurnsOfProblems.{turn};
 ghost use Rattle.hyd_cert.specs.RecordView.{header_of, row_of};
 ghost use Rattle.hyd_period_network.specs.NetAsPeriodNetwork.{grid_of};
-ghost use Rattle.hyd_period_network.specs.NetInvariant.{HasProblem};
-ghost use Rattle.hyd_period_vectors.specs.Vectors.{EachBefore, OfEach, Fits, Stays};
+ghost use Rattle.hyd_period_network.specs.SoundNets.{HasProblem};
+ghost use Rattle.hyd_period_vectors.specs.SoughtVectors.{EachBefore, OfEach, Fits, Stays};
 ghost use Rattle.hyd_sim.specs.Acceptance.{FailsAt};
 
 use hyd_cert::Record;

@@ -12,13 +12,13 @@ ghost use Rattle.hyd_period_network.specs.NetAsPeriodNetwork.{grid_of};
 ghost use Rattle.hyd_period_network.specs.NetsSetToPeriods.{IsNetOf};
 ghost use Rattle.hyd_period_end.specs.EndOfPeriod.{HasRoom as HasCloseRoom};
 ghost use Rattle.hyd_period_end.specs.OpenMatters.{SharesVectors};
-ghost use Rattle.hyd_period_vectors.specs.Vectors.{Stays};
+ghost use Rattle.hyd_period_vectors.specs.SoughtVectors.{Stays};
 ghost use Rattle.hyd_sim.specs.Acceptance.{IsAccepted, IsTaken};
 ghost use Rattle.hyd_sim.specs.PeriodAttempt.{IsMade, IsStarted};
-ghost use Rattle.hyd_sim.specs.View.{IsStanding, header_for, standing_for, standing_of};
+ghost use Rattle.hyd_sim.specs.RunView.{IsStanding, header_for, standing_for, standing_of};
 
-use crate::attempt::end_period;
 use crate::due_period::start_period;
+use crate::end_of_due_period::end_period;
 use crate::given_vectors::{check_vectors, take_vectors};
 use crate::sim::Sim;
 use crate::standing_between_periods::Standing;

@@ -1,14 +1,15 @@
 //! A run, one period after another, found or checked: the record of each is valid, and its facts are its own.
 #![tactic(auto)]
 
-mod attempt;
+mod closing_of_run;
 mod due_period;
+mod end_of_due_period;
 mod facts_and_links_at_start;
 mod given_vectors;
 mod handed_in_record;
 mod narrow_records;
+mod period_attempt;
 mod run_at_start;
-mod run_taken_apart;
 mod settings;
 mod sim;
 mod standing_between_periods;

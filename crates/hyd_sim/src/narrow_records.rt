@@ -1,11 +1,11 @@
-//! Narrow records.
+//! Whether a record is narrow.
 #![tactic(auto)]
 
 ghost use Rattle.std.specs.Prelude.{◌≡◌, ◌<◌, ◌≤◌, ◌^◌, ℤ, pos, ◌+ℤ◌, ◌-ℤ◌, ◌*ℤ◌, ◌≤ℤ◌, length, map, true, false};
 ghost use Rattle.std.specs.Prelude.{slice_index_or};
 ghost use Rattle.hyd_spec.specs.Assignment.{head_at};
 ghost use Rattle.hyd_spec.specs.Lists.{Each};
-ghost use Rattle.hyd_spec_certificates.specs.Spans.{levels_of};
+ghost use Rattle.hyd_spec_certificates.specs.SpansAsIntervals.{levels_of};
 ghost use Rattle.hyd_spec_certificates.specs.Interval.{width as width_of};
 ghost use Rattle.hyd_spec_certificates.specs.Narrow as narrow;
 ghost use Rattle.hyd_spec_certificates.specs.Decided.{nowhere};

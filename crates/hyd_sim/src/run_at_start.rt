@@ -8,7 +8,7 @@ ghost use Rattle.hyd_cert.specs.RecordView.{header_of};
 ghost use Rattle.hyd_period_end.specs.EndOfPeriod.{HasRoom as HasCloseRoom};
 ghost use Rattle.hyd_period_facts.specs.ReservedMemory.{HasRoom};
 ghost use Rattle.hyd_period_network.specs.NetsSetToPeriods.{IsNetOf};
-ghost use Rattle.hyd_sim.specs.View.{IsStanding, header_for, standing_for, standing_of};
+ghost use Rattle.hyd_sim.specs.RunView.{IsStanding, header_for, standing_for, standing_of};
 
 use crate::settings::Settings;
 use crate::sim::Sim;

@@ -30,7 +30,7 @@ pub struct Sim {
 }
 
 impl Model for Sim {
-    ghost use Rattle.hyd_sim.specs.View.{SimView, IsSim};
+    ghost use Rattle.hyd_sim.specs.RunView.{SimView, IsSim};
 
     ghost Value = { SimView };
 
@@ -63,7 +63,7 @@ impl Model for Sim {
 
 impl Sim {
     ghost use Rattle.std.specs.Prelude.{◌≡◌};
-    ghost use Rattle.hyd_sim.specs.View.{IsSim, standing_of};
+    ghost use Rattle.hyd_sim.specs.RunView.{IsSim, standing_of};
 
     /// The network that is run.
     pub fn project(&self) -> &Project

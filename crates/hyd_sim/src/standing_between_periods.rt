@@ -30,7 +30,7 @@ pub(crate) struct Standing {
 impl Standing {
     ghost use Rattle.hyd_period_end.specs.EndOfPeriod.{HasRoom};
     ghost use Rattle.hyd_sim.specs.PeriodAttempt.{IsMade, next_standing};
-    ghost use Rattle.hyd_sim.specs.View.{IsStanding, standing_for};
+    ghost use Rattle.hyd_sim.specs.RunView.{IsStanding, standing_for};
 
     // Moves on behind the period at the end of the run.
     fn finish(&mut self)

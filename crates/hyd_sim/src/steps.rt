@@ -7,9 +7,9 @@ ghost use Rattle.hyd_spec_certificates.specs.RecordAndStanding.{Record as Row};
 ghost use Rattle.hyd_spec_reports.specs.Stops.{Stops};
 ghost use Rattle.hyd_cert.specs.RecordView.{row_of};
 ghost use Rattle.hyd_period_network.specs.NetAsPeriodNetwork.{grid_of};
-ghost use Rattle.hyd_period_vectors.specs.Vectors.{HaveSame};
+ghost use Rattle.hyd_period_vectors.specs.SoughtVectors.{HaveSame};
 ghost use Rattle.hyd_sim.specs.Steps.{StepGives, IsPeriod, IsProposal, IsSharpAsSought};
-ghost use Rattle.hyd_sim.specs.View.{standing_of};
+ghost use Rattle.hyd_sim.specs.RunView.{standing_of};
 
 use crate::due_period::advance;
 use crate::sim::Sim;

@@ -1,5 +1,5 @@
 //! Where the numbers of a factor stand. This is found once, and holds for all numbers.
-ghost use Rattle.std.specs.Prelude.{◌≡◌, ◌<◌, ◌≤◌, ◌-◌, length, slice_get, take, drop};
+ghost use Rattle.std.specs.Prelude.{◌≡◌, ◌<◌, ◌-◌, length, slice_get, take, drop};
 ghost use Rattle.std.specs.List.{All};
 ghost use Rattle.hyd_sparse.specs.Tables.{IsColumn, IsSpan, IsUpdate, IsTerm};
 

@@ -1,5 +1,5 @@
 //! The making of a pattern from the links of a network.
-ghost use Rattle.std.specs.Prelude.{◌≡◌, ◌<◌, ◌≤◌, length, IfOk, OnOk, vec_len};
+ghost use Rattle.std.specs.Prelude.{◌≡◌, ◌<◌, length, IfOk, OnOk, vec_len};
 ghost use Rattle.std.specs.List.{All};
 ghost use Rattle.hyd_sparse.specs.Tables.{IsColumn, IsSpan, IsTerm, IsUpdate};
 

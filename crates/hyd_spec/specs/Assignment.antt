@@ -5,7 +5,7 @@ use Rattle.std.specs.Prelude.{◌≡◌, ℕ, ◌≤◌, ℤ, pos, ◌+ℤ◌, �
 use Rattle.std.specs.Prelude.{slice_index_or, ◌==◌}
 use Rattle.hyd_spec.specs.ProgramTypes.{Project, Junction, Link, LinkState, Tank, TankState}
 use Rattle.hyd_spec.specs.Scale.{at_scale}
-use Rattle.hyd_spec.specs.DemandsReservoirHeadsAndCurves.{reservoir_head}
+use Rattle.hyd_spec.specs.DemandsHeadsAndPumpLifts.{reservoir_head}
 use Rattle.hyd_spec.specs.Law.{Follows}
 use Rattle.hyd_spec.specs.LinkLaw.{law_of}
 use Rattle.hyd_spec.specs.NodeNumbers.{junction_count, tank_count}

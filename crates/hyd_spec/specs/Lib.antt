@@ -2,7 +2,7 @@ pub mod ProgramTypes
 pub mod Lists
 pub mod Scale
 pub mod NodeNumbers
-pub mod DemandsReservoirHeadsAndCurves
+pub mod DemandsHeadsAndPumpLifts
 pub mod Loss
 pub mod Law
 pub mod LinkLaw
@@ -15,3 +15,4 @@ pub mod Rules
 pub mod PeriodLength
 pub mod History
 pub mod CapacityEnclosure
+pub mod WholeNumbers

@@ -10,7 +10,7 @@ use Rattle.hyd_spec.specs.ProgramTypes.{Tcv, Fcv, Gpv, OpenValve, Quadratic, Lin
 use Rattle.hyd_spec.specs.ProgramTypes.{Throttle}
 use Rattle.hyd_spec.specs.ProgramTypes.{Limit, TankState, Full, Empty, Between}
 use Rattle.hyd_spec.specs.NodeNumbers.{is_tank, tank_number}
-use Rattle.hyd_spec.specs.DemandsReservoirHeadsAndCurves.{is_us, lift_of, points_of, pump_knots, valve_knots}
+use Rattle.hyd_spec.specs.DemandsHeadsAndPumpLifts.{is_us, lift_of, points_of, pump_knots, valve_knots}
 use Rattle.hyd_spec.specs.Law.{Law, Shut, QuadraticLaw, LinearLaw, Lifted, ForwardOnly, ReverseOnly, Capped, Bent, Held}
 
 -- A valve that is fully open.

@@ -1,5 +1,5 @@
 -- Words on lists that several definitions share.
-use Rattle.std.specs.Prelude.{◌≡◌, ℕ, suc, List, [], ◌∷◌, ◌++◌, Option, Some, None, slice_get}
+use Rattle.std.specs.Prelude.{◌≡◌, ℕ, suc, List, [], ◌∷◌, ◌++◌, Option, Some, None, slice_get, ℤ, pos, ◌+ℤ◌}
 
 -- P holds of each item of a list, with its number, counted from 0.
 abbrev pub Each : {X : Type 0} → List X → (ℕ → X → Type 0) → Type 0
@@ -24,3 +24,8 @@ present (None ∷ rest) = present rest
 -- A list or a text goes on with some more, or with nothing, to make the whole one.
 abbrev pub IsFrontOf : {X : Type 0} → List X → List X → Type 0
 IsFrontOf {X} front whole = (rest : List X) × (front ++ rest ≡ whole)
+
+-- The sum of a list.
+abbrev pub total : List ℤ → ℤ
+total [] = pos 0
+total (x ∷ rest) = x +ℤ total rest

@@ -1,5 +1,4 @@
--- The network as the file gives it: how many nodes there are, and how they are numbered.
--- Nodes are numbered junctions first, then reservoirs, then tanks.
+-- How many nodes a network has, and how they are numbered: junctions first, then reservoirs, then tanks.
 -- Source: EPANET 2.2 User Manual, chapter 3 (physical components); the numbering is this program's.
 use Rattle.std.specs.Prelude.{ℕ, ◌+◌, ◌-◌, Bool, length, nat_le}
 use Rattle.hyd_spec.specs.ProgramTypes.{Project}

@@ -7,7 +7,7 @@ use Rattle.std.specs.Prelude.{MatchOption}
 use Rattle.hyd_spec.specs.ProgramTypes.{Project, Junction}
 use Rattle.hyd_num.specs.Rational.{Rational, negated, is_at_most}
 use Rattle.hyd_spec.specs.Scale.{at_scale, tolerance}
-use Rattle.hyd_spec.specs.DemandsReservoirHeadsAndCurves.{is_us, demand_of, minimum_pressure, required_pressure}
+use Rattle.hyd_spec.specs.DemandsHeadsAndPumpLifts.{is_us, demand_of, minimum_pressure, required_pressure}
 use Rattle.hyd_spec.specs.Law.{QuadraticLaw, Follows, Relation, lifted, odd_at_least, odd_at_most, pressure_resistance}
 use Rattle.hyd_spec.specs.Loss.{SquareLossAtMost, SquareLossAtLeast}
 

@@ -8,7 +8,7 @@ use Rattle.hyd_spec.specs.ProgramTypes.{Gpv}
 use Rattle.hyd_spec.specs.ProgramTypes.{LinkState, Closed, Speed, When, AtLevel, AtTime, AtClock}
 use Rattle.hyd_num.specs.Rational.{whole}
 use Rattle.hyd_spec.specs.Tank.{reaches}
-use Rattle.hyd_spec.specs.DemandsReservoirHeadsAndCurves.{multiplier_at}
+use Rattle.hyd_spec.specs.DemandsHeadsAndPumpLifts.{multiplier_at}
 
 -- ---- the clock
 

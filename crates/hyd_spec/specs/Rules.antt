@@ -16,9 +16,10 @@ use Rattle.hyd_spec.specs.ProgramTypes.{Closed}
 use Rattle.hyd_spec.specs.ProgramTypes.{Speed, Throttle, Limit, Change, ByRule}
 use Rattle.hyd_spec.specs.Lists.{map_from, present}
 use Rattle.hyd_num.specs.Rational.{Rational, whole, total_of, is_less, is_at_most}
-use Rattle.hyd_spec.specs.Scale.{at_scale, is_same_number}
+use Rattle.hyd_spec.specs.Scale.{at_scale}
+use Rattle.hyd_spec.specs.WholeNumbers.{is_same_number}
 use Rattle.hyd_spec.specs.NodeNumbers.{is_tank, tank_number}
-use Rattle.hyd_spec.specs.DemandsReservoirHeadsAndCurves.{is_us, pressure_value}
+use Rattle.hyd_spec.specs.DemandsHeadsAndPumpLifts.{is_us, pressure_value}
 use Rattle.hyd_spec.specs.PumpPatternsAndSimpleControls.{day, clock_at}
 
 -- ---- commanded states

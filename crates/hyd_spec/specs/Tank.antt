@@ -9,7 +9,8 @@ use Rattle.std.specs.Option.{option_map_or}
 use Rattle.hyd_net.specs.Curves.{Knot, value_at, volume_at}
 use Rattle.hyd_spec.specs.ProgramTypes.{Project, Tank, VolumePoint, TankState, Full, Between, Empty}
 use Rattle.hyd_num.specs.Rational.{Rational, is_at_most, whole}
-use Rattle.hyd_spec.specs.Scale.{at_scale, missed_stock_ticks, is_same_number}
+use Rattle.hyd_spec.specs.Scale.{at_scale, missed_stock_ticks}
+use Rattle.hyd_spec.specs.WholeNumbers.{is_same_number}
 use Rattle.hyd_spec.specs.Assignment.{net_outflow}
 use Rattle.hyd_spec.specs.NodeNumbers.{tank_node}
 

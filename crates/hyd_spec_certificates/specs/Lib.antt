@@ -1,10 +1,10 @@
 pub mod Interval
-pub mod Spans
+pub mod SpansAsIntervals
 pub mod EnclosingFunctions
 pub mod PeriodNetwork
 pub mod NetOutflow
 pub mod Certificate
-pub mod SearchSteps
+pub mod StartsRaisesAndLeaps
 pub mod BoxesWithHeldJunction
 pub mod FlowIntervals
 pub mod Stocks

@@ -12,8 +12,8 @@ use Rattle.hyd_spec_certificates.specs.declared.Side.{Side}
 use Rattle.hyd_spec_certificates.specs.declared.Side.TheVariants.{Upper, Lower}
 use Rattle.hyd_spec.specs.Lists.{map_from}
 use Rattle.hyd_spec_certificates.specs.Interval.{Interval, shifted}
-use Rattle.hyd_spec.specs.DemandsReservoirHeadsAndCurves.{is_us, demand_of, reservoir_head, minimum_pressure}
-use Rattle.hyd_spec.specs.DemandsReservoirHeadsAndCurves.{required_pressure}
+use Rattle.hyd_spec.specs.DemandsHeadsAndPumpLifts.{is_us, demand_of, reservoir_head, minimum_pressure}
+use Rattle.hyd_spec.specs.DemandsHeadsAndPumpLifts.{required_pressure}
 use Rattle.hyd_spec.specs.Law.{Law}
 use Rattle.hyd_spec.specs.LinkLaw.{law_of}
 use Rattle.hyd_spec.specs.Outflow.{is_pressure_driven}

@@ -11,11 +11,11 @@ use Rattle.hyd_spec_lines.specs.declared.section.Section.{Section}
 use Rattle.hyd_spec_lines.specs.declared.section.Section.TheVariants.{Pipes, Pumps, Valves, Emitters, Status, Controls}
 use Rattle.hyd_spec_lines.specs.declared.section.Section.TheVariants.{Rules}
 use Rattle.hyd_spec_input.specs.Columns.{word, amount}
-use Rattle.hyd_spec_input.specs.NetworkRows.{pipe_minor, pump_curve, is_throttle, is_general, valve_minor}
-use Rattle.hyd_spec_input.specs.Tables.{is_of, link_named, curve_named}
-use Rattle.hyd_spec_input.specs.InForce.{unit}
+use Rattle.hyd_spec_input.specs.NodeAndLinkRows.{pipe_minor, pump_curve, is_throttle, is_general, valve_minor}
+use Rattle.hyd_spec_input.specs.SectionsAndTables.{is_of, link_named, curve_named}
+use Rattle.hyd_spec_input.specs.OptionsAndTimesInForce.{unit}
 use Rattle.hyd_spec_input.specs.Curves.{Drop, drop_of, is_bent}
-use Rattle.hyd_spec_input.specs.RowsTogether.{us, is_status, holds_action}
+use Rattle.hyd_spec_input.specs.FaultsWithOtherRows.{us, is_status, holds_action}
 
 -- ---- numbers in billionths
 

@@ -3,7 +3,7 @@
 use Rattle.std.specs.Prelude.{ℕ, List, [], ◌∷◌, codes, Option, if◌then◌else◌}
 use Rattle.hyd_spec_input.specs.Columns.{id, one_of, meant, number, asked, or_else, first, needed, ends, word_is}
 use Rattle.hyd_spec_input.specs.Keywords.{link_word, node_word}
-use Rattle.hyd_spec_input.specs.Moments.{time, clock}
+use Rattle.hyd_spec_input.specs.TimesAndClockTimes.{time, clock}
 use Rattle.hyd_net.specs.declared.refusal_cause.Cause.{Cause}
 
 -- IF NODE id ABOVE or BELOW a level

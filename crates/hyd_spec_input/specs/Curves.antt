@@ -14,7 +14,7 @@ use Rattle.hyd_net.specs.NumberRanges.{least_volume_difference}
 use Rattle.hyd_net.specs.Curves.{value_at, head_knots, volume_at}
 use Rattle.hyd_net.specs.declared.curves.VolumePoint.{VolumePoint}
 use Rattle.hyd_net.specs.declared.curves.HeadPoint.{HeadPoint}
-use Rattle.hyd_spec_input.specs.Tables.{Point}
+use Rattle.hyd_spec_input.specs.SectionsAndTables.{Point}
 
 -- ---- ranges
 

@@ -10,9 +10,9 @@ use Rattle.hyd_spec_lines.specs.declared.fault.LexCause.TheVariants.{LongLine}
 use Rattle.hyd_spec_lines.specs.declared.section.Section.TheVariants.{Reservoirs, Tanks}
 use Rattle.hyd_spec_input.specs.Columns.{first, unless}
 use Rattle.hyd_spec_input.specs.SingleRows.{IsWrongByItself}
-use Rattle.hyd_spec_input.specs.Tables.{rows_of}
-use Rattle.hyd_spec_input.specs.InForce.{names_head_loss}
-use Rattle.hyd_spec_input.specs.RowsTogether.{row_fault}
+use Rattle.hyd_spec_input.specs.SectionsAndTables.{rows_of}
+use Rattle.hyd_spec_input.specs.OptionsAndTimesInForce.{names_head_loss}
+use Rattle.hyd_spec_input.specs.FaultsWithOtherRows.{row_fault}
 use Rattle.hyd_spec_input.specs.CapacitiesOutOfRange.{IsRefusedRow}
 use Rattle.hyd_net.specs.declared.refusal_cause.Cause.{Cause}
 use Rattle.hyd_net.specs.declared.refusal_cause.Cause.TheVariants.{Syntax, Unsupported, Limit, Missing}

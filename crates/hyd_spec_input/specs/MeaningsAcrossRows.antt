@@ -9,10 +9,10 @@ use Rattle.hyd_spec_lines.specs.Lines.{Row}
 use Rattle.hyd_spec_lines.specs.declared.section.Section.TheVariants.{Junctions, Reservoirs, Tanks, Pipes, Pumps}
 use Rattle.hyd_spec_lines.specs.declared.section.Section.TheVariants.{Valves, Demands, Emitters, Patterns, Status}
 use Rattle.hyd_spec_input.specs.Columns.{word, or_empty, amount, amount_or}
-use Rattle.hyd_spec_input.specs.NetworkRows.{tank_curve, pump_curve, valve_curve}
+use Rattle.hyd_spec_input.specs.NodeAndLinkRows.{tank_curve, pump_curve, valve_curve}
 use Rattle.hyd_spec_input.specs.RuleRows.{begins_with, is_rule, until_rule, stage_by}
-use Rattle.hyd_spec_input.specs.Tables.{words_of, rows_of, rows_with, own_id, curve_named}
-use Rattle.hyd_spec_input.specs.InForce.{unit, last_where}
+use Rattle.hyd_spec_input.specs.SectionsAndTables.{words_of, rows_of, rows_with, own_id, curve_named}
+use Rattle.hyd_spec_input.specs.OptionsAndTimesInForce.{unit, last_where}
 use Rattle.hyd_spec_input.specs.Curves.{is_bent}
 use Rattle.hyd_spec_input.specs.declared.Stage.{Stage}
 use Rattle.hyd_spec_input.specs.declared.Stage.TheVariants.{Outside, Asking, Acting, Otherwise}

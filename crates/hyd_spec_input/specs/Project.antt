@@ -18,16 +18,19 @@ use Rattle.hyd_spec_lines.specs.declared.section.Section.TheVariants.{Junctions,
 use Rattle.hyd_spec_lines.specs.declared.section.Section.TheVariants.{Valves, Controls, Rules}
 use Rattle.hyd_spec_input.specs.Columns.{word, or_empty, amount, word_is, units}
 use Rattle.hyd_spec_input.specs.Keywords.{object_word, attribute_word, relation_word}
-use Rattle.hyd_spec_input.specs.Moments.{time_seconds, clock_seconds}
-use Rattle.hyd_spec_input.specs.NetworkRows.{tank_curve, tank_overflows, pipe_minor, has_check_valve, is_closed_pipe}
-use Rattle.hyd_spec_input.specs.NetworkRows.{pump_curve, pump_pattern, pump_speed, is_throttle, is_general, valve_curve}
-use Rattle.hyd_spec_input.specs.NetworkRows.{valve_minor}
+use Rattle.hyd_spec_input.specs.TimesAndClockTimes.{time_seconds, clock_seconds}
+use Rattle.hyd_spec_input.specs.NodeAndLinkRows.{tank_curve, tank_overflows, pipe_minor, has_check_valve}
+use Rattle.hyd_spec_input.specs.NodeAndLinkRows.{is_closed_pipe}
+use Rattle.hyd_spec_input.specs.NodeAndLinkRows.{pump_curve, pump_pattern, pump_speed, is_throttle, is_general}
+use Rattle.hyd_spec_input.specs.NodeAndLinkRows.{valve_curve}
+use Rattle.hyd_spec_input.specs.NodeAndLinkRows.{valve_minor}
 use Rattle.hyd_spec_input.specs.RuleRows.{begins_with, attribute_place}
-use Rattle.hyd_spec_input.specs.Tables.{Point, is_of, rows_of, words_of, link_named, pattern_named, curve_named}
-use Rattle.hyd_spec_input.specs.InForce as force
-use Rattle.hyd_spec_input.specs.InForce.{unit}
+use Rattle.hyd_spec_input.specs.SectionsAndTables.{Point, is_of, rows_of, words_of, link_named, pattern_named}
+use Rattle.hyd_spec_input.specs.SectionsAndTables.{curve_named}
+use Rattle.hyd_spec_input.specs.OptionsAndTimesInForce as force
+use Rattle.hyd_spec_input.specs.OptionsAndTimesInForce.{unit}
 use Rattle.hyd_spec_input.specs.Curves.{Drop, drop_of, is_bent, head_points, volume_points}
-use Rattle.hyd_spec_input.specs.RowsTogether.{us}
+use Rattle.hyd_spec_input.specs.FaultsWithOtherRows.{us}
 use Rattle.hyd_spec_input.specs.MeaningsAcrossRows.{node_ids, tank_ids, link_ids, number_in, pattern_ids}
 use Rattle.hyd_spec_input.specs.MeaningsAcrossRows.{pattern_number}
 use Rattle.hyd_spec_input.specs.MeaningsAcrossRows.{shape_names, bend_names, demands_of, emitter_of, status_row_of}

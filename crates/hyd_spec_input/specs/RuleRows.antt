@@ -5,7 +5,7 @@ use Rattle.std.specs.Prelude.{if◌then◌else◌}
 use Rattle.hyd_spec_lines.specs.Headings.{is_one_of}
 use Rattle.hyd_spec_input.specs.Columns.{Column, id, one_of, meant, number, or_else, first, unless, needed, ends, word}
 use Rattle.hyd_spec_input.specs.Keywords.{object_word, attribute_word, relation_word, link_word, rule_word}
-use Rattle.hyd_spec_input.specs.Moments.{time, clock}
+use Rattle.hyd_spec_input.specs.TimesAndClockTimes.{time, clock}
 use Rattle.hyd_spec_input.specs.declared.RuleWord.{RuleWord}
 use Rattle.hyd_spec_input.specs.declared.RuleWord.TheVariants.{Rule, If, And, Or, Then, Else, Priority}
 use Rattle.hyd_spec_input.specs.declared.ObjectWord.{ObjectWord}

@@ -6,12 +6,12 @@ use Rattle.hyd_spec_lines.specs.declared.section.Section.{Section}
 use Rattle.hyd_spec_lines.specs.declared.section.Section.TheVariants.{Junctions, Reservoirs, Tanks, Pipes, Pumps}
 use Rattle.hyd_spec_lines.specs.declared.section.Section.TheVariants.{Valves, Demands, Emitters, Curves, Patterns}
 use Rattle.hyd_spec_lines.specs.declared.section.Section.TheVariants.{Status, Controls, Rules, Options, Times}
-use Rattle.hyd_spec_input.specs.NetworkRows.{junction, reservoir, tank, pipe, pump, valve}
-use Rattle.hyd_spec_input.specs.DemandCurveAndStatusRows.{demand, emitter, curve, pattern, status}
-use Rattle.hyd_spec_input.specs.OptionRows.{option, time_line}
+use Rattle.hyd_spec_input.specs.NodeAndLinkRows.{junction, reservoir, tank, pipe, pump, valve}
+use Rattle.hyd_spec_input.specs.DemandEmitterCurvePatternAndStatusRows.{demand, emitter, curve, pattern, status}
+use Rattle.hyd_spec_input.specs.OptionAndTimeRows.{option, time_line}
 use Rattle.hyd_spec_input.specs.ControlRows.{control}
 use Rattle.hyd_spec_input.specs.RuleRows.{rule_line}
-use Rattle.hyd_spec_input.specs.Tables.{words_of}
+use Rattle.hyd_spec_input.specs.SectionsAndTables.{words_of}
 use Rattle.hyd_net.specs.declared.refusal_cause.Cause.{Cause}
 
 -- what is wrong with the words of a row of a section, where it stands between earlier and later lines of rules

@@ -19,7 +19,7 @@ use Rattle.hyd_spec_reports.specs.declared.StatusWord.TheVariants.{Open as WordO
 use Rattle.hyd_spec_reports.specs.declared.StatusWord.TheVariants.{Active as WordActive, Unsure as WordUnsure}
 use Rattle.hyd_spec_certificates.specs.Interval.{Interval}
 use Rattle.hyd_spec.specs.Scale.{at_scale}
-use Rattle.hyd_spec.specs.DemandsReservoirHeadsAndCurves.{is_us, lift_of, points_of, pump_knots, reservoir_head}
+use Rattle.hyd_spec.specs.DemandsHeadsAndPumpLifts.{is_us, lift_of, points_of, pump_knots, reservoir_head}
 use Rattle.hyd_spec.specs.Law.{flow_at_least}
 use Rattle.hyd_spec.specs.LinkLaw.{valve_law}
 use Rattle.hyd_spec.specs.Assignment.{node_heads, head_at, flow_at}
@@ -27,7 +27,7 @@ use Rattle.hyd_spec.specs.Tank.{tank_inflow, reaches}
 use Rattle.hyd_spec.specs.PumpPatternsAndSimpleControls.{acts_at}
 use Rattle.hyd_spec.specs.Rules.{rule_changes}
 use Rattle.hyd_spec.specs.PeriodLength.{Period, level_at_start, watched_after, values_at}
-use Rattle.hyd_spec_reports.specs.Report.{start_changes}
+use Rattle.hyd_spec_reports.specs.ChangesAtStart.{start_changes}
 use Rattle.hyd_spec_reports.specs.ReportLine.{ReportLine, ControlLine, TimeLine, JunctionLine, ReservoirLine, TankLine}
 use Rattle.hyd_spec_reports.specs.ReportLine.{LinkLine, FilledLine, EmptiedLine, ReachedLine, RuleLine}
 

@@ -5,3 +5,5 @@ pub mod RefusedRecords
 pub mod Report
 pub mod Claims
 pub mod PromisesOfRunsAndChecks
+pub mod ChangesAtStart
+pub mod TurnsOfProblems

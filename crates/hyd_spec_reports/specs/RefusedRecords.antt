@@ -14,7 +14,8 @@ use Rattle.hyd_spec_certificates.specs.Decided.{OpenRule, EndsBy, RuleIsOpen, Ev
 use Rattle.hyd_spec_certificates.specs.Valid.{IsProblem, IsGridAt, DemandsAreInRange, AreCertificates, LeavesLinks}
 use Rattle.hyd_spec_certificates.specs.Valid.{levels_next}
 use Rattle.hyd_spec_reports.specs.ReportLine.{refused_period}
-use Rattle.hyd_spec_reports.specs.Stops.{turn, open_states, is_open_control}
+use Rattle.hyd_spec_reports.specs.Stops.{open_states, is_open_control}
+use Rattle.hyd_spec_reports.specs.TurnsOfProblems.{turn}
 
 -- ---- what may be wrong
 

@@ -2,7 +2,7 @@
 -- greatest number of four decimals at most the value, an upper end the least at least it.
 -- Source: this program's format.
 use Rattle.std.specs.Prelude.{◌≡◌, ℕ, suc, ◌+◌, ◌-◌, ◌%◌, ℤ, pos, ◌+ℤ◌, ◌-ℤ◌, Bool, ◌&&◌, not, ◌==◌, nat_le, List, []}
-use Rattle.std.specs.Prelude.{◌∷◌, ◌++◌, Option, Some, None, map, slice_get, slice_set, slice_index_or, if◌then◌else◌}
+use Rattle.std.specs.Prelude.{◌∷◌, ◌++◌, Option, Some, None, map, slice_get, slice_index_or, if◌then◌else◌}
 use Rattle.std.specs.Prelude.{int_le, int_lt, ⊤, MatchBool}
 use Rattle.hyd_num.specs.Rational.{Rational, floor, ceiling}
 use Rattle.hyd_num.specs.PrintedDecimals.{head_quantity, pressure_quantity, flow_quantity, IsRoundedDown, IsRoundedUp}
@@ -14,8 +14,6 @@ use Rattle.hyd_spec.specs.ProgramTypes.{HeadPoint, LinkState, Open, Closed, Spee
 use Rattle.hyd_spec.specs.ProgramTypes.{AtLevel}
 use Rattle.hyd_spec.specs.declared.TankState.{TankState}
 use Rattle.hyd_spec.specs.declared.Change.{Change}
-use Rattle.hyd_spec.specs.declared.Source.{Source}
-use Rattle.hyd_spec.specs.declared.Source.TheVariants.{Control as ByControl, Rule as ByRule}
 use Rattle.hyd_spec_reports.specs.declared.Event.{Event}
 use Rattle.hyd_spec_reports.specs.declared.EventKind.{EventKind}
 use Rattle.hyd_spec_reports.specs.declared.EventKind.TheVariants.{Full as BecomesFull, Empty as BecomesEmpty}
@@ -25,11 +23,10 @@ use Rattle.hyd_spec_reports.specs.declared.StatusWord.TheVariants.{Open as WordO
 use Rattle.hyd_spec_reports.specs.declared.StatusWord.TheVariants.{Active as WordActive, Unsure as WordUnsure}
 use Rattle.hyd_spec.specs.Lists.{map_from, present}
 use Rattle.hyd_spec_certificates.specs.Interval.{Interval, exactly, shifted}
-use Rattle.hyd_spec.specs.DemandsReservoirHeadsAndCurves.{is_us, lift_of, points_of, pump_knots}
+use Rattle.hyd_spec.specs.DemandsHeadsAndPumpLifts.{is_us, lift_of, points_of, pump_knots}
 use Rattle.hyd_spec.specs.Assignment.{head_at}
 use Rattle.hyd_spec.specs.LinkLaw.{valve_law, is_full, is_empty}
-use Rattle.hyd_spec.specs.PumpPatternsAndSimpleControls.{patterned, control_acts}
-use Rattle.hyd_spec.specs.Rules.{is_same_state, state_of_link}
+use Rattle.hyd_spec.specs.Rules.{state_of_link}
 use Rattle.hyd_spec_certificates.specs.EnclosingFunctions.{low, high}
 use Rattle.hyd_spec_certificates.specs.PeriodNetwork.{Grid, GridLink, GridJunction}
 use Rattle.hyd_spec_certificates.specs.FlowIntervals.{difference, out_box}
@@ -38,8 +35,9 @@ use Rattle.hyd_spec_certificates.specs.ThreeValuedLogic.{is_yes}
 use Rattle.hyd_spec_certificates.specs.Decided.{heads_below, heads_above, flow_boxes, carried_at, level_of_tank}
 use Rattle.hyd_spec_certificates.specs.Decided.{inflow_of_tank, links_at, acts_on, control_truth, nowhere}
 use Rattle.hyd_spec_certificates.specs.Decided.{decided_changes, EndsBy, ByRules, WithoutRules}
-use Rattle.hyd_spec_reports.specs.ReportLine.{ReportLine, ControlLine, TimeLine, JunctionLine, ReservoirLine, TankLine}
-use Rattle.hyd_spec_reports.specs.ReportLine.{LinkLine, FilledLine, EmptiedLine, ReachedLine, RuleLine}
+use Rattle.hyd_spec_reports.specs.ReportLine.{ReportLine, TimeLine, JunctionLine, ReservoirLine, TankLine}
+use Rattle.hyd_spec_reports.specs.ReportLine.{LinkLine, FilledLine, EmptiedLine, ReachedLine}
+use Rattle.hyd_spec_reports.specs.ChangesAtStart.{change_line, control_lines}
 
 -- ---- printed intervals
 
@@ -47,40 +45,6 @@ use Rattle.hyd_spec_reports.specs.ReportLine.{LinkLine, FilledLine, EmptiedLine,
 pub record Prints (quantity : ℤ → Rational) (ticks ends : Interval) : Type 0 where
   pub down : IsRoundedDown (quantity ticks.lo) ends.lo
   pub up : IsRoundedUp (quantity ticks.hi) ends.hi
-
--- ---- controls at the start
-
--- What controls change, from number k on, from the states as they are: each control that acts and whose state
--- differs from the link's at that moment.
-abbrev pub control_changes : Project → ℕ → (ℕ → Bool → ℤ → Bool) → ℕ → List Control → List LinkState → List Change
-control_changes project time acts k [] links = []
-control_changes project time acts k (control ∷ rest) links =
-    if control_acts project time acts control.when
-    then (if is_same_state (state_of_link links control.link) control.to then []
-    else record { source = ByControl k; link = control.link; to = control.to } ∷ [])
-    ++ control_changes project time acts (suc k) rest (slice_set links control.link control.to)
-    else control_changes project time acts (suc k) rest links
-
--- What the controls change at the start of a period, from the states commanded before.
-abbrev pub start_changes : Project → ℕ → (ℕ → Bool → ℤ → Bool) → List LinkState → List Change
-start_changes project time acts commanded =
-    control_changes project time acts 0 project.controls.list (patterned project time commanded)
-
--- The line of a change at a time.
-abbrev pub change_line : ℕ → Change → ReportLine
-change_line time change = by_source change.source
-  where
-    by_source : Source → ReportLine
-    by_source (ByControl number) = ControlLine time number change.link change.to
-    by_source (ByRule rule) = RuleLine time rule change.link change.to
-
--- What the controls change at the start of the period that begins at a standing.
-abbrev pub changes_at : Project → Standing → List Change
-changes_at project standing = start_changes project standing.time (acts_on standing.levels) standing.commanded
-
--- One line for each change by a control at the start of a period, in order of the controls.
-abbrev pub control_lines : Project → Standing → List ReportLine
-control_lines project standing = map (change_line standing.time) (changes_at project standing)
 
 -- ---- nodes and links at a report time
 

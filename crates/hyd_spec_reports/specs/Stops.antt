@@ -1,12 +1,10 @@
 -- Stop conditions: why a run can't go on from a standing.
 -- Source: this program's.
-use Rattle.std.specs.Prelude.{◌≡◌, ℕ, ◌+◌, ◌*◌, ◌<◌, ◌≤◌, ℤ, pos, neg_ℤ, Bool, List, Some, None, length, replicate}
+use Rattle.std.specs.Prelude.{◌≡◌, ℕ, ◌<◌, ◌≤◌, ℤ, Bool, List, Some, None, length}
 use Rattle.std.specs.Prelude.{slice_get, slice_index_or, unsigned_abs, position, is_none, false}
 use Rattle.hyd_spec.specs.ProgramTypes.{Project, Junction, LinkState, Control, When, AtLevel}
 use Rattle.hyd_spec_certificates.specs.declared.Problem.{Problem}
-use Rattle.hyd_spec_certificates.specs.declared.Problem.TheVariants.{Main, Pinned}
 use Rattle.hyd_spec_certificates.specs.declared.Side.{Side}
-use Rattle.hyd_spec_certificates.specs.declared.Side.TheVariants.{Upper, Lower}
 use Rattle.hyd_spec_reports.specs.declared.StopCause.{StopCause}
 use Rattle.hyd_spec_reports.specs.declared.StopCause.TheVariants.{Demand as DemandOutOfRange, NoCertificate}
 use Rattle.hyd_spec_reports.specs.declared.StopCause.TheVariants.{RoundsSpent, RuleOpen, EventOpen, TankOpen}
@@ -14,15 +12,16 @@ use Rattle.hyd_spec_reports.specs.declared.StopCause.TheVariants.{ControlOpen}
 use Rattle.hyd_spec.specs.Lists.{map_from}
 use Rattle.hyd_spec_certificates.specs.Interval.{Interval}
 use Rattle.hyd_spec.specs.NodeNumbers.{junction_count}
-use Rattle.hyd_spec.specs.DemandsReservoirHeadsAndCurves.{demand_of}
+use Rattle.hyd_spec.specs.DemandsHeadsAndPumpLifts.{demand_of}
 use Rattle.hyd_spec_certificates.specs.PeriodNetwork.{Grid}
-use Rattle.hyd_spec_certificates.specs.Certificate.{box_limit, IsCertificate, AreRounds, IsTight}
+use Rattle.hyd_spec_certificates.specs.Certificate.{IsCertificate, AreRounds, IsTight}
 use Rattle.hyd_spec_certificates.specs.RecordAndStanding.{Record, Standing, vector_of}
 use Rattle.hyd_spec_certificates.specs.Stocks.{state_of}
 use Rattle.hyd_spec_certificates.specs.ThreeValuedLogic.{is_unknown}
 use Rattle.hyd_spec_certificates.specs.Decided.{OpenRule, EndsBy, RuleIsOpen, EventIsOpen, nowhere, control_truth}
 use Rattle.hyd_spec_certificates.specs.Valid.{IsProblem, IsGridAt, DemandsAreInRange, demand_limit, LeavesLinks}
 use Rattle.hyd_spec_certificates.specs.Valid.{levels_next}
+use Rattle.hyd_spec_reports.specs.TurnsOfProblems.{EarlierHaveCertificates, beginning}
 
 -- ---- demands
 
@@ -35,27 +34,7 @@ pub record IsFirstDemand (project : Project) (time j : ℕ) (demand : ℤ) : Typ
   pub first : (earlier : ℕ) (before : Junction) → earlier < j → slice_get project.junctions.list earlier ≡ Some before
       → unsigned_abs (demand_of project time before) ≤ demand_limit
 
--- ---- the order of problems and sides
-
--- The turn of a problem and side in a period: MAIN UPPER, MAIN LOWER, then both sides of each tank pinned, in order.
-abbrev pub turn : Problem → Side → ℕ
-turn Main Upper = 0
-turn Main Lower = 1
-turn (Pinned tank) Upper = 2 * tank + 2
-turn (Pinned tank) Lower = 2 * tank + 3
-
--- Every problem and side whose turn comes before has a certificate on the grid.
-abbrev pub EarlierHaveCertificates : Project → Grid → Problem → Side → Type 0
-EarlierHaveCertificates project grid problem side =
-    (earlier : Problem) (other : Side) → IsProblem project earlier → turn earlier other < turn problem side
-    → (u : List ℤ) × IsCertificate grid earlier other u
-
 -- ---- vectors
-
--- The vector from which rounds begin: each head at the floor of the box for UPPER, at its ceiling for LOWER.
-abbrev pub beginning : Side → ℕ → List ℤ
-beginning Upper count = replicate count (neg_ℤ (pos box_limit))
-beginning Lower count = replicate count (pos box_limit)
 
 -- At a standing with demands in range no vector is a certificate of the problem and side, the first such.
 pub record HasNoCertificate (project : Project) (standing : Standing) (problem : Problem) (side : Side) : Type 0 where

@@ -14,7 +14,8 @@ use Rattle.hyd_spec_reports.specs.declared.Event.{Event}
 use Rattle.hyd_spec_reports.specs.declared.EventKind.{EventKind}
 use Rattle.hyd_spec_reports.specs.declared.EventKind.TheVariants.{Full as BecomesFull, Empty as BecomesEmpty}
 use Rattle.hyd_spec_reports.specs.declared.EventKind.TheVariants.{Control as ReachesLevel}
-use Rattle.hyd_spec_reports.specs.Report.{is_report_time, change_line, event_line}
+use Rattle.hyd_spec_reports.specs.Report.{is_report_time, event_line}
+use Rattle.hyd_spec_reports.specs.ChangesAtStart.{change_line}
 use Rattle.hyd_spec_reports.specs.ReportLine.{ReportLine, TimeLine}
 use Rattle.hyd_spec_summary.specs.Summary.{is_event, event_count}
 use Rattle.hyd_period_facts.specs.declared.facts.Facts.{Facts}

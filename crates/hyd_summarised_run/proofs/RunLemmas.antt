@@ -19,7 +19,7 @@ use Rattle.hyd_io.specs.declared.output.Channel.TheVariants.{Cert, Report}
 use Rattle.hyd_io.specs.Output.{PenState}
 use Rattle.hyd_io.specs.DeskBytes.{append_known, PutOut}
 use Rattle.hyd_io.proofs.MovedBytesLemmas.{append_known-nil, put_out_more}
-use Rattle.hyd_sim.specs.View.{SimView, standing_of, header_for}
+use Rattle.hyd_sim.specs.RunView.{SimView, standing_of, header_for}
 use Rattle.hyd_sim.specs.declared.settings.Settings.{Settings}
 use Rattle.hyd_run.specs.Pens.{RunMoment, PutIn, IsCutOff, OneRose, LeavesRest}
 use Rattle.hyd_run.specs.Runs.{sharpness_of, fresh, outcome_of, IsStep, IsOver}

@@ -6,7 +6,7 @@ use Rattle.hyd_period_facts.specs.declared.facts.Facts.{Facts}
 use Rattle.hyd_period_network.specs.NetAsPeriodNetwork.{grid_of, states_of}
 use Rattle.hyd_spec_reports.specs.CertificateText.{record_text}
 use Rattle.hyd_io.specs.declared.output.OutFault.{OutFault}
-use Rattle.hyd_sim.specs.View.{SimView, IsSim}
+use Rattle.hyd_sim.specs.RunView.{SimView, IsSim}
 use Rattle.hyd_sim.specs.Steps.{IsPeriod}
 use Rattle.hyd_run.specs.Pens.{RunMoment, PutIn, IsCutOff}
 use Rattle.hyd_run.proofs.PeriodLemmas.{small-number, fewer-left}

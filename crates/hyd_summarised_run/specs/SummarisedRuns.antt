@@ -18,7 +18,7 @@ use Rattle.hyd_io.specs.declared.output.OutFault.{OutFault}
 use Rattle.hyd_io.specs.Output.{PenState}
 use Rattle.hyd_io.specs.DeskBytes.{append_known, Moves}
 use Rattle.hyd_sim.specs.declared.settings.Settings.{Settings}
-use Rattle.hyd_sim.specs.View.{SimView, standing_of}
+use Rattle.hyd_sim.specs.RunView.{SimView, standing_of}
 use Rattle.hyd_run.specs.Pens.{Told, RunMoment, moment, PutIn, IsCutOff}
 use Rattle.hyd_run.specs.Runs.{sharpness_of, outcome_of, fresh, IsStep, IsOver, periods_left}
 use Rattle.hyd_summarised_run.specs.declared.steps.Ended.{Ended}

@@ -10,7 +10,7 @@ ghost use Rattle.hyd_spec_reports.specs.CertificateText.{end_line};
 ghost use Rattle.hyd_spec_reports.specs.PromisesOfRunsAndChecks.{EndsSo, last_line, is_finished};
 ghost use Rattle.hyd_spec_summary.specs.Summary.{summary_line};
 ghost use Rattle.hyd_spec.specs.NodeNumbers.{junction_count};
-ghost use Rattle.hyd_sim.specs.View.{standing_of};
+ghost use Rattle.hyd_sim.specs.RunView.{standing_of};
 ghost use Rattle.hyd_run.specs.Pens.{RunMoment, told, moment, AreOpen, PutsIn};
 ghost use Rattle.hyd_run.specs.Runs.{fresh, outcome_of, sharpness_of};
 ghost use Rattle.hyd_summarised_run.specs.SummarisedRuns.{aside, SumsSoFar, RunSumsIn};

@@ -1,4 +1,4 @@
-//! The steps of a run.
+//! The steps of a run, each put into the certificate and counted in the summary.
 
 ghost use Rattle.std.specs.Prelude.{◌≡◌, ◌<◌, ◌^◌, OnOk};
 ghost use Rattle.hyd_run.specs.Pens.{told, AreOpen};

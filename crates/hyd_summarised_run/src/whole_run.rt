@@ -1,17 +1,17 @@
-//! A run.
+//! A whole run whose summary is printed in place of its report.
 
 ghost use Rattle.std.specs.Prelude.{◌≡◌, [], IsTrue, IfOk, IfErr, OnOk};
 ghost use Rattle.hyd_io.specs.declared.output.Channel.TheVariants.{Cert, Report};
 ghost use Rattle.hyd_net.specs.Sound.{IsSound};
 ghost use Rattle.hyd_spec_certificates.specs.RecordAndStanding.{initial_standing};
-ghost use Rattle.hyd_sim.specs.View.{standing_of};
+ghost use Rattle.hyd_sim.specs.RunView.{standing_of};
 ghost use Rattle.hyd_run.specs.Pens.{told, moment, OneRose, LeavesRest};
 ghost use Rattle.hyd_run.specs.Runs.{fresh, outcome_of};
 ghost use Rattle.hyd_summarised_run.specs.SummarisedRuns.{IsSummed, IsSumBrokenOff, RunSumsIn};
 
 use crate::end_line_and_summary::put_ending;
 use crate::steps::put_steps;
-use hyd_cert::put_head;
+use hyd_cert::put_header;
 use hyd_finders::Finder;
 use hyd_io::{Desk, OutFault, Pen};
 use hyd_run::RunEnd;
@@ -40,7 +40,7 @@ fn put_run<D: Desk, F: Finder>(
 {
     // The record stands under the header of the network.
     let _project = sim.project();
-    match put_head(sim.row(), certificate, desk) {
+    match put_header(sim.row(), certificate, desk) {
         Ok(()) => {}
         Err(fault) => return Err(fault),
     }

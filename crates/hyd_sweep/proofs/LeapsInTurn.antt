@@ -12,13 +12,14 @@ use Rattle.hyd_spec_certificates.specs.declared.Side.TheVariants.{Upper, Lower}
 use Rattle.hyd_spec_certificates.specs.declared.HeldJunction.{HeldJunction}
 use Rattle.hyd_spec_certificates.specs.PeriodNetwork.{Grid, GridJunction}
 use Rattle.hyd_spec_certificates.specs.Certificate.{Passes, IsBeyond, IsCertificateHolding}
-use Rattle.hyd_spec_certificates.specs.SearchSteps.{IsStart, IsLeap, Fails}
-use Rattle.hyd_theorems_on_definitions.specs.TermsOfTheorems.{IsSteady}
+use Rattle.hyd_spec_certificates.specs.StartsRaisesAndLeaps.{IsStart, IsLeap, Fails}
+use Rattle.hyd_theorems_on_definitions.specs.SoundLawsAndGrids.{IsSteady}
 use Rattle.hyd_theorems_on_definitions.specs.Sides.{along}
 use Rattle.hyd_theorems_on_definitions.proofs.HeadsOfAllNodes.{IsGreatestBelow, greatest_below}
 use Rattle.hyd_lemmas.proofs.Integers.{same-or-not}
 use Rattle.hyd_lemmas.proofs.ListsOptionsAndResults.{item_there}
-use Rattle.hyd_theorems_on_raises.proofs.GreatestLead.{beyond-is, lead, IsLeading, passes-leading, fails-leading}
+use Rattle.hyd_theorems_on_raises.proofs.WhereOneLiesBeyondByMost.{beyond-is, lead, IsLeading, passes-leading}
+use Rattle.hyd_theorems_on_raises.proofs.WhereOneLiesBeyondByMost.{fails-leading}
 use Rattle.hyd_theorems_on_raises.proofs.RaisesAndTightVector.{beyond-self, by-beyond, set-here, set-there}
 use Rattle.hyd_theorems_on_raises.proofs.RaisesInAnyOrder.{one-vector, vector-self, vector-trans}
 use Rattle.hyd_sweep.specs.Leaps.{nearer, IsTurn, IsLeapInTurn, LeapsLeadTo}

@@ -7,9 +7,9 @@ use Rattle.hyd_spec_certificates.specs.declared.Problem.{Problem}
 use Rattle.hyd_spec_certificates.specs.declared.HeldJunction.{HeldJunction}
 use Rattle.hyd_spec_certificates.specs.PeriodNetwork.{Grid}
 use Rattle.hyd_spec_certificates.specs.Certificate.{IsCertificateHolding, AreRoundsHolding, none, more}
-use Rattle.hyd_spec_certificates.specs.SearchSteps.{JoinsNone}
+use Rattle.hyd_spec_certificates.specs.StartsRaisesAndLeaps.{JoinsNone}
 use Rattle.hyd_theorems_on_raises.proofs.NoLinkBetweenJunctions.{one-round}
-use Rattle.hyd_sweep.specs.declared.answers.Swept.TheVariants.{RoundsSpent}
+use Rattle.hyd_sweep.specs.declared.answers_of_sweeps.Swept.TheVariants.{RoundsSpent}
 use Rattle.hyd_sweep.specs.Sweeps.{SweepGives, EndsWhereApart}
 
 module _ (held : Option HeldJunction) (grid : Grid) (problem : Problem) (side : Side) where

@@ -1,4 +1,4 @@
--- The value of a raise.
+-- To which head a raise puts a junction, and that it is the nearest.
 use Rattle.std.proofs.Common.{◌≡◌, ◌≢◌, ℕ, ◌<◌, ◌≤◌, ℤ, pos, ◌+ℤ◌, ◌-ℤ◌, ◌≤ℤ◌, refl, sym, ap, subst, ◌∙◌, arith, Bool}
 use Rattle.std.proofs.Common.{true, false, ◌==◌, List, length, inl, inr}
 use Rattle.std.specs.Prelude.{Some, None, Option, slice_get, slice_set, unsigned_abs, MatchBool}
@@ -12,11 +12,12 @@ use Rattle.hyd_spec_certificates.specs.declared.HeldJunction.{HeldJunction}
 use Rattle.hyd_spec.specs.Assignment.{head_at}
 use Rattle.hyd_spec_certificates.specs.PeriodNetwork.{Grid, GridJunction}
 use Rattle.hyd_spec_certificates.specs.Certificate.{box_limit, IsInBox, Passes, Suits, IsBeyond, IsCandidateHolding}
-use Rattle.hyd_theorems_on_definitions.specs.TermsOfTheorems.{IsSteady}
-use Rattle.hyd_spec_certificates.specs.SearchSteps.{Fails}
+use Rattle.hyd_theorems_on_definitions.specs.SoundLawsAndGrids.{IsSteady}
+use Rattle.hyd_spec_certificates.specs.StartsRaisesAndLeaps.{Fails}
 use Rattle.hyd_theorems_on_definitions.specs.Sides.{along}
 use Rattle.hyd_vector_check.specs.NetOutflowBySide.{PassesWith}
-use Rattle.hyd_theorems_on_raises.proofs.GreatestLead.{beyond-is, is-beyond, lead, IsLeading, passes-leading}
+use Rattle.hyd_theorems_on_raises.proofs.WhereOneLiesBeyondByMost.{beyond-is, is-beyond, lead, IsLeading}
+use Rattle.hyd_theorems_on_raises.proofs.WhereOneLiesBeyondByMost.{passes-leading}
 use Rattle.hyd_theorems_on_raises.proofs.RaisesAndTightVector.{set-here, set-there, along-one, along-ceiling}
 use Rattle.hyd_theorems_on_raises.proofs.RaisesAndTightVector.{beyond-self}
 use Rattle.hyd_sweep.specs.Sweeps.{IsFree, further, RaisesTo, HasNoValue}

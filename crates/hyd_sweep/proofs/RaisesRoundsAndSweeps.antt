@@ -13,19 +13,20 @@ use Rattle.hyd_spec.specs.Assignment.{head_at}
 use Rattle.hyd_spec.specs.Lists.{Each}
 use Rattle.hyd_spec_certificates.specs.PeriodNetwork.{Grid, GridJunction}
 use Rattle.hyd_spec_certificates.specs.Certificate.{IsInBox, Suits, IsCertificateHolding, IsTightHolding}
-use Rattle.hyd_theorems_on_definitions.specs.TermsOfTheorems.{IsSteady}
-use Rattle.hyd_spec_certificates.specs.SearchSteps.{IsStart, Climbs, done, raised, HasRounds, HasParts, LiesBeyond}
+use Rattle.hyd_theorems_on_definitions.specs.SoundLawsAndGrids.{IsSteady}
+use Rattle.hyd_spec_certificates.specs.StartsRaisesAndLeaps.{IsStart, Climbs, done, raised, HasRounds, HasParts}
+use Rattle.hyd_spec_certificates.specs.StartsRaisesAndLeaps.{LiesBeyond}
 use Rattle.hyd_theorems_on_definitions.specs.Sides.{along}
-use Rattle.hyd_theorems_on_raises.proofs.GreatestLead.{beyond-is}
+use Rattle.hyd_theorems_on_raises.proofs.WhereOneLiesBeyondByMost.{beyond-is}
 use Rattle.hyd_theorems_on_raises.proofs.RaisesAndTightVector.{set-in-box, set-here, along-one, no-value, start-tight}
 use Rattle.hyd_theorems_on_raises.proofs.RaisesAndTightVector.{inside-of}
 use Rattle.hyd_theorems_on_raises.proofs.RaisesInAnyOrder.{vector-self, climb-on, climb-start, climb-so-far}
 use Rattle.hyd_theorems_on_raises.proofs.RaisesInAnyOrder.{so-far-begins}
 use Rattle.hyd_theorems_on_raises.proofs.RaisesInAnyOrder.{has-more}
 use Rattle.hyd_theorems_on_raises.proofs.RaisesInAnyOrder.{rounds-spent, every-order}
-use Rattle.hyd_sweep.specs.declared.answers.Raised.{Raised}
-use Rattle.hyd_sweep.specs.declared.answers.Raised.TheVariants.{Passed, Moved, NoValue}
-use Rattle.hyd_sweep.specs.declared.answers.Swept.TheVariants.{NoCertificate, RoundsSpent}
+use Rattle.hyd_sweep.specs.declared.answers_of_sweeps.Raised.{Raised}
+use Rattle.hyd_sweep.specs.declared.answers_of_sweeps.Raised.TheVariants.{Passed, Moved, NoValue}
+use Rattle.hyd_sweep.specs.declared.answers_of_sweeps.Swept.TheVariants.{NoCertificate, RoundsSpent}
 use Rattle.hyd_sweep.specs.Sweeps.{RaisesTo, RaiseGives, AreRaises, no_raise, one_raise, FollowGives, FollowLeads}
 use Rattle.hyd_sweep.specs.Sweeps.{NamesEach, RoundGives, SweepGives, numbers, IsFollowing}
 use Rattle.hyd_lemmas.proofs.ListsOptionsAndResults.{item_there}

@@ -6,8 +6,8 @@ use Rattle.hyd_spec_certificates.specs.declared.Problem.{Problem}
 use Rattle.hyd_spec_certificates.specs.declared.Side.{Side}
 use Rattle.hyd_spec_certificates.specs.declared.HeldJunction.{HeldJunction}
 use Rattle.hyd_spec_certificates.specs.PeriodNetwork.{Grid}
-use Rattle.hyd_sweep.specs.declared.answers.Swept.{Swept}
-use Rattle.hyd_sweep.specs.declared.answers.Swept.TheVariants.{Least, NoCertificate, RoundsSpent}
+use Rattle.hyd_sweep.specs.declared.answers_of_sweeps.Swept.{Swept}
+use Rattle.hyd_sweep.specs.declared.answers_of_sweeps.Swept.TheVariants.{Least, NoCertificate, RoundsSpent}
 use Rattle.hyd_sweep.specs.Sweeps.{AreRaises, RoundGives, numbers}
 use Rattle.hyd_sweep.specs.Leaps.{LeapsLeadTo}
 use Rattle.hyd_sweep.specs.Strides.{GoesOnWithin}

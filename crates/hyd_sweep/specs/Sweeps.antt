@@ -13,12 +13,12 @@ use Rattle.hyd_spec_certificates.specs.declared.HeldJunction.{HeldJunction}
 use Rattle.hyd_spec_certificates.specs.PeriodNetwork.{Grid, GridJunction}
 use Rattle.hyd_spec_certificates.specs.Certificate.{IsInBox, Suits, IsCertificateHolding, IsCandidateHolding}
 use Rattle.hyd_spec_certificates.specs.Certificate.{IsRaisedHolding, AreRoundsHolding, IsTightHolding}
-use Rattle.hyd_spec_certificates.specs.SearchSteps.{IsStart, LiesBeyond, HasParts, HasRounds, JoinsNone}
+use Rattle.hyd_spec_certificates.specs.StartsRaisesAndLeaps.{IsStart, LiesBeyond, HasParts, HasRounds, JoinsNone}
 use Rattle.hyd_theorems_on_definitions.specs.Sides.{along}
-use Rattle.hyd_sweep.specs.declared.answers.Raised.{Raised}
-use Rattle.hyd_sweep.specs.declared.answers.Raised.TheVariants.{Passed, Moved, NoValue}
-use Rattle.hyd_sweep.specs.declared.answers.Swept.{Swept}
-use Rattle.hyd_sweep.specs.declared.answers.Swept.TheVariants.{Least, NoCertificate, RoundsSpent}
+use Rattle.hyd_sweep.specs.declared.answers_of_sweeps.Raised.{Raised}
+use Rattle.hyd_sweep.specs.declared.answers_of_sweeps.Raised.TheVariants.{Passed, Moved, NoValue}
+use Rattle.hyd_sweep.specs.declared.answers_of_sweeps.Swept.{Swept}
+use Rattle.hyd_sweep.specs.declared.answers_of_sweeps.Swept.TheVariants.{Least, NoCertificate, RoundsSpent}
 
 -- ---- the held junction
 

@@ -1,12 +1,11 @@
 //! Leaps: vectors that some other source proposes, accepted by one pass.
 #![tactic(auto)]
 
-ghost use Rattle.std.specs.Prelude.{◌≡◌, ◌≢◌, ◌<◌, ◌↔◌, length, All, IsTrue, slice_set, if◌then◌else◌};
-ghost use Rattle.hyd_spec.specs.Assignment.{head_at};
+ghost use Rattle.std.specs.Prelude.{◌≡◌, ◌≢◌, ◌<◌, ◌↔◌, length, All, IsTrue, if◌then◌else◌};
 ghost use Rattle.hyd_spec_certificates.specs.Certificate.{IsInBox, IsBeyond};
-ghost use Rattle.hyd_spec_certificates.specs.SearchSteps.{IsStart, IsLeap, LiesBeyond};
+ghost use Rattle.hyd_spec_certificates.specs.StartsRaisesAndLeaps.{IsStart, IsLeap, LiesBeyond};
 ghost use Rattle.hyd_period_network.specs.NetAsPeriodNetwork.{grid_of};
-ghost use Rattle.hyd_period_network.specs.NetInvariant.{HasProblem};
+ghost use Rattle.hyd_period_network.specs.SoundNets.{HasProblem};
 ghost use Rattle.hyd_sweep.specs.Sweeps.{HoldsInBox};
 ghost use Rattle.hyd_sweep.specs.Leaps.{nearer, IsTurn, MayMove, IsLeapInTurn};
 

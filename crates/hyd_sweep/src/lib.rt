@@ -2,10 +2,10 @@
 //! with or without a junction held.
 #![tactic(auto)]
 
-mod answers;
+mod answers_of_sweeps;
 mod heads_along_side;
+mod heads_where_sweeps_begin;
 mod leaps;
-mod near_end_of_box;
 mod next_trial_head;
 mod raises_in_order;
 mod rounds;
@@ -13,10 +13,10 @@ mod single_raises;
 mod strides;
 mod sweeper;
 
-pub use answers::{Raised, Swept};
+pub use answers_of_sweeps::{Raised, Swept};
 pub use heads_along_side::nearer;
+pub use heads_where_sweeps_begin::begin;
 pub use leaps::leap;
-pub use near_end_of_box::begin;
 pub use raises_in_order::{follow, follow_sub, follow_super};
 pub use rounds::tighten;
 pub use single_raises::{raise, raise_sub, raise_super};

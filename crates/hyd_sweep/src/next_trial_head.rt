@@ -1,7 +1,7 @@
 //! Where the next trial of a head is made. Nothing rests on the choice but the number of trials.
 #![tactic(auto)]
 
-ghost use Rattle.std.specs.Prelude.{◌<◌, ◌≤◌, ◌^◌};
+ghost use Rattle.std.specs.Prelude.{◌<◌, ◌≤◌};
 
 // So many trials suffice, since a way through the box takes 61 halvings.
 const TRIALS: u32 = 64;

@@ -5,10 +5,10 @@ ghost use Rattle.std.specs.Prelude.{◌≡◌, ◌<◌, length, All, None};
 ghost use Rattle.hyd_spec_certificates.specs.declared.Side.TheVariants.{Upper, Lower};
 ghost use Rattle.hyd_spec_certificates.specs.Certificate.{IsInBox};
 ghost use Rattle.hyd_period_network.specs.NetAsPeriodNetwork.{grid_of};
-ghost use Rattle.hyd_period_network.specs.NetInvariant.{HasProblem};
+ghost use Rattle.hyd_period_network.specs.SoundNets.{HasProblem};
 ghost use Rattle.hyd_sweep.specs.Sweeps.{FollowGives, FollowLeads, HoldsInBox};
 
-use crate::answers::Raised;
+use crate::answers_of_sweeps::Raised;
 use crate::single_raises::raise;
 use hyd_period_network::Net;
 use hyd_spec_certificates::{HeldJunction, Problem, Side};

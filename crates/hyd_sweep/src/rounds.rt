@@ -4,12 +4,12 @@
 ghost use Rattle.std.specs.Prelude.{◌≡◌, ◌<◌, ◌↔◌, length, All, IsTrue};
 ghost use Rattle.hyd_spec.specs.Lists.{Each};
 ghost use Rattle.hyd_spec_certificates.specs.Certificate.{IsInBox, Suits};
-ghost use Rattle.hyd_spec_certificates.specs.SearchSteps.{IsStart};
+ghost use Rattle.hyd_spec_certificates.specs.StartsRaisesAndLeaps.{IsStart};
 ghost use Rattle.hyd_period_network.specs.NetAsPeriodNetwork.{grid_of};
-ghost use Rattle.hyd_period_network.specs.NetInvariant.{HasProblem};
+ghost use Rattle.hyd_period_network.specs.SoundNets.{HasProblem};
 ghost use Rattle.hyd_sweep.specs.Sweeps.{SuitsAt, RoundGives, SweepGives, RoundsGo, EndsWhereApart, HoldsInBox};
 
-use crate::answers::{Raised, Swept};
+use crate::answers_of_sweeps::{Raised, Swept};
 use crate::heads_along_side::is_same;
 use crate::single_raises::{held_head, raise};
 use hyd_period_network::Net;

@@ -6,14 +6,14 @@ ghost use Rattle.std.specs.Prelude.{None};
 ghost use Rattle.hyd_spec.specs.Assignment.{head_at};
 ghost use Rattle.hyd_spec_certificates.specs.declared.Side.TheVariants.{Upper, Lower};
 ghost use Rattle.hyd_spec_certificates.specs.Certificate.{box_limit, IsInBox};
-ghost use Rattle.hyd_theorems_on_definitions.specs.TermsOfTheorems.{IsSteady};
+ghost use Rattle.hyd_theorems_on_definitions.specs.SoundLawsAndGrids.{IsSteady};
 ghost use Rattle.hyd_theorems_on_definitions.specs.Sides.{along};
 ghost use Rattle.hyd_period_network.specs.NetAsPeriodNetwork.{grid_of};
-ghost use Rattle.hyd_period_network.specs.NetInvariant.{HasProblem};
+ghost use Rattle.hyd_period_network.specs.SoundNets.{HasProblem};
 ghost use Rattle.hyd_vector_check.specs.NetOutflowBySide.{PassesWith};
 ghost use Rattle.hyd_sweep.specs.Sweeps.{IsFree, IsHeldAt, further, RaisesTo, HasNoValue, RaiseGives, HoldsInBox};
 
-use crate::answers::Raised;
+use crate::answers_of_sweeps::Raised;
 use crate::heads_along_side::{further, is_beyond, room};
 use crate::next_trial_head::Aim;
 use hyd_period_network::Net;

@@ -3,13 +3,13 @@
 
 ghost use Rattle.std.specs.Prelude.{◌≡◌, length, None, IfOk};
 ghost use Rattle.hyd_spec_certificates.specs.declared.Side.TheVariants.{Upper, Lower};
-ghost use Rattle.hyd_spec_certificates.specs.SearchSteps.{IsStart};
+ghost use Rattle.hyd_spec_certificates.specs.StartsRaisesAndLeaps.{IsStart};
 ghost use Rattle.hyd_period_network.specs.NetAsPeriodNetwork.{grid_of};
-ghost use Rattle.hyd_period_network.specs.NetInvariant.{HasProblem};
+ghost use Rattle.hyd_period_network.specs.SoundNets.{HasProblem};
 ghost use Rattle.hyd_sweep.specs.Sweeps.{SweepGives, EndsWhereApart, HoldsInBox};
 ghost use Rattle.hyd_sweep.specs.LeapingRounds.{SweepGoes};
 
-use crate::answers::Swept;
+use crate::answers_of_sweeps::Swept;
 use crate::rounds::{round, suits_everywhere};
 use crate::strides::{leap_on, put_ways};
 use hyd_period_network::Net;

@@ -12,10 +12,10 @@ use Rattle.hyd_spec_certificates.specs.Stocks.{end_of}
 use Rattle.hyd_lemmas.proofs.Integers.{floor_low, floor_greatest, ceiling_high, ceiling_least}
 use Rattle.hyd_theorems_on_definitions.proofs.ValuesAtTwoScales.{one-within}
 use Rattle.hyd_theorems_on_definitions.proofs.ValuesByContent.{above-yes, above-no, below-yes, below-no}
-use Rattle.hyd_theorems_on_definitions.proofs.Vessels.{some-area}
+use Rattle.hyd_theorems_on_definitions.proofs.SoundTankLemmas.{some-area}
 use Rattle.hyd_net.specs.NumberRanges.{Lies}
 use Rattle.hyd_tank.specs.Contents.{bounds_of, in_ticks, held_in, IsBetween}
-use Rattle.hyd_tank.specs.declared.content.Bounds.{Bounds as Limits}
+use Rattle.hyd_tank.specs.declared.contents_of_tanks.Bounds.{Bounds as Limits}
 
 -- ---- parts
 

@@ -8,7 +8,7 @@ use Rattle.hyd_spec.specs.Tank.{Bounds, Cylinder, Curve, level_bounds, content_b
 use Rattle.hyd_spec.specs.ProgramTypes.{Tank, VolumePoint}
 use Rattle.hyd_spec_certificates.specs.Interval.{Interval}
 use Rattle.hyd_spec_certificates.specs.Stocks.{Stocks, end_of, lower_end, upper_end, lower_level, upper_level}
-use Rattle.hyd_tank.specs.declared.content.Bounds.{Bounds as Limits}
+use Rattle.hyd_tank.specs.declared.contents_of_tanks.Bounds.{Bounds as Limits}
 use Rattle.hyd_tank.specs.Contents.{bounds_of, in_ticks, held_in}
 use Rattle.hyd_tank.specs.StockIntervals.{level_stock}
 use Rattle.hyd_tank.specs.Targets.{AreVolumes}

@@ -9,4 +9,4 @@ pub mod LineAtPlace
 pub mod TanksWithVolumeCurve
 pub mod TargetVolumes
 pub mod OrderBoundsAndNesting
-pub mod Initial
+pub mod InitialStocksInBounds

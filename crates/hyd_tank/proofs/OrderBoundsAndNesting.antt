@@ -4,14 +4,15 @@ use Rattle.std.proofs.lemmas.Int.{ints}
 use Rattle.hyd_num.specs.Rational.{Rational}
 use Rattle.hyd_spec.specs.ProgramTypes.{Tank, VolumePoint}
 use Rattle.hyd_spec.specs.Tank.{Walls, Cylinder, Curve, Bounds, content_bounds}
-use Rattle.hyd_spec_certificates.specs.Spans.{levels_of}
+use Rattle.hyd_spec_certificates.specs.SpansAsIntervals.{levels_of}
 use Rattle.hyd_spec_certificates.specs.Interval.{Interval}
 use Rattle.hyd_spec_certificates.specs.Stocks.{Stocks, least_stock, greatest_stock, exact_least, exact_greatest}
 use Rattle.hyd_spec_certificates.specs.Stocks.{contents_after, carried_stocks, may_reach, must_reach}
 use Rattle.hyd_spec_certificates.specs.FirstSeconds.{IsFirstSecond}
 use Rattle.hyd_spec_certificates.specs.declared.LevelSpan.{LevelSpan}
-use Rattle.hyd_theorems_on_definitions.specs.TermsOfTheorems.{LiesIn, StockLies, IsVessel, IsInside, AreInside}
-use Rattle.hyd_theorems_on_definitions.specs.TermsOfTheorems.{IsWithin, HasStock}
+use Rattle.hyd_theorems_on_definitions.specs.LyingInIntervals.{LiesIn, StockLies, IsInside, AreInside}
+use Rattle.hyd_theorems_on_definitions.specs.SoundTanks.{IsVessel}
+use Rattle.hyd_theorems_on_definitions.specs.LyingInIntervals.{IsWithin, HasStock}
 use Rattle.hyd_theorems_on_definitions.proofs.ValuesByContent.{Fits, lower-least, lower-most, upper-least, upper-most}
 use Rattle.hyd_theorems_on_definitions.proofs.ValuesByContent.{ends-ordered}
 use Rattle.hyd_theorems_on_definitions.proofs.ValuesByContent.{lower-rises}

@@ -20,8 +20,8 @@ use Rattle.hyd_spec_certificates.specs.Interval.{Interval}
 use Rattle.hyd_spec_certificates.specs.Stocks.{Stocks, next_stocks, carried_stocks, carried_levels}
 use Rattle.hyd_spec_certificates.specs.FirstSeconds.{IsEarliestSecond, IsLatestSecond}
 use Rattle.hyd_theorems_on_definitions.proofs.StocksInIntervals.{next_within, volumes_within}
-use Rattle.hyd_theorems_on_definitions.specs.TermsOfTheorems.{IsVessel}
-use Rattle.hyd_theorems_on_definitions.proofs.Vessels.{IsSoundTank, sound_tank, shape_of, some-area}
+use Rattle.hyd_theorems_on_definitions.specs.SoundTanks.{IsVessel}
+use Rattle.hyd_theorems_on_definitions.proofs.SoundTankLemmas.{IsSoundTank, sound_tank, shape_of, some-area}
 use Rattle.hyd_tank.specs.declared.stock_intervals.Stock.{Stock}
 use Rattle.hyd_tank.specs.StockIntervals.{stocks_of, stocks_at, AreHeld, cylinder, IsTankOfRange, IsCylinder, IsBasin}
 use Rattle.hyd_tank.specs.StockIntervals.{IsTankOf}

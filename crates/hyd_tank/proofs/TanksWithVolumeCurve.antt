@@ -16,7 +16,7 @@ use Rattle.hyd_lemmas.proofs.Integers.{floor_low, floor_greatest, ceiling_high, 
 use Rattle.hyd_lemmas.proofs.Integers.{floor_whole}
 use Rattle.hyd_theorems_on_definitions.proofs.ValuesAtTwoScales.{one-within}
 use Rattle.hyd_theorems_on_definitions.proofs.ValuesByContent.{placed-is}
-use Rattle.hyd_tank.specs.declared.content.Bounds.{Bounds as Limits}
+use Rattle.hyd_tank.specs.declared.contents_of_tanks.Bounds.{Bounds as Limits}
 use Rattle.hyd_tank.specs.declared.volume_curve.Known.TheVariants.{Level, Volume}
 use Rattle.hyd_tank.specs.declared.volume_curve.Mixed.{Mixed}
 use Rattle.hyd_tank.specs.Contents.{bounds_of, in_ticks, IsBetween}

@@ -5,7 +5,7 @@ use Rattle.std.specs.Prelude.{int_le, if◌then◌else◌}
 use Rattle.std.specs.Int.{int_min, w128}
 use Rattle.std.proofs.Math.IntN.{*ℤ_comm}
 use Rattle.std.proofs.lemmas.Int.{ints, clamps, by_lt_z}
-use Rattle.hyd_spec.specs.Scale.{is_same_number}
+use Rattle.hyd_spec.specs.WholeNumbers.{is_same_number}
 use Rattle.hyd_lemmas.proofs.BooleanTests.{or-left, or-right, le-from, le-yes, and-false, le-not}
 use Rattle.hyd_theorems_on_definitions.proofs.RisingLines.{value-den}
 use Rattle.hyd_num.proofs.Integers.{times_plus, times_neg, times_rises, times_one, one_times}
@@ -15,14 +15,15 @@ use Rattle.hyd_spec.specs.ProgramTypes.{Tank, VolumePoint}
 use Rattle.hyd_spec.specs.Tank.{Stock, Curve, Bounds, level_bounds, content_bounds, exact_content, level_on_curve}
 use Rattle.hyd_spec.specs.Tank.{level_at_volume, carried_level, reaches, has_reached}
 use Rattle.hyd_lemmas.proofs.Integers.{exchanged, floor_low, floor_greatest, ceiling_high, ceiling_least}
-use Rattle.hyd_theorems_on_definitions.specs.TermsOfTheorems.{IsVessel, in_parts}
+use Rattle.hyd_theorems_on_definitions.specs.LyingInIntervals.{in_parts}
+use Rattle.hyd_theorems_on_definitions.specs.SoundTanks.{IsVessel}
 use Rattle.hyd_theorems_on_definitions.proofs.ValuesAtTwoScales.{one-within}
 use Rattle.hyd_theorems_on_definitions.proofs.StocksInIntervals.{level-fits-at, carried-some, curve-some}
 use Rattle.hyd_theorems_on_definitions.proofs.ValuesByContent.{above-yes, above-from, below-yes, below-from, placed-is}
 use Rattle.hyd_theorems_on_definitions.proofs.ValuesByContent.{placed-most, placed-least}
-use Rattle.hyd_theorems_on_definitions.proofs.Targets.{falling_target, at_maximum, risen_to}
+use Rattle.hyd_theorems_on_definitions.proofs.TargetsOfVolumeCurves.{falling_target, at_maximum, risen_to}
 use Rattle.hyd_spec_certificates.specs.FirstSeconds.{IsFirstSecond}
-use Rattle.hyd_tank.specs.declared.content.Bounds.{Bounds as Limits}
+use Rattle.hyd_tank.specs.declared.contents_of_tanks.Bounds.{Bounds as Limits}
 use Rattle.hyd_tank.specs.declared.volume_curve.Mixed.{Mixed}
 use Rattle.hyd_tank.specs.declared.first_second_at_target.Target.{Target}
 use Rattle.hyd_tank.specs.Contents.{IsFirstMeeting}

@@ -5,8 +5,8 @@ use Rattle.hyd_num.specs.Rational.{Rational}
 use Rattle.hyd_net.specs.NumberRanges.{Lies, volume_limit}
 use Rattle.hyd_spec.specs.Tank.{Bounds}
 use Rattle.hyd_spec.specs.PeriodLength.{IsLeast}
-use Rattle.hyd_tank.specs.declared.content.Bounds.{Bounds as Limits}
-use Rattle.hyd_tank.specs.declared.content.Motion.{Motion}
+use Rattle.hyd_tank.specs.declared.contents_of_tanks.Bounds.{Bounds as Limits}
+use Rattle.hyd_tank.specs.declared.contents_of_tanks.Motion.{Motion}
 
 -- the bounds that the code's stand for
 abbrev pub bounds_of : Limits → Bounds

@@ -1,15 +1,15 @@
 -- What the spans and stocks of the calls stand for, and what is asked of them.
 use Rattle.std.specs.Prelude.{◌≡◌, ◌*◌, ◌^◌, ◌≤◌, ℤ, pos, ◌<ℤ◌, ◌≤ℤ◌, unsigned_abs, None, List, ◌<◌, length}
 use Rattle.std.specs.Prelude.{MatchOption}
-use Rattle.hyd_num.specs.declared.decimals.Span.{Span}
+use Rattle.hyd_num.specs.declared.spans.Span.{Span}
 use Rattle.hyd_net.specs.NumberRanges.{Lies, head_limit}
 use Rattle.hyd_net.specs.NetworkRanges.{IsShapeOf}
 use Rattle.hyd_spec.specs.ProgramTypes.{Project, Tank, VolumePoint}
 use Rattle.hyd_spec.specs.Tank.{Stock as OneStock, Walls, Cylinder, Bounds, level_bounds, kept_volume, shape_points}
-use Rattle.hyd_spec_certificates.specs.Spans.{levels_of}
+use Rattle.hyd_spec_certificates.specs.SpansAsIntervals.{levels_of}
 use Rattle.hyd_spec_certificates.specs.Interval.{Interval, exactly}
 use Rattle.hyd_spec_certificates.specs.Stocks.{Stocks}
-use Rattle.hyd_theorems_on_definitions.specs.TermsOfTheorems.{IsWithin}
+use Rattle.hyd_theorems_on_definitions.specs.LyingInIntervals.{IsWithin}
 use Rattle.hyd_spec_certificates.specs.declared.LevelSpan.{LevelSpan}
 use Rattle.hyd_tank.specs.declared.stock_intervals.VolumeSpan.{VolumeSpan}
 use Rattle.hyd_tank.specs.declared.stock_intervals.Stock.{Stock}

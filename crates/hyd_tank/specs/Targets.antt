@@ -5,7 +5,7 @@ use Rattle.std.specs.List.{HoldsAt}
 use Rattle.hyd_spec.specs.ProgramTypes.{Tank, VolumePoint}
 use Rattle.hyd_spec.specs.Tank.{Stock, Curve, content_bounds, has_reached}
 use Rattle.hyd_spec.specs.PeriodLength.{IsLeast}
-use Rattle.hyd_tank.specs.declared.content.Bounds.{Bounds as Limits}
+use Rattle.hyd_tank.specs.declared.contents_of_tanks.Bounds.{Bounds as Limits}
 use Rattle.hyd_tank.specs.Contents.{bounds_of, AreBounds}
 use Rattle.hyd_tank.specs.declared.first_second_at_target.Target.{Target}
 use Rattle.hyd_tank.specs.declared.first_second_at_target.Target.TheVariants.{Always, Never, Parts}

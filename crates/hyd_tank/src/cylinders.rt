@@ -1,21 +1,23 @@
 //! Tanks without a volume curve: their levels after some seconds, and when these reach a target.
 #![tactic(auto)]
 
-ghost use Rattle.std.specs.Prelude.{◌≡◌, ◌*◌, ◌^◌, ◌<◌, ◌≤◌, ◌≤ℤ◌, pos, unsigned_abs, ℕ, ℤ, Bool};
+ghost use Rattle.std.specs.Prelude.{◌≡◌, ◌*◌, ◌^◌, ◌<◌, ◌≤◌, ◌≤ℤ◌, pos, unsigned_abs, ℕ, ℤ};
 ghost use Rattle.hyd_net.specs.NumberRanges.{Lies, head_limit};
 ghost use Rattle.hyd_spec.specs.Scale.{missed_stock_ticks};
 ghost use Rattle.hyd_spec.specs.Tank.{level_bounds, has_reached, carried_level, IsNextStock};
-ghost use Rattle.hyd_spec_certificates.specs.Spans.{levels_of, flows_of};
+ghost use Rattle.hyd_spec_certificates.specs.SpansAsIntervals.{levels_of, flows_of};
 ghost use Rattle.hyd_spec_certificates.specs.Interval.{Interval};
 ghost use Rattle.hyd_spec_certificates.specs.Stocks.{contents_after, next_stocks, carried_levels};
 ghost use Rattle.hyd_spec_certificates.specs.FirstSeconds.{IsFirstSecond, IsEarliestSecond, IsLatestSecond};
-ghost use Rattle.hyd_theorems_on_definitions.specs.TermsOfTheorems.{LiesIn, LiesAround, IsInside, IsWithin};
+ghost use Rattle.hyd_theorems_on_definitions.specs.LyingInIntervals.{LiesIn, LiesAround, IsInside, IsWithin};
 ghost use Rattle.hyd_tank.specs.Contents.{bounds_of, AreBounds, IsMotion};
 ghost use Rattle.hyd_tank.specs.StockIntervals.{stocks_at, with_levels, level_stock, cylinder};
 ghost use Rattle.hyd_tank.specs.StockIntervals.{IsInflow};
 ghost use Rattle.hyd_tank.specs.StockIntervals.{IsTankOfRange, IsCylinder};
 
-use crate::content::{Bounds, Motion, held_after, in_parts, lower_content, upper_content};
+use crate::contents_of_tanks::{
+    Bounds, Motion, held_after, in_parts, lower_content, upper_content,
+};
 use crate::first_second_at_target::first_meeting;
 use hyd_net::Tank;
 use hyd_num::Span;

@@ -1,7 +1,7 @@
 //! The first second at which a content meets a target.
 #![tactic(auto)]
 
-ghost use Rattle.std.specs.Prelude.{◌*◌, ◌^◌, ◌≤◌, ◌<◌, unsigned_abs};
+ghost use Rattle.std.specs.Prelude.{◌^◌, ◌<◌, unsigned_abs};
 ghost use Rattle.hyd_tank.specs.Contents.{IsFirstMeeting};
 
 use hyd_num::mul_div_ceil;

@@ -2,7 +2,7 @@
 //! and the stock with which a run begins.
 #![tactic(auto)]
 
-mod content;
+mod contents_of_tanks;
 mod cylinders;
 mod first_second_at_target;
 mod states;

@@ -1,13 +1,13 @@
 //! How full a tank is.
 #![tactic(auto)]
 
-ghost use Rattle.std.specs.Prelude.{◌≡◌, ◌<◌, ◌≤ℤ◌, ◌^◌, ◌*◌, ℕ, ℤ, pos, Some};
-ghost use Rattle.hyd_spec.specs.Tank.{level_bounds, tank_state};
+ghost use Rattle.std.specs.Prelude.{◌≡◌, ◌<◌, ◌≤ℤ◌, ℕ, ℤ, Some};
+ghost use Rattle.hyd_spec.specs.Tank.{tank_state};
 ghost use Rattle.hyd_spec.specs.declared.TankState.{TankState};
-ghost use Rattle.hyd_spec_certificates.specs.Spans.{levels_of};
+ghost use Rattle.hyd_spec_certificates.specs.SpansAsIntervals.{levels_of};
 ghost use Rattle.hyd_spec_certificates.specs.Interval.{Interval};
 ghost use Rattle.hyd_spec_certificates.specs.Stocks.{state_of};
-ghost use Rattle.hyd_theorems_on_definitions.specs.TermsOfTheorems.{LiesIn, IsInside, IsWithin};
+ghost use Rattle.hyd_theorems_on_definitions.specs.LyingInIntervals.{LiesIn, IsInside};
 ghost use Rattle.hyd_tank.specs.StockIntervals.{IsTankOfRange};
 
 use hyd_net::Tank;

@@ -8,12 +8,13 @@ ghost use Rattle.hyd_net.specs.Sound.{IsSound};
 ghost use Rattle.hyd_spec.specs.ProgramTypes.{Tank};
 ghost use Rattle.hyd_spec.specs.Tank.{Stock as OneStock, shape_points, walls_of, has_reached, carried_level};
 ghost use Rattle.hyd_spec.specs.Tank.{IsNextStock};
-ghost use Rattle.hyd_spec_certificates.specs.Spans.{levels_of, flows_of};
+ghost use Rattle.hyd_spec_certificates.specs.SpansAsIntervals.{levels_of, flows_of};
 ghost use Rattle.hyd_spec_certificates.specs.Interval.{Interval};
-ghost use Rattle.hyd_spec_certificates.specs.Stocks.{Stocks, next_stocks, carried_stocks, may_reach, must_reach};
+ghost use Rattle.hyd_spec_certificates.specs.Stocks.{Stocks, next_stocks, carried_stocks};
 ghost use Rattle.hyd_spec_certificates.specs.FirstSeconds.{IsFirstSecond, IsEarliestSecond, IsLatestSecond};
-ghost use Rattle.hyd_theorems_on_definitions.specs.TermsOfTheorems.{LiesIn, LiesAround, StockLies, IsInside, AreInside};
-ghost use Rattle.hyd_theorems_on_definitions.specs.TermsOfTheorems.{HasStock};
+ghost use Rattle.hyd_theorems_on_definitions.specs.LyingInIntervals.{LiesIn, LiesAround, StockLies, IsInside};
+ghost use Rattle.hyd_theorems_on_definitions.specs.LyingInIntervals.{AreInside};
+ghost use Rattle.hyd_theorems_on_definitions.specs.LyingInIntervals.{HasStock};
 ghost use Rattle.hyd_tank.specs.StockIntervals.{initial_stocks, stocks_of, IsInflow, AreHeld};
 ghost use Rattle.hyd_tank.specs.StockIntervals.{IsTankOf};
 

@@ -9,7 +9,7 @@ ghost use Rattle.hyd_tank.specs.CurveByLevelOrVolume.{place_of, knot_by, knots_b
 ghost use Rattle.hyd_tank.specs.CurveByLevelOrVolume.{line_in, IsMixed};
 ghost use Rattle.hyd_tank.specs.CurveByLevelOrVolume.{IsAtLeast, IsAtMost, AreNeighbours, IsFrom, IsUpTo, IsOnCurve};
 
-use crate::content::in_parts;
+use crate::contents_of_tanks::in_parts;
 use hyd_net::VolumePoint;
 
 /// Which number of a point is known. The other one is its value.

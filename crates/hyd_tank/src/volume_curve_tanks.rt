@@ -6,22 +6,20 @@ ghost use Rattle.std.specs.Prelude.{false};
 ghost use Rattle.std.specs.List.{HoldsAt};
 ghost use Rattle.hyd_spec.specs.ProgramTypes.{VolumePoint};
 ghost use Rattle.hyd_net.specs.NumberRanges.{Lies, volume_limit};
-ghost use Rattle.hyd_net.specs.Curves.{volume_knots, value_at, IsVolumeCurve};
-ghost use Rattle.hyd_net.specs.NetworkRanges.{IsShapeOf};
+ghost use Rattle.hyd_net.specs.Curves.{volume_knots, value_at};
 ghost use Rattle.hyd_spec.specs.Scale.{missed_stock_ticks};
-ghost use Rattle.hyd_spec.specs.Tank.{Curve, kept_volume, level_bounds, content_bounds, has_reached};
-ghost use Rattle.hyd_spec_certificates.specs.Spans.{flows_of};
-ghost use Rattle.hyd_spec_certificates.specs.Interval.{Interval};
-ghost use Rattle.hyd_spec_certificates.specs.Stocks.{Stocks, lower_level, upper_level, contents_after, levels_at};
+ghost use Rattle.hyd_spec.specs.Tank.{Curve, kept_volume, level_bounds, content_bounds};
+ghost use Rattle.hyd_spec_certificates.specs.SpansAsIntervals.{flows_of};
+ghost use Rattle.hyd_spec_certificates.specs.Stocks.{lower_level, upper_level};
 ghost use Rattle.hyd_spec_certificates.specs.Stocks.{next_stocks, carried_stocks};
-ghost use Rattle.hyd_spec_certificates.specs.FirstSeconds.{IsFirstSecond, IsEarliestSecond, IsLatestSecond};
-ghost use Rattle.hyd_theorems_on_definitions.specs.TermsOfTheorems.{IsWithin};
-ghost use Rattle.hyd_tank.specs.Contents.{bounds_of, AreBounds, in_ticks, held_in, moved};
+ghost use Rattle.hyd_spec_certificates.specs.FirstSeconds.{IsEarliestSecond, IsLatestSecond};
+ghost use Rattle.hyd_theorems_on_definitions.specs.LyingInIntervals.{IsWithin};
+ghost use Rattle.hyd_tank.specs.Contents.{bounds_of, AreBounds, held_in};
 ghost use Rattle.hyd_tank.specs.CurveByLevelOrVolume.{value_of, IsMixed, IsAtLeast, IsAtMost};
 ghost use Rattle.hyd_tank.specs.StockIntervals.{volumes_of, stocks_of, IsInflow, IsBasin};
 ghost use Rattle.hyd_tank.specs.Targets.{AreVolumes, IsSmall, IsFirstMet, StandsFor};
 
-use crate::content::{
+use crate::contents_of_tanks::{
     Bounds, Motion, bound_at, held, held_after, in_parts, lower_content, moved_down, moved_up,
     upper_content,
 };

@@ -1,10 +1,10 @@
 -- The list of inflows, item by item.
 use Rattle.std.proofs.Common.{◌≡◌, ℕ, ◌<◌, length, ℤ, ap, sym, ◌∙◌, arith}
 use Rattle.std.proofs.lemmas.List.{length-map}
-use Rattle.hyd_num.specs.declared.decimals.Span.{Span}
+use Rattle.hyd_num.specs.declared.spans.Span.{Span}
 use Rattle.hyd_spec.specs.ProgramTypes.{Project}
 use Rattle.hyd_spec.specs.NodeNumbers.{tank_node}
-use Rattle.hyd_spec_certificates.specs.Spans.{levels_of, flows_of}
+use Rattle.hyd_spec_certificates.specs.SpansAsIntervals.{levels_of, flows_of}
 use Rattle.hyd_spec_certificates.specs.declared.Problem.TheVariants.{Pinned}
 use Rattle.hyd_spec_certificates.specs.declared.Side.TheVariants.{Upper, Lower}
 use Rattle.hyd_spec_certificates.specs.PeriodNetwork.{Grid}
@@ -12,7 +12,7 @@ use Rattle.hyd_spec_certificates.specs.Interval.{Interval}
 use Rattle.hyd_spec_certificates.specs.FlowIntervals.{inflow_box}
 use Rattle.hyd_spec_certificates.specs.RecordAndStanding.{Record, Vectors, no_vectors, vector_of}
 use Rattle.hyd_spec_certificates.specs.Decided.{inflow_of_tank, nowhere}
-use Rattle.hyd_cert.specs.Vectors.{behind_two}
+use Rattle.hyd_cert.specs.VectorsOfRecord.{behind_two}
 use Rattle.hyd_cert.specs.RecordView.{row_of}
 use Rattle.hyd_cert.specs.declared.record.Record.{Record as Row}
 use Rattle.hyd_cert.proofs.VectorLemmas.{problems_length}
@@ -22,7 +22,7 @@ use Rattle.hyd_period_network.specs.Demands.{IsNetJunction}
 use Rattle.hyd_period_network.specs.NetsSetToPeriods.{IsNetOf}
 use Rattle.hyd_bounds.specs.VectorsInOrder.{IsSpan, tank_node_of}
 use Rattle.hyd_period_network.proofs.NetOfSoundProject.{long_zipped}
-use Rattle.hyd_tank_inflows.specs.Inflows.{ArePinned}
+use Rattle.hyd_tank_inflows.specs.CertificatesPinningTanks.{ArePinned}
 use Rattle.hyd_tank_inflows.proofs.ItemForEachNumber.{placed_first}
 
 -- the node of a tank by the net is that by the network

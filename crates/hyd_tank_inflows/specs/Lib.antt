@@ -1,1 +1,1 @@
-pub mod Inflows
+pub mod CertificatesPinningTanks

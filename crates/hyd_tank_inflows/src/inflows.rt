@@ -5,7 +5,7 @@ ghost use Rattle.std.specs.Prelude.{◌≡◌, ◌<◌, ◌≤◌, ◌+◌, ◌+
 ghost use Rattle.hyd_net.specs.Sound.{IsSound};
 ghost use Rattle.hyd_spec.specs.Lists.{map_from};
 ghost use Rattle.hyd_spec.specs.NodeNumbers.{tank_count};
-ghost use Rattle.hyd_spec_certificates.specs.Spans.{flows_of};
+ghost use Rattle.hyd_spec_certificates.specs.SpansAsIntervals.{flows_of};
 ghost use Rattle.hyd_spec_certificates.specs.declared.Problem.TheVariants.{Pinned};
 ghost use Rattle.hyd_spec_certificates.specs.declared.Side.TheVariants.{Upper, Lower};
 ghost use Rattle.hyd_spec_certificates.specs.FlowIntervals.{inflow_box};
@@ -14,10 +14,10 @@ ghost use Rattle.hyd_spec_certificates.specs.Decided.{inflow_of_tank};
 ghost use Rattle.hyd_cert.specs.RecordView.{row_of};
 ghost use Rattle.hyd_period_network.specs.NetAsPeriodNetwork.{grid_of};
 ghost use Rattle.hyd_period_network.specs.NetsSetToPeriods.{IsNetOf};
-ghost use Rattle.hyd_theorems_on_definitions.specs.TermsOfTheorems.{TanksInOrder};
+ghost use Rattle.hyd_theorems_on_definitions.specs.SoundLawsAndGrids.{TanksInOrder};
 ghost use Rattle.hyd_bounds.specs.VectorsInOrder.{IsSpan, tank_node_of};
 ghost use Rattle.hyd_tank.specs.StockIntervals.{IsInflow};
-ghost use Rattle.hyd_tank_inflows.specs.Inflows.{ArePinned};
+ghost use Rattle.hyd_tank_inflows.specs.CertificatesPinningTanks.{ArePinned};
 
 use hyd_bounds::{pinned_in_order, tank_inflow};
 use hyd_cert::Record;

@@ -4,7 +4,7 @@ use Rattle.std.proofs.Common.{arith}
 use Rattle.std.proofs.lemmas.List.{get_or-map, get_or-set_same, get_or-set_other, length-map, length-set}
 use Rattle.std.proofs.lemmas.List.Elements.{All-map, All-set}
 use Rattle.hyd_net.specs.Sound.{IsSound}
-use Rattle.hyd_net.specs.States.{CanHave}
+use Rattle.hyd_net.specs.LinkStates.{CanHave}
 use Rattle.hyd_net.specs.RoundedFileNumbers.{IsStateMade}
 use Rattle.hyd_spec.specs.ProgramTypes.{Project, Link, LinkKind, PipeLink, CheckPipe, PumpLink, CurvePump, Tcv, Fcv}
 use Rattle.hyd_spec.specs.ProgramTypes.{Gpv, LinkState, Closed}

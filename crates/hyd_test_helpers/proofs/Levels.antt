@@ -3,13 +3,13 @@ use Rattle.std.proofs.Common.{◌≡◌, ℕ, zero, suc, ◌<◌, ℤ, ◌≤ℤ
 use Rattle.std.specs.Prelude.{Some, slice_get}
 use Rattle.std.proofs.lemmas.Int.{ints}
 use Rattle.hyd_spec.specs.ProgramTypes.{Tank}
-use Rattle.hyd_spec_certificates.specs.Spans.{levels_of}
+use Rattle.hyd_spec_certificates.specs.SpansAsIntervals.{levels_of}
 use Rattle.hyd_spec_certificates.specs.Interval.{Interval, shifted}
 use Rattle.hyd_spec_certificates.specs.PeriodNetwork.{Grid, tank_intervals}
 use Rattle.hyd_spec_certificates.specs.declared.LevelSpan.{LevelSpan}
 use Rattle.hyd_period_network.specs.NetsSetToPeriods.{IsSpanOf}
 use Rattle.hyd_lemmas.proofs.ListsOptionsAndResults.{same_item}
-use Rattle.hyd_theorems_on_definitions.specs.TermsOfTheorems.{TanksInOrder}
+use Rattle.hyd_theorems_on_definitions.specs.SoundLawsAndGrids.{TanksInOrder}
 
 abbrev AreSpans : List Tank → List LevelSpan → Type 0
 AreSpans tanks levels = (k : ℕ) (tank : Tank) (span : LevelSpan) → k < length levels

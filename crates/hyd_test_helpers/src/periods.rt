@@ -4,10 +4,10 @@
 ghost use Rattle.std.specs.Prelude.{IfOk, IfSome, IsTrue, OnOk};
 ghost use Rattle.hyd_net.specs.Sound.{IsSound};
 ghost use Rattle.hyd_period_network.specs.NetAsPeriodNetwork.{grid_of};
-ghost use Rattle.hyd_period_network.specs.NetInvariant.{HasProblem};
+ghost use Rattle.hyd_period_network.specs.SoundNets.{HasProblem};
 ghost use Rattle.hyd_period_network.specs.NetsSetToPeriods.{AreLevels, IsNetOf, IsSpanOf};
 ghost use Rattle.hyd_period_network.specs.LawsInSettings.{AreStates};
-ghost use Rattle.hyd_theorems_on_definitions.specs.TermsOfTheorems.{TanksInOrder};
+ghost use Rattle.hyd_theorems_on_definitions.specs.SoundLawsAndGrids.{TanksInOrder};
 
 use crate::states::starts;
 use hyd_net::{LinkState, OutOfMemory, Project, Tank};

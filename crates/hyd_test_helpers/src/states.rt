@@ -5,7 +5,7 @@ ghost use Rattle.std.specs.Prelude.{IfOk, IfSome};
 ghost use Rattle.hyd_num.specs.declared.flow_units.FlowUnit.{FlowUnit};
 ghost use Rattle.hyd_net.specs.RoundedFileNumbers.{IsStateMade};
 ghost use Rattle.hyd_net.specs.Sound.{IsSound};
-ghost use Rattle.hyd_net.specs.States.{CanHave};
+ghost use Rattle.hyd_net.specs.LinkStates.{CanHave};
 ghost use Rattle.hyd_period_network.specs.LawsInSettings.{AreStates};
 
 use hyd_net::{LinkKind, LinkState, OutOfMemory, Project};

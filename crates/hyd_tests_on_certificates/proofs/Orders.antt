@@ -10,7 +10,7 @@ use Rattle.hyd_spec_certificates.specs.declared.Side.TheVariants.{Upper, Lower}
 use Rattle.hyd_spec_certificates.specs.Interval.{Interval}
 use Rattle.hyd_spec_certificates.specs.PeriodNetwork.{Grid, end_on, tank_side, all_heads, fixed_heads}
 use Rattle.hyd_spec_certificates.specs.Certificate.{IsCertificate}
-use Rattle.hyd_theorems_on_definitions.specs.TermsOfTheorems.{IsSteady, TanksInOrder}
+use Rattle.hyd_theorems_on_definitions.specs.SoundLawsAndGrids.{IsSteady, TanksInOrder}
 use Rattle.hyd_num.proofs.Integers.{one_times}
 use Rattle.hyd_theorems_on_definitions.proofs.HeadLists.{fixed-in-order}
 use Rattle.hyd_theorems_on_nesting.proofs.TwoSides.{heads_below_plus}

@@ -3,7 +3,7 @@
 
 ghost use Rattle.hyd_net.specs.Sound.{IsSound};
 ghost use Rattle.hyd_period_network.specs.NetAsPeriodNetwork.{grid_of};
-ghost use Rattle.hyd_theorems_on_definitions.specs.TermsOfTheorems.{TanksInOrder};
+ghost use Rattle.hyd_theorems_on_definitions.specs.SoundLawsAndGrids.{TanksInOrder};
 
 use crate::boxes::are_bounds;
 use crate::networks::{Network, generated, networks, two_junctions, without_source};

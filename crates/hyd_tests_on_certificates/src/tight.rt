@@ -3,7 +3,7 @@
 #![tactic(auto)]
 
 ghost use Rattle.std.specs.Prelude.{◌≡◌, ◌<◌, length, IfOk};
-ghost use Rattle.hyd_period_network.specs.NetInvariant.{HasProblem};
+ghost use Rattle.hyd_period_network.specs.SoundNets.{HasProblem};
 
 use crate::networks::Row;
 use hyd_finders::{Finder, Gradient};

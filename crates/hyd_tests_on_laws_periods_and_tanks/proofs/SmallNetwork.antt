@@ -12,7 +12,7 @@ use Rattle.hyd_net.specs.ListView.{ListView}
 use Rattle.hyd_net.specs.Ids.{AreDistinct, IsId}
 use Rattle.hyd_net.specs.Sound.{HasIds, HasEnds, IsPattern, IsWithinLimits, AreTimes, IsSound, demand_rows, part_count}
 use Rattle.hyd_net.specs.NetworkRanges.{IsJunction, IsDemand, IsReservoir, IsTank, HasSizes, HasQuantities}
-use Rattle.hyd_net.specs.States.{CanHave}
+use Rattle.hyd_net.specs.LinkStates.{CanHave}
 use Rattle.hyd_net.specs.ControlsAndRules.{node_count, IsControl, IsRule}
 use Rattle.hyd_net.specs.RoundedFileNumbers.{IsAreaMade, IsKindMade, IsStateMade, IsRuleMade, IsAllMade}
 use Rattle.hyd_net.specs.NumberRanges.{LiesWithin}

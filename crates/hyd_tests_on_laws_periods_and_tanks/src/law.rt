@@ -5,7 +5,7 @@ ghost use Rattle.std.specs.Prelude.{◌≡◌, ◌≤◌, ◌*◌, ◌^◌, ℤ,
 ghost use Rattle.hyd_law.specs.KnotsOfStraightLines.{IsCurve};
 ghost use Rattle.hyd_law.specs.LinkLaws.{IsSoundLink, LinkAccepts};
 ghost use Rattle.hyd_law.specs.DemandLaws.{IsSoundOut, OutAccepts};
-ghost use Rattle.hyd_theorems_on_definitions.specs.TermsOfTheorems.{IsSoundCapacity};
+ghost use Rattle.hyd_theorems_on_definitions.specs.SoundLawsAndGrids.{IsSoundCapacity};
 
 use hyd_capacities::pda_capacity;
 use hyd_law::{

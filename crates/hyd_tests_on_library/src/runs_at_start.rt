@@ -4,7 +4,7 @@
 ghost use Rattle.std.specs.Prelude.{◌≡◌, None};
 ghost use Rattle.hyd_net.specs.Sound.{IsSound};
 ghost use Rattle.hyd_spec_certificates.specs.RecordAndStanding.{initial_standing};
-ghost use Rattle.hyd_sim.specs.View.{standing_of};
+ghost use Rattle.hyd_sim.specs.RunView.{standing_of};
 
 use hyd_inp::read_project;
 use hyd_net::Project;

@@ -2,8 +2,8 @@
 //! of the ranges. `None` is a refusal.
 #![tactic(auto)]
 
-ghost use Rattle.std.specs.Prelude.{◌≡◌, ◌<◌, ◌*◌, ◌^◌, pos, ◌≤ℤ◌, ◌<ℤ◌, IsTrue};
-ghost use Rattle.hyd_capacities.specs.Ranges.{IsPositiveUpTo, IsMinorCoefficient, IsCurveFlow, ArePressures};
+ghost use Rattle.std.specs.Prelude.{◌≡◌, ◌<◌, ◌*◌, ◌^◌, IsTrue};
+ghost use Rattle.hyd_capacities.specs.FileNumberRanges.{IsPositiveUpTo, IsMinorCoefficient, IsCurveFlow, ArePressures};
 
 use hyd_capacities::{
     CapRange, emitter_capacity, pda_capacity, pipe_capacity, pump_capacity, valve_capacity,

@@ -1,7 +1,7 @@
 //! What no clause says: that calls succeed with ample memory, and how few calls a pen makes.
 
 ghost use Rattle.std.specs.Prelude.{IsTrue};
-ghost use Rattle.hyd_io.specs.MemoryView.{memory};
+ghost use Rattle.hyd_io.specs.DeskInMemoryView.{memory};
 ghost use Rattle.hyd_io.specs.Output.{OnCert};
 
 use hyd_io::*;

@@ -1,7 +1,7 @@
 //! What is known of rules at an instant.
 #![tactic(auto)]
 
-ghost use Rattle.std.specs.Prelude.{◌≤◌, ◌^◌, unsigned_abs, All, IfSome};
+ghost use Rattle.std.specs.Prelude.{unsigned_abs, All, IfSome};
 ghost use Rattle.hyd_net.specs.Sound.{IsSound};
 ghost use Rattle.hyd_controls_and_rules.specs.RuleReadings.{IsBounded};
 

@@ -7,7 +7,7 @@ use Rattle.hyd_spec.specs.ProgramTypes.{Project, Tank}
 use Rattle.hyd_spec.specs.Tank.{Walls, Cylinder, Curve, shape_points, walls_of, kept_volume}
 use Rattle.hyd_net.specs.Curves.{volume_at}
 use Rattle.hyd_spec_certificates.specs.Stocks.{Stocks}
-use Rattle.hyd_theorems_on_definitions.specs.TermsOfTheorems.{IsWithin}
+use Rattle.hyd_theorems_on_definitions.specs.LyingInIntervals.{IsWithin}
 use Rattle.hyd_tank.specs.StockIntervals.{AreHeld}
 use Rattle.hyd_tests_on_tanks_and_demands.specs.Basins.{knees, HasBasin}
 

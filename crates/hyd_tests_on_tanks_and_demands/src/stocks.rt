@@ -5,7 +5,7 @@ ghost use Rattle.std.specs.Prelude.{◌≡◌, pos, slice_get, Some, IfSome, IsT
 ghost use Rattle.hyd_net.specs.Sound.{IsSound};
 ghost use Rattle.hyd_spec.specs.ProgramTypes.{Tank};
 ghost use Rattle.hyd_spec.specs.Tank.{walls_of};
-ghost use Rattle.hyd_theorems_on_definitions.specs.TermsOfTheorems.{IsWithin};
+ghost use Rattle.hyd_theorems_on_definitions.specs.LyingInIntervals.{IsWithin};
 ghost use Rattle.hyd_tank.specs.StockIntervals.{AreHeld, IsInflow, stocks_of};
 ghost use Rattle.hyd_tests_on_tanks_and_demands.specs.Basins.{knees, IsBasin, HasBasin};
 

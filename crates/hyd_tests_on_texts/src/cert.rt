@@ -1,7 +1,7 @@
 //! Texts of certificates: what a reader answers of each, and what is put out and read back.
 #![tactic(auto)]
 
-ghost use Rattle.std.specs.Prelude.{◌≡◌, ◌≤◌};
+ghost use Rattle.std.specs.Prelude.{◌≡◌};
 ghost use Rattle.hyd_cert.specs.RecordView.{header_of};
 
 use hyd_cert::*;
@@ -463,7 +463,7 @@ fn a_failed_read_is_answered_from_then_on(rt: HostRuntime) -> Result<(), Fail> {
 /// Prints the header, the record and the end.
 fn print_all(row: &Record, desk: &mut MemDesk) -> Result<(), OutFault> {
     let mut pen = Pen::new(Channel::Report);
-    put_head(row, &mut pen, desk)?;
+    put_header(row, &mut pen, desk)?;
     put_record(row, &mut pen, desk)?;
     put_end(1, true, &mut pen, desk)?;
     pen.flush(desk)

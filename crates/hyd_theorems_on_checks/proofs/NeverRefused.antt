@@ -5,7 +5,7 @@ use Rattle.hyd_spec_reports.specs.ReportLine.{report_text}
 use Rattle.hyd_spec_reports.specs.PromisesOfRunsAndChecks.{rows_of, lines_of, accepted_line}
 use Rattle.hyd_cert.specs.FaultyLine.{IsCertificate}
 use Rattle.hyd_cert.proofs.WholeTextLemmas.{fault_no_certificate, no_certificate_of_others}
-use Rattle.hyd_sim.specs.View.{header_for}
+use Rattle.hyd_sim.specs.RunView.{header_for}
 use Rattle.hyd_cert_check.specs.Checks.{CheckRefusesGrammar, CheckRefusesCounts, CheckRefusal, CheckEnds}
 use Rattle.hyd_cert_check.specs.Checks.{grammar, counts, record_refused, other_end}
 use Rattle.hyd_cert_check.specs.declared.outcome.CheckEnd.{CheckEnd}

@@ -19,7 +19,7 @@ use Rattle.hyd_theorems_on_definitions.proofs.OneRefusal.{refused_invalid, one_r
 use Rattle.hyd_theorems_on_definitions.proofs.OneRun.{one_left}
 use Rattle.hyd_cert.specs.FaultyLine.{IsCertificate}
 use Rattle.hyd_cert.proofs.WholeTextLemmas.{fault_no_certificate, no_certificate_of_others, one_fault, fault_or_header}
-use Rattle.hyd_sim.specs.View.{header_for}
+use Rattle.hyd_sim.specs.RunView.{header_for}
 use Rattle.hyd_cert_check.specs.Checks.{refused_grammar_line, printed_number, BeginsWithFound, CheckRefusesGrammar}
 use Rattle.hyd_cert_check.specs.Checks.{CheckRefusesCounts, CheckRefusal, CheckEnds}
 use Rattle.hyd_cert_check.specs.Checks.{grammar, counts, record_refused, other_end}

@@ -16,7 +16,7 @@ use Rattle.hyd_cert.proofs.LineLemmas.{header_is_line}
 use Rattle.hyd_cert.proofs.TextsAtFault.{has_rest, header_same}
 use Rattle.hyd_cert.proofs.HeadLemmas.{header_is}
 use Rattle.hyd_cert.proofs.CertificatesLineByLine.{whole_reading}
-use Rattle.hyd_sim.specs.View.{header_for}
+use Rattle.hyd_sim.specs.RunView.{header_for}
 use Rattle.hyd_theorems_on_checks.proofs.FirstRecords.{first_rows}
 use Rattle.hyd_theorems_on_checks.proofs.BeginningsOfLists.{Begins, fronts}
 

@@ -21,7 +21,7 @@ use Rattle.hyd_theorems_on_checks.proofs.WrittenAndAccepted.{written_is}
 use Rattle.hyd_theorems_on_checks.proofs.NeverRefused.{never_refused, ends_accepted, ends_with_report}
 use Rattle.hyd_theorems_on_checks.proofs.ValidRuns.{certificate_of}
 use Rattle.hyd_theorems_on_rereading.specs.WithoutSpare.{bare_project}
-use Rattle.hyd_theorems_on_rereading.proofs.Headers.{certificate_text}
+use Rattle.hyd_theorems_on_rereading.proofs.SameHeaders.{certificate_text}
 use Rattle.hyd_theorems_on_rereading.proofs.RunsWithoutSpare.{runs, reports}
 use Rattle.hyd_theorems_on_rereading.proofs.OneNetwork.{one_network}
 

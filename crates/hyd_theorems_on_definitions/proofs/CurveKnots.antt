@@ -10,9 +10,9 @@ use Rattle.std.specs.Prelude.{unsigned_abs}
 use Rattle.hyd_num.proofs.Integers.{times_rises}
 use Rattle.hyd_net.specs.Curves.{Knot, AreRising, AreFalling, IsPumpCurve, IsLossCurve}
 use Rattle.hyd_spec.specs.ProgramTypes.{HeadPoint}
-use Rattle.hyd_spec.specs.Scale.{cut}
-use Rattle.hyd_spec.specs.DemandsReservoirHeadsAndCurves.{pump_knots, valve_knots}
-use Rattle.hyd_theorems_on_definitions.specs.TermsOfTheorems.{AreInOrder}
+use Rattle.hyd_spec.specs.WholeNumbers.{cut}
+use Rattle.hyd_spec.specs.DemandsHeadsAndPumpLifts.{pump_knots, valve_knots}
+use Rattle.hyd_theorems_on_definitions.specs.SoundLawsAndGrids.{AreInOrder}
 
 -- ---- cuts
 

@@ -20,8 +20,10 @@ use Rattle.hyd_spec_certificates.specs.declared.Verdict.TheVariants.{Yes, No, Un
 use Rattle.hyd_spec_certificates.specs.ThreeValuedLogic.{at_both_ends, either, both}
 use Rattle.hyd_spec_certificates.specs.ThreeValuedLogic.{some_holds, all_hold}
 use Rattle.hyd_spec_certificates.specs.Decided.{control_truth}
-use Rattle.hyd_theorems_on_definitions.specs.TermsOfTheorems.{LiesIn, IsVessel, StockLies, AreInside, IsInside}
-use Rattle.hyd_theorems_on_definitions.specs.TermsOfTheorems.{HasStock, IsAtMost, IsOneWay, Tells, TellEach}
+use Rattle.hyd_theorems_on_definitions.specs.LyingInIntervals.{LiesIn, StockLies, AreInside, IsInside}
+use Rattle.hyd_theorems_on_definitions.specs.SoundTanks.{IsVessel}
+use Rattle.hyd_theorems_on_definitions.specs.LyingInIntervals.{HasStock}
+use Rattle.hyd_theorems_on_definitions.specs.VerdictsOfTests.{IsAtMost, IsOneWay, Tells, TellEach}
 use Rattle.hyd_lemmas.proofs.Integers.{exchanged}
 use Rattle.hyd_lemmas.proofs.BooleanTests.{le-from, le-yes, lt-no, lt-yes}
 use Rattle.hyd_net.specs.Curves.{volume_at}

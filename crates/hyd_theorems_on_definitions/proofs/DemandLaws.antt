@@ -8,7 +8,7 @@ use Rattle.std.proofs.lemmas.Bool.{MatchBool-at_true, MatchBool-at_false, cases_
 use Rattle.hyd_num.proofs.Integers.{times_rises}
 use Rattle.hyd_num.specs.Rational.{Rational, floor, ceiling, negated, is_at_most}
 use Rattle.hyd_spec.specs.ProgramTypes.{Capacity, Origin, Decimal, PressureDemand}
-use Rattle.hyd_spec.specs.DemandsReservoirHeadsAndCurves.{pressure_value}
+use Rattle.hyd_spec.specs.DemandsHeadsAndPumpLifts.{pressure_value}
 use Rattle.hyd_spec.specs.Law.{Relation, lifted, odd_at_least, odd_at_most, loss_at_most, loss_at_least}
 use Rattle.hyd_spec.specs.Law.{pressure_resistance, flow_at_least, flow_at_most, QuadraticLaw}
 use Rattle.hyd_spec.specs.Outflow.{pressure_at}
@@ -16,7 +16,7 @@ use Rattle.hyd_spec_certificates.specs.EnclosingFunctions.{Driven, demand_low, d
 use Rattle.hyd_spec_certificates.specs.EnclosingFunctions.{quadratic_high}
 use Rattle.hyd_lemmas.proofs.Integers.{floor_low, ceiling_high, floor_greatest, ceiling_least, floor_at_most_ceiling}
 use Rattle.hyd_lemmas.proofs.Integers.{min_left, min_right, min_is}
-use Rattle.hyd_theorems_on_definitions.specs.TermsOfTheorems.{IsLaw, IsSoundCapacity}
+use Rattle.hyd_theorems_on_definitions.specs.SoundLawsAndGrids.{IsLaw, IsSoundCapacity}
 use Rattle.hyd_theorems_on_definitions.specs.PressureDrivenDemand.{steps_at_least, steps_at_most}
 use Rattle.hyd_lemmas.proofs.BooleanTests.{le-yes, le-no}
 use Rattle.hyd_theorems_on_definitions.proofs.LinkLaws.{IsLaw-lifted}

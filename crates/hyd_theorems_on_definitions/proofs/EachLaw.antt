@@ -13,13 +13,13 @@ use Rattle.std.specs.Prelude.{Bool, true, false, unsigned_abs}
 use Rattle.hyd_net.specs.Curves.{Knot, value_at}
 use Rattle.hyd_num.proofs.EndsInOrder.{denominator_positive, numerator_positive}
 use Rattle.hyd_lemmas.proofs.CapacitiesEnclose.{IsEnclosure-made}
-use Rattle.hyd_lemmas.proofs.PumpAndOutletPairs.{ratio-above}
+use Rattle.hyd_lemmas.proofs.PumpEmitterAndDemandPairs.{ratio-above}
 use Rattle.hyd_spec.specs.ProgramTypes.{Capacity, Origin, Pipe, Valve, Pump, Emitter, PressureDemand}
 use Rattle.hyd_spec_certificates.specs.EnclosingFunctions.{quadratic_low, quadratic_high, low, high}
 use Rattle.hyd_spec.specs.Law.{Law, Shut, QuadraticLaw, LinearLaw, Lifted, ForwardOnly, ReverseOnly, Capped, Bent, Held}
 use Rattle.hyd_spec.specs.Law.{odd_at_least, odd_at_most, flow_at_least, flow_at_most, loss_at_most, loss_at_least}
-use Rattle.hyd_theorems_on_definitions.specs.TermsOfTheorems.{IsLaw, IsSoundCapacity, IsSoundLaw, AreInOrder}
-use Rattle.hyd_theorems_on_definitions.specs.TermsOfTheorems.{HasPositiveNumbers}
+use Rattle.hyd_theorems_on_definitions.specs.SoundLawsAndGrids.{IsLaw, IsSoundCapacity, IsSoundLaw, AreInOrder}
+use Rattle.hyd_theorems_on_definitions.specs.SoundLawsAndGrids.{HasPositiveNumbers}
 use Rattle.hyd_lemmas.proofs.Integers.{exchanged, floor_low, ceiling_high, floor_greatest, ceiling_least}
 use Rattle.hyd_lemmas.proofs.Integers.{floor_at_most_ceiling}
 use Rattle.hyd_theorems_on_definitions.proofs.LossLaws.{IsLossLaw-origin}

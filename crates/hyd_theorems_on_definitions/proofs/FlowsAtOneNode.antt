@@ -13,7 +13,7 @@ use Rattle.hyd_spec_certificates.specs.EnclosingFunctions.{low, high}
 use Rattle.hyd_spec.specs.Assignment.{head_at, where_so, net_outflow, LinksFollow, more}
 use Rattle.hyd_spec_certificates.specs.PeriodNetwork.{GridLink, grid_links}
 use Rattle.hyd_spec_certificates.specs.NetOutflow.{net, one_if, link_ends}
-use Rattle.hyd_theorems_on_definitions.specs.TermsOfTheorems.{IsSoundLaw}
+use Rattle.hyd_theorems_on_definitions.specs.SoundLawsAndGrids.{IsSoundLaw}
 use Rattle.hyd_theorems_on_definitions.proofs.EachLaw.{IsLaw-each}
 use Rattle.hyd_theorems_on_definitions.proofs.HeadsOfAllNodes.{excess, lack}
 

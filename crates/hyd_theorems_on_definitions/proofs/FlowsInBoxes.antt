@@ -13,7 +13,7 @@ use Rattle.hyd_spec.specs.declared.TankState.{TankState}
 use Rattle.hyd_spec_certificates.specs.declared.Side.TheVariants.{Upper, Lower}
 use Rattle.hyd_spec_certificates.specs.declared.Problem.TheVariants.{Main}
 use Rattle.hyd_spec_certificates.specs.Interval.{Interval}
-use Rattle.hyd_spec.specs.DemandsReservoirHeadsAndCurves.{demand_of}
+use Rattle.hyd_spec.specs.DemandsHeadsAndPumpLifts.{demand_of}
 use Rattle.hyd_spec.specs.LinkLaw.{law_of}
 use Rattle.hyd_spec.specs.Law.{QuadraticLaw, Follows}
 use Rattle.hyd_spec_certificates.specs.EnclosingFunctions.{demand_low, demand_high}
@@ -22,14 +22,16 @@ use Rattle.hyd_spec.specs.Assignment.{Assignment, JunctionObeys, LinksFollow, mo
 use Rattle.hyd_spec_certificates.specs.PeriodNetwork.{Grid, GridLink, GridJunction, IsJunctionOf, grid_links, all_heads}
 use Rattle.hyd_spec_certificates.specs.FlowIntervals.{flow_box, out_box, emitter_box}
 use Rattle.hyd_spec_certificates.specs.Certificate.{IsCertificate}
-use Rattle.hyd_theorems_on_definitions.specs.TermsOfTheorems.{IsSoundLaw, IsSoundCapacity, LiesIn, IsCompared}
-use Rattle.hyd_theorems_on_definitions.specs.TermsOfTheorems.{LieBetween}
+use Rattle.hyd_theorems_on_definitions.specs.LyingInIntervals.{LiesIn, IsCompared}
+use Rattle.hyd_theorems_on_definitions.specs.SoundLawsAndGrids.{IsSoundLaw, IsSoundCapacity}
+use Rattle.hyd_theorems_on_definitions.specs.LyingInIntervals.{LieBetween}
 use Rattle.hyd_theorems_on_definitions.proofs.HeadsOfAllNodes.{excess, lack, excess_after, lack_after}
 use Rattle.hyd_theorems_on_definitions.proofs.FlowsAtOneNode.{flow-below, flow-above}
 use Rattle.hyd_theorems_on_definitions.proofs.Outflows.{demand-below, demand-above}
-use Rattle.hyd_theorems_on_definitions.proofs.Comparison.{below_main, above_main, one_each, fixed_below, fixed_above}
-use Rattle.hyd_theorems_on_definitions.proofs.Comparison.{place_at}
-use Rattle.hyd_theorems_on_definitions.proofs.Comparison.{emitter_at}
+use Rattle.hyd_theorems_on_definitions.proofs.ComparisonPrinciple.{below_main, above_main, one_each, fixed_below}
+use Rattle.hyd_theorems_on_definitions.proofs.ComparisonPrinciple.{fixed_above}
+use Rattle.hyd_theorems_on_definitions.proofs.ComparisonPrinciple.{place_at}
+use Rattle.hyd_theorems_on_definitions.proofs.ComparisonPrinciple.{emitter_at}
 
 -- ---- heads
 

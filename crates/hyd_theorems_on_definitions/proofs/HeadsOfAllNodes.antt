@@ -13,7 +13,7 @@ use Rattle.hyd_spec_certificates.specs.Interval.{Interval}
 use Rattle.hyd_spec.specs.Scale.{at_scale}
 use Rattle.hyd_spec.specs.Assignment.{head_at, tank_heads}
 use Rattle.hyd_spec_certificates.specs.PeriodNetwork.{tank_intervals, end_on, tank_side}
-use Rattle.hyd_theorems_on_definitions.specs.TermsOfTheorems.{LevelsLie}
+use Rattle.hyd_theorems_on_definitions.specs.LyingInIntervals.{LevelsLie}
 
 -- how far the head of a node lies above a vector's
 abbrev pub excess : ℕ → List ℤ → List ℤ → ℕ → ℤ

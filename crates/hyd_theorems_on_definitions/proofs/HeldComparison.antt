@@ -10,7 +10,7 @@ use Rattle.hyd_num.proofs.Integers.{times_plus, times_rises, times_neg, times_on
 use Rattle.hyd_spec.specs.ProgramTypes.{Project, LinkState}
 use Rattle.hyd_spec.specs.declared.TankState.{TankState}
 use Rattle.hyd_spec.specs.Scale.{at_scale}
-use Rattle.hyd_spec.specs.DemandsReservoirHeadsAndCurves.{reservoir_head}
+use Rattle.hyd_spec.specs.DemandsHeadsAndPumpLifts.{reservoir_head}
 use Rattle.hyd_spec.specs.Assignment.{Assignment, head_at, flow_at, where_so, net_outflow, node_heads, tank_heads}
 use Rattle.hyd_spec_certificates.specs.declared.Side.{Side}
 use Rattle.hyd_spec_certificates.specs.declared.Side.TheVariants.{Upper, Lower}
@@ -21,14 +21,16 @@ use Rattle.hyd_spec_certificates.specs.PeriodNetwork.{Grid, GridLink, GridJuncti
 use Rattle.hyd_spec_certificates.specs.PeriodNetwork.{fixed_heads}
 use Rattle.hyd_spec_certificates.specs.NetOutflow.{net, net_low, net_high, margin, outflow_low, outflow_high, link_ends}
 use Rattle.hyd_spec_certificates.specs.Certificate.{Passes, IsCertificateHolding}
-use Rattle.hyd_theorems_on_definitions.specs.TermsOfTheorems.{IsSoundLaw, IsComparedDrawing}
+use Rattle.hyd_theorems_on_definitions.specs.LyingInIntervals.{IsComparedDrawing}
+use Rattle.hyd_theorems_on_definitions.specs.SoundLawsAndGrids.{IsSoundLaw}
 use Rattle.hyd_theorems_on_definitions.specs.Sides.{along}
 use Rattle.hyd_theorems_on_definitions.proofs.HeadsOfAllNodes.{lack, head_front, IsGreatestBelow, greatest_below}
 use Rattle.hyd_theorems_on_definitions.proofs.FlowsAtOneNode.{IsDip, sum-upper, sum-lower}
-use Rattle.hyd_theorems_on_definitions.proofs.Comparison.{outflow-follows-below, outflow-follows-above, IsPlace}
-use Rattle.hyd_theorems_on_definitions.proofs.Comparison.{place_at}
-use Rattle.hyd_theorems_on_definitions.proofs.Comparison.{emitter_at}
-use Rattle.hyd_theorems_on_definitions.proofs.Comparison.{fixed_below, fixed_above}
+use Rattle.hyd_theorems_on_definitions.proofs.ComparisonPrinciple.{outflow-follows-below, outflow-follows-above}
+use Rattle.hyd_theorems_on_definitions.proofs.ComparisonPrinciple.{IsPlace}
+use Rattle.hyd_theorems_on_definitions.proofs.ComparisonPrinciple.{place_at}
+use Rattle.hyd_theorems_on_definitions.proofs.ComparisonPrinciple.{emitter_at}
+use Rattle.hyd_theorems_on_definitions.proofs.ComparisonPrinciple.{fixed_below, fixed_above}
 
 -- ---- heads in the direction of a side
 

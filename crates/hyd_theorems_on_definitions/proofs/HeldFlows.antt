@@ -19,11 +19,13 @@ use Rattle.hyd_spec_certificates.specs.PeriodNetwork.{Grid, GridLink, GridJuncti
 use Rattle.hyd_spec_certificates.specs.NetOutflow.{margin}
 use Rattle.hyd_spec_certificates.specs.Certificate.{Passes, IsCertificate, IsCertificateHolding}
 use Rattle.hyd_spec_certificates.specs.BoxesWithHeldJunction.{held_in, held_flow_box, passing_draw}
-use Rattle.hyd_theorems_on_definitions.specs.TermsOfTheorems.{IsSoundLaw, LiesIn, IsCompared, IsComparedDrawing}
+use Rattle.hyd_theorems_on_definitions.specs.LyingInIntervals.{LiesIn, IsCompared, IsComparedDrawing}
+use Rattle.hyd_theorems_on_definitions.specs.SoundLawsAndGrids.{IsSoundLaw}
 use Rattle.hyd_theorems_on_definitions.specs.Sides.{along}
 use Rattle.hyd_theorems_on_definitions.proofs.HeadsOfAllNodes.{head_front}
 use Rattle.hyd_theorems_on_definitions.proofs.FlowsAtOneNode.{flow-below, flow-above}
-use Rattle.hyd_theorems_on_definitions.proofs.Comparison.{IsPlace, place_at, place_long, below_main, above_main}
+use Rattle.hyd_theorems_on_definitions.proofs.ComparisonPrinciple.{IsPlace, place_at, place_long, below_main}
+use Rattle.hyd_theorems_on_definitions.proofs.ComparisonPrinciple.{above_main}
 use Rattle.hyd_theorems_on_definitions.proofs.FlowsInBoxes.{IsFollowed, followed_at}
 use Rattle.hyd_theorems_on_definitions.proofs.HeldComparison.{ahead, net_on, within-margin, held-farthest, along-plus}
 use Rattle.hyd_theorems_on_definitions.proofs.HeldComparison.{along-times}

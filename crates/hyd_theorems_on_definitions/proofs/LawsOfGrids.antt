@@ -20,12 +20,12 @@ use Rattle.hyd_spec.specs.ProgramTypes.{Throttle}
 use Rattle.hyd_spec.specs.ProgramTypes.{Limit, ShutoffHead, FourThirds, Given, HeadPoint, Pattern}
 use Rattle.hyd_spec.specs.declared.TankState.{TankState}
 use Rattle.hyd_spec_certificates.specs.Interval.{Interval}
-use Rattle.hyd_spec.specs.DemandsReservoirHeadsAndCurves.{is_us, shutoff_head, points_of, pump_knots, valve_knots}
+use Rattle.hyd_spec.specs.DemandsHeadsAndPumpLifts.{is_us, shutoff_head, points_of, pump_knots, valve_knots}
 use Rattle.hyd_spec.specs.Law.{Law, ForwardOnly, ReverseOnly}
 use Rattle.hyd_spec.specs.LinkLaw.{own_law, valve_law, forbids_forward, forbids_reverse}
 use Rattle.hyd_spec_certificates.specs.PeriodNetwork.{Grid, GridLink, GridJunction, IsGrid, IsJunctionOf, grid_links}
-use Rattle.hyd_theorems_on_definitions.specs.TermsOfTheorems.{IsSoundGrid, IsSoundLaw, IsSoundCapacity, AreInOrder}
-use Rattle.hyd_theorems_on_definitions.specs.TermsOfTheorems.{AreCapacitiesMade}
+use Rattle.hyd_theorems_on_definitions.specs.SoundLawsAndGrids.{IsSoundGrid, IsSoundLaw, IsSoundCapacity, AreInOrder}
+use Rattle.hyd_theorems_on_definitions.specs.SoundLawsAndGrids.{AreCapacitiesMade}
 use Rattle.hyd_theorems_on_definitions.proofs.EachLaw.{IsSoundCapacity-made}
 use Rattle.hyd_theorems_on_definitions.proofs.CurveKnots.{pump_knots-in_order, valve_knots-in_order}
 

@@ -8,7 +8,7 @@ pub mod EachLaw
 pub mod HeadsOfAllNodes
 pub mod FlowsAtOneNode
 pub mod Outflows
-pub mod Comparison
+pub mod ComparisonPrinciple
 pub mod PinnedTankInflows
 pub mod HeldComparison
 pub mod FlowsInBoxes
@@ -36,7 +36,7 @@ pub mod OneCapacity
 pub mod OneRun
 pub mod OneFirstFailure
 pub mod OneRefusal
-pub mod Vessels
+pub mod SoundTankLemmas
 pub mod CurveLevels
-pub mod Targets
+pub mod TargetsOfVolumeCurves
 pub mod HeadLists

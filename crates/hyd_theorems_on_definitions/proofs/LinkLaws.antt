@@ -10,7 +10,7 @@ use Rattle.hyd_spec.specs.Scale.{at_scale}
 use Rattle.hyd_spec_certificates.specs.EnclosingFunctions.{root_down, root_up, low, high}
 use Rattle.hyd_spec.specs.Law.{Relation, Loss, Shut, lifted, odd_at_least, odd_at_most, loses_at_least, loses_at_most}
 use Rattle.hyd_spec.specs.Law.{flow_at_least, flow_at_most}
-use Rattle.hyd_theorems_on_definitions.specs.TermsOfTheorems.{IsLaw, IsLossLaw}
+use Rattle.hyd_theorems_on_definitions.specs.SoundLawsAndGrids.{IsLaw, IsLossLaw}
 use Rattle.hyd_lemmas.proofs.Integers.{floor_low, ceiling_high, floor_at_most_ceiling, max_left, max_right, max_rises}
 use Rattle.hyd_lemmas.proofs.Integers.{max_is, min_left, min_right, min_rises, min_is}
 use Rattle.hyd_theorems_on_definitions.proofs.Roots.{root_down-is, root_up-is, square_reflects}

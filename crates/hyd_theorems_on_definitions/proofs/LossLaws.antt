@@ -15,7 +15,7 @@ use Rattle.hyd_num.specs.FileQuantity.{flow_fraction}
 use Rattle.hyd_spec.specs.ProgramTypes.{Origin, Pipe, Valve, Pump, Emitter, PressureDemand}
 use Rattle.hyd_spec.specs.Law.{loss_at_most, loss_at_least, pump_resistance, emitter_resistance, pressure_resistance}
 use Rattle.hyd_lemmas.proofs.Fractions.{AtMost-along, times-rises, power-rises, AtMost-itself}
-use Rattle.hyd_theorems_on_definitions.specs.TermsOfTheorems.{IsLossLaw, HasPositiveNumbers}
+use Rattle.hyd_theorems_on_definitions.specs.SoundLawsAndGrids.{IsLossLaw, HasPositiveNumbers}
 use Rattle.hyd_lemmas.proofs.Losses.{difference_times}
 use Rattle.hyd_lemmas.proofs.PipeAndValvePairs.{feet_above}
 use Rattle.hyd_lemmas.proofs.PressurePairs.{pressure-some}

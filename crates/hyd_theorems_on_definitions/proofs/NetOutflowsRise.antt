@@ -9,7 +9,7 @@ use Rattle.hyd_spec.specs.Assignment.{head_at, where_so}
 use Rattle.hyd_spec_certificates.specs.EnclosingFunctions.{low, high}
 use Rattle.hyd_spec_certificates.specs.PeriodNetwork.{GridLink, GridJunction}
 use Rattle.hyd_spec_certificates.specs.NetOutflow.{net, outflow_low, outflow_high}
-use Rattle.hyd_theorems_on_definitions.specs.TermsOfTheorems.{IsSoundLaw, IsSoundDemand}
+use Rattle.hyd_theorems_on_definitions.specs.SoundLawsAndGrids.{IsSoundLaw, IsSoundDemand}
 use Rattle.hyd_lemmas.proofs.ListsOptionsAndResults.{same_item}
 use Rattle.hyd_theorems_on_definitions.proofs.EachLaw.{IsLaw-each}
 use Rattle.hyd_theorems_on_definitions.proofs.OutflowsRise.{AreRising-demand, AreRising-emitter}

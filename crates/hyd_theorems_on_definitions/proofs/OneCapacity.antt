@@ -6,7 +6,7 @@ use Rattle.hyd_num.specs.BinaryNumbers.{numerator, denominator}
 use Rattle.hyd_num.specs.CapacityPairs.{IsMade, StandsFor}
 use Rattle.hyd_spec.specs.ProgramTypes.{Capacity, Origin}
 use Rattle.hyd_lemmas.proofs.OnePair.{StandsFor-below}
-use Rattle.hyd_lemmas.proofs.OneScaled.{one-scaled}
+use Rattle.hyd_lemmas.proofs.OneBinaryNumber.{one-scaled}
 
 -- ---- capacities
 

@@ -24,7 +24,8 @@ use Rattle.hyd_spec_reports.specs.declared.CertRefused.{CertRefused}
 use Rattle.hyd_spec_reports.specs.declared.CertRefused.TheVariants.{Place, Demand, Fails, Open as MatterOpen, Length}
 use Rattle.hyd_spec_reports.specs.declared.CertRefused.TheVariants.{After}
 use Rattle.hyd_spec_reports.specs.ReportLine.{refused_period}
-use Rattle.hyd_spec_reports.specs.Stops.{turn, open_states, is_open_control}
+use Rattle.hyd_spec_reports.specs.Stops.{open_states, is_open_control}
+use Rattle.hyd_spec_reports.specs.TurnsOfProblems.{turn}
 use Rattle.hyd_spec_reports.specs.RefusedRecords.{IsRefused, IsRefusedBy, IsDue, HasItsGrid, IsCertified, IsFirstToFail}
 use Rattle.hyd_spec_reports.specs.RefusedRecords.{LeavesOpen, rule, event, tank, control, HasOtherLength, at_end}
 use Rattle.hyd_spec_reports.specs.RefusedRecords.{before_end}

@@ -6,7 +6,7 @@ use Rattle.hyd_num.specs.PrintedDecimals.{head_quantity, pressure_quantity, flow
 use Rattle.hyd_num.proofs.Floors.{one_ceiling, one_floor}
 use Rattle.hyd_spec.specs.ProgramTypes.{Project, Tank, Link}
 use Rattle.hyd_spec_certificates.specs.Interval.{Interval}
-use Rattle.hyd_spec.specs.DemandsReservoirHeadsAndCurves.{is_us}
+use Rattle.hyd_spec.specs.DemandsHeadsAndPumpLifts.{is_us}
 use Rattle.hyd_spec.specs.Rules.{state_of_link}
 use Rattle.hyd_spec_certificates.specs.PeriodNetwork.{Grid, GridLink, GridJunction}
 use Rattle.hyd_spec_certificates.specs.FlowIntervals.{difference, out_box}
@@ -16,9 +16,11 @@ use Rattle.hyd_spec.specs.declared.Change.{Change}
 use Rattle.hyd_spec_reports.specs.declared.Event.{Event}
 use Rattle.hyd_spec_reports.specs.ReportLine.{ReportLine, TimeLine, JunctionLine, ReservoirLine, TankLine, LinkLine}
 use Rattle.hyd_spec_reports.specs.Report.{Prints, LineEach, IsJunctionLine, IsReservoirLine, IsTankLine, IsLinkLine}
-use Rattle.hyd_spec_reports.specs.Report.{status_of, AreStateLines, is_report_time, control_lines, EndBrings, at_end}
+use Rattle.hyd_spec_reports.specs.Report.{status_of, AreStateLines, is_report_time, EndBrings, at_end}
+use Rattle.hyd_spec_reports.specs.ChangesAtStart.{control_lines}
 use Rattle.hyd_spec_reports.specs.Report.{by_rules as ended_by_rules, by_clock as ended_by_clock, AreEndLines}
-use Rattle.hyd_spec_reports.specs.Report.{event_line, change_line, IsReport}
+use Rattle.hyd_spec_reports.specs.Report.{event_line, IsReport}
+use Rattle.hyd_spec_reports.specs.ChangesAtStart.{change_line}
 use Rattle.hyd_theorems_on_definitions.proofs.OneEndOfPeriod.{one_end, not-last}
 
 -- ---- printed numbers

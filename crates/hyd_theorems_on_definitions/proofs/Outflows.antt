@@ -10,7 +10,7 @@ use Rattle.hyd_num.proofs.Integers.{times_minus, times_rises, times_reflects, ti
 use Rattle.hyd_num.specs.Rational.{Rational, floor, ceiling, negated, is_at_most}
 use Rattle.hyd_spec.specs.ProgramTypes.{Project, Junction, Capacity, Decimal, Origin}
 use Rattle.hyd_spec.specs.Scale.{at_scale}
-use Rattle.hyd_spec.specs.DemandsReservoirHeadsAndCurves.{is_us, pressure_value, minimum_pressure, required_pressure}
+use Rattle.hyd_spec.specs.DemandsHeadsAndPumpLifts.{is_us, pressure_value, minimum_pressure, required_pressure}
 use Rattle.hyd_spec.specs.Law.{QuadraticLaw, Follows, Relation, lifted, odd_at_least, odd_at_most, pressure_resistance}
 use Rattle.hyd_spec.specs.Law.{loss_at_most, loss_at_least}
 use Rattle.hyd_spec_certificates.specs.EnclosingFunctions.{DemandLaw, Fixed, Driven, demand_low, demand_high}
@@ -18,7 +18,7 @@ use Rattle.hyd_spec_certificates.specs.EnclosingFunctions.{emitter_low, emitter_
 use Rattle.hyd_spec.specs.Outflow.{IsWithinTolerance, pressure_at, is_pressure_driven, FollowsPart, FollowsPressure}
 use Rattle.hyd_spec.specs.Outflow.{FollowsEmitter, part_at_least, part_at_most}
 use Rattle.hyd_spec_certificates.specs.PeriodNetwork.{IsDriven, IsDemandLaw}
-use Rattle.hyd_theorems_on_definitions.specs.TermsOfTheorems.{IsLaw, IsSoundCapacity}
+use Rattle.hyd_theorems_on_definitions.specs.SoundLawsAndGrids.{IsLaw, IsSoundCapacity}
 use Rattle.hyd_lemmas.proofs.BooleanTests.{le-yes, le-no}
 use Rattle.hyd_theorems_on_definitions.proofs.EachLaw.{IsLaw-quad}
 use Rattle.hyd_theorems_on_definitions.proofs.LinkLaws.{IsLaw-lifted, at_most_for, at_least_for}

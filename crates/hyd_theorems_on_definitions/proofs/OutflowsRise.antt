@@ -10,7 +10,7 @@ use Rattle.hyd_spec.specs.ProgramTypes.{Capacity}
 use Rattle.hyd_spec_certificates.specs.EnclosingFunctions.{DemandLaw, Fixed, Driven, demand_low, demand_high}
 use Rattle.hyd_spec_certificates.specs.EnclosingFunctions.{emitter_low, emitter_high, quadratic_low, quadratic_high}
 use Rattle.hyd_num.proofs.EndsInOrder.{denominator_positive}
-use Rattle.hyd_theorems_on_definitions.specs.TermsOfTheorems.{AreRising, IsSoundDemand}
+use Rattle.hyd_theorems_on_definitions.specs.SoundLawsAndGrids.{AreRising, IsSoundDemand}
 use Rattle.hyd_lemmas.proofs.Integers.{floor_at_most_ceiling, min_left, min_rises, min_is}
 use Rattle.hyd_lemmas.proofs.BooleanTests.{le-yes, le-no}
 use Rattle.hyd_theorems_on_definitions.proofs.LinkLaws.{low-rises, high-rises, roots-ordered}

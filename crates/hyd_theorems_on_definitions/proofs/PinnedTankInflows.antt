@@ -15,7 +15,7 @@ use Rattle.hyd_spec.specs.Lists.{map_from}
 use Rattle.hyd_spec_certificates.specs.Interval.{Interval, shifted}
 use Rattle.hyd_spec.specs.Scale.{at_scale}
 use Rattle.hyd_spec.specs.NodeNumbers.{tank_node, junction_count, reservoir_count}
-use Rattle.hyd_spec.specs.DemandsReservoirHeadsAndCurves.{reservoir_head}
+use Rattle.hyd_spec.specs.DemandsHeadsAndPumpLifts.{reservoir_head}
 use Rattle.hyd_spec.specs.Tank.{tank_inflow}
 use Rattle.hyd_spec_certificates.specs.EnclosingFunctions.{low, high}
 use Rattle.hyd_spec.specs.Assignment.{Assignment, net_outflow, node_heads, tank_heads}
@@ -24,12 +24,13 @@ use Rattle.hyd_spec_certificates.specs.PeriodNetwork.{tank_side}
 use Rattle.hyd_spec_certificates.specs.NetOutflow.{net, link_ends}
 use Rattle.hyd_spec_certificates.specs.FlowIntervals.{inflow_box}
 use Rattle.hyd_spec_certificates.specs.Certificate.{IsCertificate}
-use Rattle.hyd_theorems_on_definitions.specs.TermsOfTheorems.{IsSoundLaw, LevelsLie, LiesIn, IsCompared}
+use Rattle.hyd_theorems_on_definitions.specs.LyingInIntervals.{LevelsLie, LiesIn, IsCompared}
+use Rattle.hyd_theorems_on_definitions.specs.SoundLawsAndGrids.{IsSoundLaw}
 use Rattle.hyd_theorems_on_definitions.proofs.HeadsOfAllNodes.{excess, lack, excess_after, lack_after, head_front}
 use Rattle.hyd_theorems_on_definitions.proofs.HeadsOfAllNodes.{reservoirs_below}
 use Rattle.hyd_theorems_on_definitions.proofs.HeadsOfAllNodes.{reservoirs_above, IsGreatestBelow, greatest_below}
 use Rattle.hyd_theorems_on_definitions.proofs.FlowsAtOneNode.{IsPeak, IsDip, sum-upper, sum-lower}
-use Rattle.hyd_theorems_on_definitions.proofs.Comparison.{no_excess, no_lack, one_each}
+use Rattle.hyd_theorems_on_definitions.proofs.ComparisonPrinciple.{no_excess, no_lack, one_each}
 
 -- the ends of the tanks' intervals with tank p pinned, from tank number k on
 

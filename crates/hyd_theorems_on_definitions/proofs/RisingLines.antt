@@ -11,7 +11,7 @@ use Rattle.hyd_num.proofs.Integers.{one_times}
 use Rattle.hyd_num.specs.Rational.{Rational, whole}
 use Rattle.hyd_net.specs.Curves.{Knot, on_line, between, value_from, value_at}
 use Rattle.hyd_lemmas.proofs.Integers.{exchanged}
-use Rattle.hyd_theorems_on_definitions.specs.TermsOfTheorems.{AreInOrder}
+use Rattle.hyd_theorems_on_definitions.specs.SoundLawsAndGrids.{AreInOrder}
 use Rattle.hyd_lemmas.proofs.BooleanTests.{lt-no, lt-yes}
 use Rattle.hyd_theorems_on_definitions.proofs.ValuesAtTwoScales.{Leads, UpTo, From, through, one-within}
 

@@ -13,7 +13,7 @@ use Rattle.hyd_net.specs.RoundedFileNumbers.{IsKindMade, IsValveMade}
 use Rattle.hyd_spec.specs.ProgramTypes.{HeadPoint, Pattern, LinkKind, PipeLink, CheckPipe, PumpLink, CurvePump, Tcv}
 use Rattle.hyd_spec.specs.ProgramTypes.{Fcv, Gpv, LinkState, Open, Closed, Speed, Throttle, Limit, OpenValve}
 use Rattle.hyd_spec.specs.Scale.{at_scale}
-use Rattle.hyd_spec.specs.DemandsReservoirHeadsAndCurves.{lift_of, points_of, pump_knots}
+use Rattle.hyd_spec.specs.DemandsHeadsAndPumpLifts.{lift_of, points_of, pump_knots}
 use Rattle.hyd_spec.specs.LinkLaw.{valve_law}
 use Rattle.hyd_spec_certificates.specs.Interval.{Interval}
 use Rattle.hyd_spec_certificates.specs.EnclosingFunctions.{low, high}
@@ -22,7 +22,8 @@ use Rattle.hyd_spec_reports.specs.declared.StatusWord.TheVariants.{Active as Wor
 use Rattle.hyd_spec_reports.specs.Report.{by_drive, by_knots, by_setting, status_of}
 use Rattle.hyd_spec_reports.specs.Claims.{DriveIs, drive_of, SettingIs, StatusHolds}
 use Rattle.hyd_lemmas.proofs.Integers.{exchanged, floor_low, ceiling_high}
-use Rattle.hyd_theorems_on_definitions.specs.TermsOfTheorems.{LiesIn, AreInOrder}
+use Rattle.hyd_theorems_on_definitions.specs.LyingInIntervals.{LiesIn}
+use Rattle.hyd_theorems_on_definitions.specs.SoundLawsAndGrids.{AreInOrder}
 use Rattle.hyd_lemmas.proofs.BooleanTests.{le-yes, lt-yes}
 use Rattle.hyd_theorems_on_definitions.proofs.EachLaw.{IsLaw-each}
 use Rattle.hyd_theorems_on_definitions.proofs.LawsOfGrids.{valve-sound, bend-sound, lift-above}

@@ -17,8 +17,9 @@ use Rattle.hyd_spec_certificates.specs.Interval.{Interval}
 use Rattle.hyd_spec_certificates.specs.Stocks.{Stocks, least_stock, greatest_stock, exact_least, exact_greatest}
 use Rattle.hyd_spec_certificates.specs.Stocks.{lower_level, upper_level, contents_after, carried_levels, levels_at}
 use Rattle.hyd_spec_certificates.specs.Stocks.{next_stocks, shared_state, state_of}
-use Rattle.hyd_theorems_on_definitions.specs.TermsOfTheorems.{LiesIn, LiesAround, IsVessel, HoldWater, StockLies}
-use Rattle.hyd_theorems_on_definitions.specs.TermsOfTheorems.{AreInside, IsInside, IsWithin, HasStock}
+use Rattle.hyd_theorems_on_definitions.specs.LyingInIntervals.{LiesIn, LiesAround, StockLies}
+use Rattle.hyd_theorems_on_definitions.specs.SoundTanks.{IsVessel, HoldWater}
+use Rattle.hyd_theorems_on_definitions.specs.LyingInIntervals.{AreInside, IsInside, IsWithin, HasStock}
 use Rattle.hyd_lemmas.proofs.Integers.{exchanged}
 use Rattle.hyd_lemmas.proofs.BooleanTests.{le-from, le-yes}
 use Rattle.hyd_theorems_on_definitions.proofs.ValuesAtTwoScales.{Leads}

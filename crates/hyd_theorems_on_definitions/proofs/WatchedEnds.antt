@@ -8,7 +8,7 @@ use Rattle.hyd_spec_certificates.specs.Stocks.{Stocks}
 use Rattle.hyd_spec_certificates.specs.PeriodNetwork.{Grid}
 use Rattle.hyd_spec_certificates.specs.RecordAndStanding.{Record, Standing}
 use Rattle.hyd_spec_certificates.specs.Decided.{SomeReaches, IsClockLength, stocks_of_tank, inflow_of_tank}
-use Rattle.hyd_theorems_on_definitions.specs.TermsOfTheorems.{SomeReachesFirst, NoneReachesBefore}
+use Rattle.hyd_theorems_on_definitions.specs.ReachedFirst.{SomeReachesFirst, NoneReachesBefore}
 
 -- the clock allows a period one length
 pub one-clock-length : (project : Project) (standing : Standing) (cap : ℕ) → IsClockLength project standing.time cap

@@ -11,7 +11,7 @@ use Rattle.hyd_num.specs.Fraction.{Fraction, fraction, times, minus, over, power
 use Rattle.hyd_num.specs.FileQuantity.{ordinary, feet, feet_across}
 use Rattle.hyd_spec.specs.ProgramTypes.{Project, Decimal, Tank, Demand}
 use Rattle.hyd_spec.specs.Scale.{at_scale}
-use Rattle.hyd_spec.specs.DemandsReservoirHeadsAndCurves.{category_demand, multipliers_of}
+use Rattle.hyd_spec.specs.DemandsHeadsAndPumpLifts.{category_demand, multipliers_of}
 use Rattle.hyd_spec.specs.Loss.{head_in_feet, flow_in_cfs, PipeLossAtMost, PipeLossAtLeast, ValveLossAtMost}
 use Rattle.hyd_spec.specs.Loss.{ValveLossAtLeast}
 use Rattle.hyd_spec.specs.Law.{Law, Capped, flow_at_least, flow_at_most}

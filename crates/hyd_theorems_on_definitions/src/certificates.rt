@@ -17,9 +17,9 @@ ghost use Rattle.hyd_spec_certificates.specs.FlowIntervals.{flow_box, out_box, i
 ghost use Rattle.hyd_spec_certificates.specs.declared.HeldJunction.{HeldJunction};
 ghost use Rattle.hyd_spec_certificates.specs.Certificate.{IsCertificate, IsCertificateHolding};
 ghost use Rattle.hyd_spec_certificates.specs.BoxesWithHeldJunction.{held_in, held_flow_box, passing_draw};
-ghost use Rattle.hyd_theorems_on_definitions.specs.TermsOfTheorems.{IsCompared, IsComparedDrawing, LiesIn, LieBetween};
-ghost use Rattle.hyd_theorems_on_definitions.specs.TermsOfTheorems.{IsSoundGrid};
-ghost use Rattle.hyd_theorems_on_definitions.specs.TermsOfTheorems.{AreCapacitiesMade};
+ghost use Rattle.hyd_theorems_on_definitions.specs.LyingInIntervals.{IsCompared, IsComparedDrawing, LiesIn, LieBetween};
+ghost use Rattle.hyd_theorems_on_definitions.specs.SoundLawsAndGrids.{IsSoundGrid};
+ghost use Rattle.hyd_theorems_on_definitions.specs.SoundLawsAndGrids.{AreCapacitiesMade};
 
 /// At every scale a certificate with all tanks alike lies strictly on its side of the heads of
 /// each assignment whose tank levels lie in the intervals (supersolutions and subsolutions of

@@ -15,10 +15,12 @@ ghost use Rattle.hyd_spec_certificates.specs.Stocks.{Stocks, may_reach, must_rea
 ghost use Rattle.hyd_spec_certificates.specs.declared.Verdict.{Verdict};
 ghost use Rattle.hyd_spec_certificates.specs.ThreeValuedLogic.{at_both_ends, some_holds, all_hold};
 ghost use Rattle.hyd_spec_certificates.specs.Decided.{control_truth, SomeReaches, IsClockLength};
-ghost use Rattle.hyd_theorems_on_definitions.specs.TermsOfTheorems.{LiesIn, StockLies, IsVessel, SomeReachesFirst};
-ghost use Rattle.hyd_theorems_on_definitions.specs.TermsOfTheorems.{NoneReachesBefore};
-ghost use Rattle.hyd_theorems_on_definitions.specs.TermsOfTheorems.{IsAtMost};
-ghost use Rattle.hyd_theorems_on_definitions.specs.TermsOfTheorems.{IsOneWay, Tells};
+ghost use Rattle.hyd_theorems_on_definitions.specs.LyingInIntervals.{LiesIn, StockLies};
+ghost use Rattle.hyd_theorems_on_definitions.specs.SoundTanks.{IsVessel};
+ghost use Rattle.hyd_theorems_on_definitions.specs.ReachedFirst.{SomeReachesFirst};
+ghost use Rattle.hyd_theorems_on_definitions.specs.ReachedFirst.{NoneReachesBefore};
+ghost use Rattle.hyd_theorems_on_definitions.specs.VerdictsOfTests.{IsAtMost};
+ghost use Rattle.hyd_theorems_on_definitions.specs.VerdictsOfTests.{IsOneWay, Tells};
 
 /// A comparison or a level control that both ends of an interval decide is decided so at each
 /// point between them.

@@ -4,7 +4,7 @@
 ghost use Rattle.std.specs.Prelude.{◌≡◌, ◌^◌, ◌*◌, ℕ, ℤ, pos, IsTrue, true, false, [], ◌∷◌, Some, unsigned_abs};
 ghost use Rattle.hyd_spec.specs.ProgramTypes.{Project, Decimal, Tank, Clause, And, Or, Demand};
 ghost use Rattle.hyd_spec.specs.Scale.{at_scale};
-ghost use Rattle.hyd_spec.specs.DemandsReservoirHeadsAndCurves.{category_demand, multipliers_of};
+ghost use Rattle.hyd_spec.specs.DemandsHeadsAndPumpLifts.{category_demand, multipliers_of};
 ghost use Rattle.hyd_spec.specs.Loss.{PipeLossAtMost, PipeLossAtLeast, ValveLossAtMost, ValveLossAtLeast};
 ghost use Rattle.hyd_spec.specs.Law.{Law, Capped, flow_at_least, flow_at_most};
 ghost use Rattle.hyd_spec.specs.Tank.{Cylinder, exact_content, reaches};

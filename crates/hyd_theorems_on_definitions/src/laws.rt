@@ -15,10 +15,10 @@ ghost use Rattle.hyd_spec.specs.Law.{Law, ForwardOnly, ReverseOnly, Held, loss_a
 ghost use Rattle.hyd_spec.specs.Law.{flow_at_most};
 ghost use Rattle.hyd_spec_certificates.specs.EnclosingFunctions.{low, high, root_down, root_up, DemandLaw, demand_low};
 ghost use Rattle.hyd_spec_certificates.specs.EnclosingFunctions.{demand_high, emitter_low, emitter_high};
-ghost use Rattle.hyd_theorems_on_definitions.specs.TermsOfTheorems.{IsLossLaw, HasPositiveNumbers, IsLaw, IsSoundLaw};
-ghost use Rattle.hyd_theorems_on_definitions.specs.TermsOfTheorems.{AreRising};
-ghost use Rattle.hyd_theorems_on_definitions.specs.TermsOfTheorems.{IsSoundDemand};
-ghost use Rattle.hyd_theorems_on_definitions.specs.TermsOfTheorems.{LiesIn};
+ghost use Rattle.hyd_theorems_on_definitions.specs.SoundLawsAndGrids.{IsLossLaw, HasPositiveNumbers, IsLaw, IsSoundLaw};
+ghost use Rattle.hyd_theorems_on_definitions.specs.SoundLawsAndGrids.{AreRising};
+ghost use Rattle.hyd_theorems_on_definitions.specs.SoundLawsAndGrids.{IsSoundDemand};
+ghost use Rattle.hyd_theorems_on_definitions.specs.LyingInIntervals.{LiesIn};
 
 /// What is lost in pipes, valves, pumps, emitters and by demands that depend on the pressure
 /// rises with the flow: one that loses at most a head is at most one that loses at least it.

@@ -14,10 +14,11 @@ ghost use Rattle.hyd_spec.specs.Tank.{exact_content, carried_level, reaches, has
 ghost use Rattle.hyd_spec_certificates.specs.Stocks.{Stocks, carried_levels, next_stocks, state_of, may_reach};
 ghost use Rattle.hyd_spec_certificates.specs.Stocks.{must_reach};
 ghost use Rattle.hyd_spec_certificates.specs.FirstSeconds.{IsFirstSecond};
-ghost use Rattle.hyd_theorems_on_definitions.specs.TermsOfTheorems.{in_parts, LiesIn, LiesAround, StockLies, IsVessel};
-ghost use Rattle.hyd_theorems_on_definitions.specs.TermsOfTheorems.{IsInside};
-ghost use Rattle.hyd_theorems_on_definitions.specs.TermsOfTheorems.{AreInside};
-ghost use Rattle.hyd_theorems_on_definitions.specs.TermsOfTheorems.{IsWithin, HasStock};
+ghost use Rattle.hyd_theorems_on_definitions.specs.LyingInIntervals.{in_parts, LiesIn, LiesAround, StockLies};
+ghost use Rattle.hyd_theorems_on_definitions.specs.SoundTanks.{IsVessel};
+ghost use Rattle.hyd_theorems_on_definitions.specs.LyingInIntervals.{IsInside};
+ghost use Rattle.hyd_theorems_on_definitions.specs.LyingInIntervals.{AreInside};
+ghost use Rattle.hyd_theorems_on_definitions.specs.LyingInIntervals.{IsWithin, HasStock};
 
 /// The tanks of a sound network hold water, and their bounds are in order.
 pub fn vessels()

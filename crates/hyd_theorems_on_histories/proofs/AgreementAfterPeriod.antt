@@ -18,7 +18,8 @@ use Rattle.hyd_spec_certificates.specs.RecordAndStanding.{Record, Standing, init
 use Rattle.hyd_spec_certificates.specs.Decided.{links_at, acts_on, level_of_tank, stocks_of_tank, inflow_of_tank}
 use Rattle.hyd_spec_certificates.specs.Decided.{nowhere, rule_truths}
 use Rattle.hyd_spec_certificates.specs.Valid.{IsValid, Continues, LeavesLinks, by_rules, by_clock, stocks_next}
-use Rattle.hyd_theorems_on_definitions.specs.TermsOfTheorems.{LiesIn, LevelsLie, StockLies, IsWithin, IsSoundGrid}
+use Rattle.hyd_theorems_on_definitions.specs.LyingInIntervals.{LiesIn, LevelsLie, StockLies, IsWithin}
+use Rattle.hyd_theorems_on_definitions.specs.SoundLawsAndGrids.{IsSoundGrid}
 use Rattle.hyd_lemmas.proofs.ListsOptionsAndResults.{same_item}
 use Rattle.hyd_theorems_on_definitions.proofs.LawsOfGrids.{IsSoundGrid-made}
 use Rattle.hyd_theorems_on_definitions.proofs.StocksInIntervals.{next_lies, next_within}
@@ -28,7 +29,7 @@ use Rattle.hyd_theorems_on_histories.proofs.RuleReadingsBetweenEnds.{stock_lies,
 use Rattle.hyd_theorems_on_histories.proofs.LengthAndLinkStates.{length_and_links}
 use Rattle.hyd_theorems_on_histories.proofs.AgreementAtStart.{same_links, states_agree, decided_at_start}
 use Rattle.hyd_theorems_on_histories.proofs.CommandedLinkStates.{started_own, acted_own, initial_own}
-use Rattle.hyd_theorems_on_definitions.proofs.Vessels.{vessels, sound_tank}
+use Rattle.hyd_theorems_on_definitions.proofs.SoundTankLemmas.{vessels, sound_tank}
 
 -- ---- the grid's capacities
 

@@ -18,7 +18,7 @@ use Rattle.hyd_spec_certificates.specs.ThreeValuedLogic.{at_both_ends, is_unknow
 use Rattle.hyd_spec_certificates.specs.RecordAndStanding.{Standing, initial_standing}
 use Rattle.hyd_spec_certificates.specs.Decided.{acts_on, control_truth, links_at, nowhere}
 use Rattle.hyd_spec_certificates.specs.Valid.{ControlsAreDecided}
-use Rattle.hyd_theorems_on_definitions.specs.TermsOfTheorems.{LiesIn, LevelsLie}
+use Rattle.hyd_theorems_on_definitions.specs.LyingInIntervals.{LiesIn, LevelsLie}
 use Rattle.hyd_theorems_on_definitions.proofs.DecidedByEnds.{control_tells}
 use Rattle.hyd_theorems_on_definitions.proofs.StocksInIntervals.{state_holds}
 use Rattle.hyd_theorems_on_histories.specs.Agreement.{AgreesWith}

@@ -15,7 +15,7 @@ use Rattle.hyd_spec.specs.Assignment.{head_at}
 use Rattle.hyd_spec.specs.Rules.{Readings, in_ticks, level_of, head_of, pressure_of, elevation_of, bottom_of, amount}
 use Rattle.hyd_spec.specs.Rules.{compares, holds_on, clause_holds, setting_of, state_of_link, status_holds, state_word}
 use Rattle.hyd_spec_certificates.specs.ThreeValuedLogic.{at_both_ends}
-use Rattle.hyd_theorems_on_definitions.specs.TermsOfTheorems.{IsAtMost, IsOneWay, Tells}
+use Rattle.hyd_theorems_on_definitions.specs.VerdictsOfTests.{IsAtMost, IsOneWay, Tells}
 use Rattle.hyd_lemmas.proofs.BooleanTests.{nat-le-no}
 use Rattle.hyd_theorems_on_definitions.proofs.DecidedByEnds.{compare_tells}
 use Rattle.hyd_theorems_on_histories.specs.Agreement.{IsValueBetween, AreBetween}

@@ -9,7 +9,7 @@ use Rattle.std.proofs.lemmas.Bool.{cond_both, eqb-true}
 use Rattle.std.proofs.lemmas.Option.{get_or_from_slice_get}
 use Rattle.hyd_net.specs.NumberRanges.{IsUpTo}
 use Rattle.hyd_net.specs.NetworkRanges.{HasPattern, HasSizes}
-use Rattle.hyd_net.specs.States.{IsSpeed, CanHave, CanBeSet}
+use Rattle.hyd_net.specs.LinkStates.{IsSpeed, CanHave, CanBeSet}
 use Rattle.hyd_net.specs.ControlsAndRules.{CanCommand, IsControl, IsRule}
 use Rattle.hyd_net.specs.RoundedFileNumbers.{IsStateMade, IsRuleMade}
 use Rattle.hyd_net.specs.Sound.{IsSound}
@@ -18,7 +18,7 @@ use Rattle.hyd_spec.specs.ProgramTypes.{Gpv, LinkState, Closed, Speed, Control, 
 use Rattle.hyd_spec.specs.declared.Change.{Change}
 use Rattle.hyd_spec.specs.declared.Source.TheVariants.{Rule as ByRule}
 use Rattle.hyd_spec.specs.Lists.{map_from}
-use Rattle.hyd_spec.specs.DemandsReservoirHeadsAndCurves.{multipliers_of, multiplier_at}
+use Rattle.hyd_spec.specs.DemandsHeadsAndPumpLifts.{multipliers_of, multiplier_at}
 use Rattle.hyd_spec.specs.PumpPatternsAndSimpleControls.{speed_state, is_pattern_boundary, patterned_state}
 use Rattle.hyd_spec.specs.PumpPatternsAndSimpleControls.{after_patterns, patterned, control_acts, started}
 use Rattle.hyd_spec.specs.Rules.{Offer, offer_of, offers_of, offers_from, is_above, higher, best_offer, change_by}

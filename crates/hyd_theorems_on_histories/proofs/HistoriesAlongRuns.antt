@@ -14,12 +14,13 @@ use Rattle.hyd_spec_certificates.specs.RecordAndStanding.{Standing, initial_stan
 use Rattle.hyd_spec_certificates.specs.Decided.{acts_on}
 use Rattle.hyd_spec_certificates.specs.Valid.{LeadsOn, continues, finishes}
 use Rattle.hyd_spec_reports.specs.ReportLine.{ReportLine}
-use Rattle.hyd_spec_reports.specs.Report.{IsReport, AreStateLines, is_report_time, start_changes}
+use Rattle.hyd_spec_reports.specs.Report.{IsReport, AreStateLines, is_report_time}
+use Rattle.hyd_spec_reports.specs.ChangesAtStart.{start_changes}
 use Rattle.hyd_spec_reports.specs.Claims.{LineHolds}
 use Rattle.hyd_spec_reports.specs.PromisesOfRunsAndChecks.{Found, IsFound, IsRunFrom, none, more, IsRun, Agrees}
 use Rattle.hyd_spec_reports.specs.PromisesOfRunsAndChecks.{AllAgree}
 use Rattle.hyd_spec_reports.specs.PromisesOfRunsAndChecks.{EveryHistoryAgrees}
-use Rattle.hyd_theorems_on_definitions.proofs.Comparison.{below_main, above_main}
+use Rattle.hyd_theorems_on_definitions.proofs.ComparisonPrinciple.{below_main, above_main}
 use Rattle.hyd_theorems_on_histories.specs.Agreement.{IsUnder, AgreesWith, IsKept}
 use Rattle.hyd_theorems_on_histories.proofs.AgreementAtStart.{same_acts, agrees_at_start}
 use Rattle.hyd_theorems_on_histories.proofs.AgreementAfterPeriod.{kept_at_start, kept_next, its_states, is_under}

@@ -5,7 +5,7 @@ use Rattle.std.proofs.lemmas.Int.{ints}
 use Rattle.hyd_spec.specs.Lists.{map_from}
 use Rattle.hyd_spec_certificates.specs.Interval.{Interval}
 use Rattle.hyd_spec_certificates.specs.Decided.{nowhere}
-use Rattle.hyd_theorems_on_definitions.specs.TermsOfTheorems.{LiesIn, LevelsLie}
+use Rattle.hyd_theorems_on_definitions.specs.LyingInIntervals.{LiesIn, LevelsLie}
 use Rattle.hyd_lemmas.proofs.ListsOptionsAndResults.{numbered_at}
 
 pub numbered_from_start : (X Y : Type 0) (f : ℕ → X → Y) (xs : List X) (k : ℕ) (x : X) (d : Y) → slice_get xs k ≡ Some x

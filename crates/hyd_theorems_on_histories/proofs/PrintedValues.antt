@@ -11,7 +11,7 @@ use Rattle.hyd_num.specs.declared.flow_units.FlowUnit.{FlowUnit}
 use Rattle.hyd_spec_certificates.specs.Interval.{Interval}
 use Rattle.hyd_spec_reports.specs.Report.{Prints}
 use Rattle.hyd_spec_reports.specs.Claims.{LiesBetween, at_part}
-use Rattle.hyd_theorems_on_definitions.specs.TermsOfTheorems.{LiesIn}
+use Rattle.hyd_theorems_on_definitions.specs.LyingInIntervals.{LiesIn}
 use Rattle.hyd_lemmas.proofs.BooleanTests.{le-from}
 
 -- ---- products of two scales

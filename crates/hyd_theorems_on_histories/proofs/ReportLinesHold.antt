@@ -21,7 +21,7 @@ use Rattle.hyd_spec_certificates.specs.declared.Side.TheVariants.{Upper, Lower}
 use Rattle.hyd_spec.specs.Lists.{map_from, present}
 use Rattle.hyd_spec.specs.Scale.{at_scale}
 use Rattle.hyd_spec_certificates.specs.Interval.{Interval, shifted}
-use Rattle.hyd_spec.specs.DemandsReservoirHeadsAndCurves.{is_us}
+use Rattle.hyd_spec.specs.DemandsHeadsAndPumpLifts.{is_us}
 use Rattle.hyd_spec.specs.LinkLaw.{law_of, is_full, is_empty}
 use Rattle.hyd_spec.specs.Assignment.{head_at, node_heads}
 use Rattle.hyd_spec.specs.Tank.{walls_of, reaches, tank_inflow}
@@ -46,12 +46,14 @@ use Rattle.hyd_spec_certificates.specs.Decided.{stocks_of_tank, inflow_of_tank, 
 use Rattle.hyd_spec_certificates.specs.Decided.{decided_changes, rule_truths, EndsBy, ByRules}
 use Rattle.hyd_spec_certificates.specs.Decided.{by_rules as decided_by_rules}
 use Rattle.hyd_spec_reports.specs.ReportLine.{ReportLine}
-use Rattle.hyd_spec_reports.specs.Report.{IsTankLine, IsLinkLine, control_changes, start_changes, changes_at}
-use Rattle.hyd_spec_reports.specs.Report.{change_line, control_lines, tank_event, tank_events, control_event, events_of}
+use Rattle.hyd_spec_reports.specs.Report.{IsTankLine, IsLinkLine}
+use Rattle.hyd_spec_reports.specs.ChangesAtStart.{control_changes, start_changes, changes_at}
+use Rattle.hyd_spec_reports.specs.Report.{tank_event, tank_events, control_event, events_of}
+use Rattle.hyd_spec_reports.specs.ChangesAtStart.{change_line, control_lines}
 use Rattle.hyd_spec_reports.specs.Report.{event_line, status_of, EndBrings, at_end as brings_last}
 use Rattle.hyd_spec_reports.specs.Report.{by_rules as brings_by_rules, by_clock as brings_by_clock, AreEndLines}
 use Rattle.hyd_spec_reports.specs.Claims.{LineHolds, ReachesControl, ReachesAtEnd, StatusHolds, difference_along}
-use Rattle.hyd_theorems_on_definitions.specs.TermsOfTheorems.{LiesIn}
+use Rattle.hyd_theorems_on_definitions.specs.LyingInIntervals.{LiesIn}
 use Rattle.hyd_lemmas.proofs.ListsOptionsAndResults.{same_item}
 use Rattle.hyd_lemmas.proofs.BooleanTests.{le-from, le-yes}
 use Rattle.hyd_theorems_on_definitions.proofs.FlowsInBoxes.{heads_between}
@@ -63,7 +65,7 @@ use Rattle.hyd_theorems_on_histories.proofs.RuleReadingsBetweenEnds.{level_lies,
 use Rattle.hyd_theorems_on_histories.proofs.TruthsAndRuleValues.{changes_are}
 use Rattle.hyd_theorems_on_histories.proofs.WatchedLevels.{contains-here, contains-later, contains-cons, contains-none}
 use Rattle.hyd_theorems_on_histories.proofs.WatchedLevels.{known-no, isnt-full, isnt-empty}
-use Rattle.hyd_theorems_on_definitions.proofs.Vessels.{sound_tank}
+use Rattle.hyd_theorems_on_definitions.proofs.SoundTankLemmas.{sound_tank}
 use Rattle.hyd_theorems_on_histories.proofs.PrintedValues.{prints_hold, head_proportional, flow_proportional}
 use Rattle.hyd_theorems_on_histories.proofs.ReportTimeLinesHold.{IsCovered, all_after, flow_holds}
 use Rattle.hyd_theorems_on_definitions.proofs.StatusWords.{status_holds}

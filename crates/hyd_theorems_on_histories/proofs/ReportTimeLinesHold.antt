@@ -12,7 +12,7 @@ use Rattle.hyd_spec_certificates.specs.declared.Problem.TheVariants.{Main}
 use Rattle.hyd_spec_certificates.specs.declared.Side.TheVariants.{Upper, Lower}
 use Rattle.hyd_spec_certificates.specs.Interval.{Interval, exactly}
 use Rattle.hyd_spec.specs.Scale.{at_scale}
-use Rattle.hyd_spec.specs.DemandsReservoirHeadsAndCurves.{is_us, reservoir_head}
+use Rattle.hyd_spec.specs.DemandsHeadsAndPumpLifts.{is_us, reservoir_head}
 use Rattle.hyd_spec.specs.Assignment.{head_at, flow_at}
 use Rattle.hyd_spec.specs.PeriodLength.{Period}
 use Rattle.hyd_spec_certificates.specs.PeriodNetwork.{Grid, GridLink, GridJunction, IsJunctionOf}
@@ -24,9 +24,9 @@ use Rattle.hyd_spec_reports.specs.ReportLine.{ReportLine}
 use Rattle.hyd_spec_reports.specs.Report.{Prints, LineEach, IsJunctionLine, IsReservoirLine, IsTankLine, IsLinkLine}
 use Rattle.hyd_spec_reports.specs.Report.{AreStateLines}
 use Rattle.hyd_spec_reports.specs.Claims.{LineHolds, FlowLies}
-use Rattle.hyd_theorems_on_definitions.specs.TermsOfTheorems.{LiesIn, IsCompared}
+use Rattle.hyd_theorems_on_definitions.specs.LyingInIntervals.{LiesIn, IsCompared}
 use Rattle.hyd_lemmas.proofs.ListsOptionsAndResults.{same_item}
-use Rattle.hyd_theorems_on_definitions.proofs.Comparison.{below_main, above_main, place_at}
+use Rattle.hyd_theorems_on_definitions.proofs.ComparisonPrinciple.{below_main, above_main, place_at}
 use Rattle.hyd_theorems_on_definitions.proofs.FlowsInBoxes.{heads_between, flow_lies, outflow_lies}
 use Rattle.hyd_theorems_on_histories.proofs.PrintedValues.{prints_hold, head_proportional, pressure_proportional}
 use Rattle.hyd_theorems_on_histories.proofs.PrintedValues.{flow_proportional}

@@ -25,7 +25,7 @@ use Rattle.hyd_spec_certificates.specs.RecordAndStanding.{Record, Standing, Vect
 use Rattle.hyd_spec_certificates.specs.Decided.{level_of_tank, stocks_of_tank, inflow_of_tank, nowhere, least_magnitude}
 use Rattle.hyd_spec_certificates.specs.Decided.{greatest_magnitude, readings_below, readings_above, heads_below}
 use Rattle.hyd_spec_certificates.specs.Decided.{heads_above}
-use Rattle.hyd_theorems_on_definitions.specs.TermsOfTheorems.{LiesIn, LiesAround, StockLies}
+use Rattle.hyd_theorems_on_definitions.specs.LyingInIntervals.{LiesIn, LiesAround, StockLies}
 use Rattle.hyd_lemmas.proofs.Integers.{max_left, max_right, abs_above}
 use Rattle.hyd_lemmas.proofs.BooleanTests.{le-yes}
 use Rattle.hyd_theorems_on_definitions.proofs.FlowsInBoxes.{heads_between, flow_lies}

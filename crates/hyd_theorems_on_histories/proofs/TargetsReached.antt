@@ -7,12 +7,13 @@ use Rattle.hyd_num.proofs.Integers.{times_rises, one_times}
 use Rattle.hyd_num.specs.Rational.{Rational, floor, ceiling}
 use Rattle.hyd_net.specs.Curves.{volume_at}
 use Rattle.hyd_spec.specs.ProgramTypes.{Tank}
-use Rattle.hyd_spec.specs.Scale.{is_same_number}
+use Rattle.hyd_spec.specs.WholeNumbers.{is_same_number}
 use Rattle.hyd_spec.specs.Tank.{Walls, Cylinder, Curve, Stock, level_bounds, content_bounds, exact_content}
 use Rattle.hyd_spec.specs.Tank.{is_at_maximum, is_at_minimum, reaches, watched_level, carried_level, has_reached}
 use Rattle.hyd_spec_certificates.specs.Interval.{Interval}
 use Rattle.hyd_spec_certificates.specs.Stocks.{Stocks, least_stock, greatest_stock, carried_levels, must_reach}
-use Rattle.hyd_theorems_on_definitions.specs.TermsOfTheorems.{LiesIn, StockLies, IsVessel}
+use Rattle.hyd_theorems_on_definitions.specs.LyingInIntervals.{LiesIn, StockLies}
+use Rattle.hyd_theorems_on_definitions.specs.SoundTanks.{IsVessel}
 use Rattle.hyd_lemmas.proofs.Integers.{floor_low, ceiling_high, max_is, min_is}
 use Rattle.hyd_lemmas.proofs.BooleanTests.{le-from}
 use Rattle.hyd_theorems_on_definitions.proofs.ValuesByContent.{above-from, below-from, lower-is, upper-is}

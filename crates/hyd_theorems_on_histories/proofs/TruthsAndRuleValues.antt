@@ -15,7 +15,7 @@ use Rattle.hyd_spec_certificates.specs.ThreeValuedLogic.{all_hold}
 use Rattle.hyd_spec_certificates.specs.PeriodNetwork.{Grid}
 use Rattle.hyd_spec_certificates.specs.RecordAndStanding.{Record, Standing}
 use Rattle.hyd_spec_certificates.specs.Decided.{clause_truth, rule_truths, decided_changes}
-use Rattle.hyd_theorems_on_definitions.specs.TermsOfTheorems.{Tells, TellEach}
+use Rattle.hyd_theorems_on_definitions.specs.VerdictsOfTests.{Tells, TellEach}
 use Rattle.hyd_lemmas.proofs.BooleanTests.{or-false}
 use Rattle.hyd_theorems_on_definitions.proofs.DecidedByEnds.{rule_tells}
 use Rattle.hyd_theorems_on_histories.specs.Agreement.{AreBetween, IsUnder}

@@ -22,7 +22,7 @@ use Rattle.hyd_spec_certificates.specs.RecordAndStanding.{Record, Standing}
 use Rattle.hyd_spec_certificates.specs.Decided.{Watch, tank_watches, watch_of, watches, acts_on, control_truth}
 use Rattle.hyd_spec_certificates.specs.Decided.{level_of_tank, stocks_of_tank, inflow_of_tank, SomeMayReach}
 use Rattle.hyd_spec_certificates.specs.Decided.{SomeMustReach}
-use Rattle.hyd_theorems_on_definitions.specs.TermsOfTheorems.{Tells}
+use Rattle.hyd_theorems_on_definitions.specs.VerdictsOfTests.{Tells}
 use Rattle.hyd_lemmas.proofs.ListsOptionsAndResults.{same_item}
 use Rattle.hyd_theorems_on_definitions.proofs.DecidedByEnds.{control_tells, reached_may, must_reached}
 use Rattle.hyd_theorems_on_histories.specs.Agreement.{IsUnder}

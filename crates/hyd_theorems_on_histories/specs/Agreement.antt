@@ -4,7 +4,7 @@ use Rattle.std.specs.Prelude.{◌≡◌, ℕ, ◌<◌, ◌≤◌, ◌*◌, ℤ, 
 use Rattle.std.specs.List.{AllZip}
 use Rattle.hyd_num.specs.Rational.{Rational}
 use Rattle.hyd_net.specs.RoundedFileNumbers.{IsStateMade}
-use Rattle.hyd_net.specs.States.{CanHave}
+use Rattle.hyd_net.specs.LinkStates.{CanHave}
 use Rattle.hyd_spec.specs.ProgramTypes.{Project, Tank, Link, LinkState}
 use Rattle.hyd_spec.specs.Lists.{Each}
 use Rattle.hyd_spec.specs.NodeNumbers.{nodes_before_tanks}
@@ -18,7 +18,8 @@ use Rattle.hyd_spec_certificates.specs.PeriodNetwork.{Grid}
 use Rattle.hyd_spec_certificates.specs.RecordAndStanding.{Record, Standing}
 use Rattle.hyd_spec_certificates.specs.Decided.{links_at, level_of_tank}
 use Rattle.hyd_spec_certificates.specs.Valid.{AreCertificates, ControlsAreDecided}
-use Rattle.hyd_theorems_on_definitions.specs.TermsOfTheorems.{LiesIn, LevelsLie, IsCompared, IsVessel, IsWithin}
+use Rattle.hyd_theorems_on_definitions.specs.LyingInIntervals.{LiesIn, LevelsLie, IsCompared, IsWithin}
+use Rattle.hyd_theorems_on_definitions.specs.SoundTanks.{IsVessel}
 
 -- ---- what rules look at
 

@@ -26,7 +26,8 @@ ghost use Rattle.hyd_spec_reports.specs.ReportLine.{ReportLine};
 ghost use Rattle.hyd_spec_reports.specs.Report.{Prints, AreEndLines};
 ghost use Rattle.hyd_spec_reports.specs.Claims.{LiesBetween, at_part, LineHolds};
 ghost use Rattle.hyd_spec_reports.specs.PromisesOfRunsAndChecks.{Found, IsRun, EveryHistoryAgrees};
-ghost use Rattle.hyd_theorems_on_definitions.specs.TermsOfTheorems.{LiesIn, Tells};
+ghost use Rattle.hyd_theorems_on_definitions.specs.LyingInIntervals.{LiesIn};
+ghost use Rattle.hyd_theorems_on_definitions.specs.VerdictsOfTests.{Tells};
 ghost use Rattle.hyd_theorems_on_histories.specs.Agreement.{AreBetween, IsUnder, AgreesWith, IsOwnState, IsKept};
 
 // ---- printed values

@@ -8,7 +8,7 @@ use Rattle.hyd_spec_lines.specs.Lines.{Row}
 use Rattle.hyd_spec_lines.specs.WordsOfLines.{is_keyword}
 use Rattle.hyd_spec_lines.specs.declared.section.Section.TheVariants.{Pipes, Pumps, Tanks, Controls as ControlsSection}
 use Rattle.hyd_net.specs.NumberRanges.{IsHead}
-use Rattle.hyd_net.specs.States.{CanHave, CanBeSet}
+use Rattle.hyd_net.specs.LinkStates.{CanHave, CanBeSet}
 use Rattle.hyd_net.specs.ControlsAndRules as commands
 use Rattle.hyd_net.specs.ControlsAndRules.{CanCommand, IsMoment}
 use Rattle.hyd_net.specs.declared.controls.When.{When}
@@ -21,19 +21,19 @@ use Rattle.hyd_net.specs.declared.links.LinkState.{LinkState}
 use Rattle.hyd_net.specs.declared.project.Project.{Project}
 use Rattle.hyd_spec_input.specs.Columns.{needed, id, one_of, meant, asked, word, amount, word_is, is_option_keyword}
 use Rattle.hyd_spec_input.specs.Keywords.{link_word}
-use Rattle.hyd_spec_input.specs.Moments.{time, clock}
+use Rattle.hyd_spec_input.specs.TimesAndClockTimes.{time, clock}
 use Rattle.hyd_spec_input.specs.ControlRows as alone
-use Rattle.hyd_spec_input.specs.Tables.{is_of, rows_of, own_id, words_of, words_of_row}
+use Rattle.hyd_spec_input.specs.SectionsAndTables.{is_of, rows_of, own_id, words_of, words_of_row}
 use Rattle.hyd_spec_input.specs.MeaningsAcrossRows.{tank_ids, number_in}
-use Rattle.hyd_spec_input.specs.RowsTogether as others
-use Rattle.hyd_spec_input.specs.RowsTogether.{head, is_check_valve, control_tank}
+use Rattle.hyd_spec_input.specs.FaultsWithOtherRows as others
+use Rattle.hyd_spec_input.specs.FaultsWithOtherRows.{head, is_check_valve, control_tank}
 use Rattle.hyd_spec_input.specs.Project as project
 use Rattle.hyd_spec_input.specs.Project.{IsProject, IsTank, IsKind, IsWhen}
 use Rattle.hyd_theorems_on_input.proofs.ListsByPlace.{match_all, match_length, kept_stands, kept_passes, source}
-use Rattle.hyd_theorems_on_input.proofs.Faultless.{AreRight, right_alone, right_among, or_none, all_none}
-use Rattle.hyd_theorems_on_input.proofs.Occurs.{number_inside}
-use Rattle.hyd_theorems_on_input.proofs.InForce.{keyword_same}
-use Rattle.hyd_theorems_on_input.proofs.Moments.{time_right, clock_right}
+use Rattle.hyd_theorems_on_input.proofs.RowsWithoutFault.{AreRight, right_alone, right_among, or_none, all_none}
+use Rattle.hyd_theorems_on_input.proofs.OccurrencesOfNames.{number_inside}
+use Rattle.hyd_theorems_on_input.proofs.OptionsAndTimesInForce.{keyword_same}
+use Rattle.hyd_theorems_on_input.proofs.TimesAndClockTimes.{time_right, clock_right}
 use Rattle.hyd_theorems_on_input.proofs.Names.{tank_ids_are}
 use Rattle.hyd_theorems_on_input.proofs.PatternsAndCurvesByNumber.{numbers_from}
 use Rattle.hyd_theorems_on_input.proofs.NodeRanges.{head_right}

@@ -18,12 +18,12 @@ use Rattle.hyd_net.specs.Curves.{AreRising, AreFalling, IsVolumeCurve, IsPumpCur
 use Rattle.hyd_net.specs.Curves.{volume_at}
 use Rattle.hyd_net.specs.declared.curves.VolumePoint.{VolumePoint}
 use Rattle.hyd_net.specs.declared.curves.HeadPoint.{HeadPoint}
-use Rattle.hyd_spec_input.specs.Tables.{Point}
+use Rattle.hyd_spec_input.specs.SectionsAndTables.{Point}
 use Rattle.hyd_spec_input.specs.Curves.{is_head, in_turn, at_start, at_end, head_points, is_slower, is_faster, has_flow}
 use Rattle.hyd_spec_input.specs.Curves.{is_pump_bend, begins_at_0, is_valve_bend, is_fuller, covers, is_volume_curve}
 use Rattle.hyd_lemmas.proofs.Each.{all_by}
 use Rattle.hyd_lemmas.proofs.BooleanTests.{le_z-yes, lt_z-yes}
-use Rattle.hyd_theorems_on_input.proofs.Faultless.{lies}
+use Rattle.hyd_theorems_on_input.proofs.RowsWithoutFault.{lies}
 
 -- ---- neighbours
 

@@ -1,10 +1,10 @@
 pub mod ListsByPlace
 pub mod NoEmptyWords
-pub mod Faultless
-pub mod Occurs
+pub mod RowsWithoutFault
+pub mod OccurrencesOfNames
 pub mod Names
-pub mod InForce
-pub mod Moments
+pub mod OptionsAndTimesInForce
+pub mod TimesAndClockTimes
 pub mod PatternsAndCurvesByNumber
 pub mod OptionRanges
 pub mod CurvePoints
@@ -14,7 +14,7 @@ pub mod LinkStates
 pub mod ControlLines
 pub mod RuleLines
 pub mod RuleParts
-pub mod Tallies
+pub mod CountsWithinLimits
 pub mod PatternRows
 pub mod RoundedForms
 pub mod RowsToProject

@@ -35,23 +35,25 @@ use Rattle.hyd_net.specs.declared.links.ShutoffHead.TheVariants.{FourThirds, Giv
 use Rattle.hyd_net.specs.declared.project.Project.{Project}
 use Rattle.hyd_spec_input.specs.Columns.{unless, needed, optional, ends, id, one_of, is_there, up_to, above_0_to}
 use Rattle.hyd_spec_input.specs.Columns.{supported, word, or_empty, amount, units}
-use Rattle.hyd_spec_input.specs.NetworkRows as alone
-use Rattle.hyd_spec_input.specs.Tables.{Point, place, is_of, is_link, curve_named}
-use Rattle.hyd_spec_input.specs.InForce.{unit}
+use Rattle.hyd_spec_input.specs.NodeAndLinkRows as alone
+use Rattle.hyd_spec_input.specs.SectionsAndTables.{Point, place, is_of, is_link, curve_named}
+use Rattle.hyd_spec_input.specs.OptionsAndTimesInForce.{unit}
 use Rattle.hyd_spec_input.specs.Curves.{drop_of, is_bent, is_within, is_flow, is_pump_curve, square, are_flows}
 use Rattle.hyd_spec_input.specs.Curves.{has_shutoff, is_pump_bend, head_point, head_points, begins_at_0, is_valve_bend}
 use Rattle.hyd_spec_input.specs.MeaningsAcrossRows.{node_ids}
-use Rattle.hyd_spec_input.specs.RowsTogether as others
-use Rattle.hyd_spec_input.specs.RowsTogether.{us, is_speed, multipliers_of}
+use Rattle.hyd_spec_input.specs.FaultsWithOtherRows as others
+use Rattle.hyd_spec_input.specs.FaultsWithOtherRows.{us, is_speed, multipliers_of}
 use Rattle.hyd_spec_input.specs.Project as project
 use Rattle.hyd_spec_input.specs.Project.{Where, IsProject, IsLink, IsKind, IsPipeKind, IsPumpKind, IsValveKind}
 use Rattle.hyd_spec_input.specs.Project.{IsOpenValve, IsShutoffOf, pump_points, bend_points, numbered_links}
 use Rattle.hyd_lemmas.proofs.Each.{all_by}
 use Rattle.hyd_lemmas.proofs.BooleanTests.{le_z-yes, lt_z-yes}
 use Rattle.hyd_theorems_on_input.proofs.ListsByPlace.{match_all}
-use Rattle.hyd_theorems_on_input.proofs.Faultless.{AreRight, right_alone, right_among, or_none, all_none, unless_none}
-use Rattle.hyd_theorems_on_input.proofs.Faultless.{needed_none, optional_none, lies, within, amount_or_is, section_is}
-use Rattle.hyd_theorems_on_input.proofs.Occurs.{number_inside, number_names, itself}
+use Rattle.hyd_theorems_on_input.proofs.RowsWithoutFault.{AreRight, right_alone, right_among, or_none, all_none}
+use Rattle.hyd_theorems_on_input.proofs.RowsWithoutFault.{unless_none}
+use Rattle.hyd_theorems_on_input.proofs.RowsWithoutFault.{needed_none, optional_none, lies, within, amount_or_is}
+use Rattle.hyd_theorems_on_input.proofs.RowsWithoutFault.{section_is}
+use Rattle.hyd_theorems_on_input.proofs.OccurrencesOfNames.{number_inside, number_names, itself}
 use Rattle.hyd_theorems_on_input.proofs.Names.{First, Second, Third, one_of_three, link_stands, link_alone, node_length}
 use Rattle.hyd_theorems_on_input.proofs.PatternsAndCurvesByNumber.{may_have_pattern, has_bend}
 use Rattle.hyd_theorems_on_input.proofs.CurvePoints.{pump_curve_right, loss_curve_right}

@@ -18,7 +18,7 @@ use Rattle.hyd_spec_lines.specs.Lines.{Row}
 use Rattle.hyd_spec_lines.specs.WordsOfLines.{is_keyword}
 use Rattle.hyd_spec_lines.specs.declared.section.Section.TheVariants.{Pipes, Pumps, Valves, Status as StatusSection}
 use Rattle.hyd_net.specs.NumberRanges.{Lies, IsUpTo}
-use Rattle.hyd_net.specs.States.{IsSpeed, IsFlowSetting, CanHave}
+use Rattle.hyd_net.specs.LinkStates.{IsSpeed, IsFlowSetting, CanHave}
 use Rattle.hyd_net.specs.RoundedFileNumbers.{IsStateMade, HasLaw, HasCoefficient, IsLawAcross, IsOriginAcross}
 use Rattle.hyd_net.specs.RoundedFileNumbers.{IsStateAcross}
 use Rattle.hyd_net.specs.declared.refusal_cause.Cause.{Cause}
@@ -32,25 +32,27 @@ use Rattle.hyd_net.specs.declared.links.OpenValve.{OpenValve}
 use Rattle.hyd_net.specs.declared.links.OpenValve.TheVariants.{Quadratic, Linear}
 use Rattle.hyd_net.specs.declared.project.Project.{Project}
 use Rattle.hyd_spec_input.specs.Columns.{or_else, unless, is_there, up_to, not_negative, word, amount, units}
-use Rattle.hyd_spec_input.specs.NetworkRows as alone
-use Rattle.hyd_spec_input.specs.NetworkRows.{is_throttle, is_general, is_closed_pipe, pump_speed, pump_speed_word}
-use Rattle.hyd_spec_input.specs.NetworkRows.{speed_of, pair_value, pump_pairs, pump_key, pump_value, and_key}
+use Rattle.hyd_spec_input.specs.NodeAndLinkRows as alone
+use Rattle.hyd_spec_input.specs.NodeAndLinkRows.{is_throttle, is_general, is_closed_pipe, pump_speed, pump_speed_word}
+use Rattle.hyd_spec_input.specs.NodeAndLinkRows.{speed_of, pair_value, pump_pairs, pump_key, pump_value, and_key}
 use Rattle.hyd_spec_input.specs.declared.EarlierKeys.{EarlierKeys}
-use Rattle.hyd_spec_input.specs.Tables.{is_of, is_link, own_id, link_rows, row_with, link_named}
-use Rattle.hyd_spec_input.specs.InForce.{unit}
+use Rattle.hyd_spec_input.specs.SectionsAndTables.{is_of, is_link, own_id, link_rows, row_with, link_named}
+use Rattle.hyd_spec_input.specs.OptionsAndTimesInForce.{unit}
 use Rattle.hyd_spec_input.specs.MeaningsAcrossRows.{link_ids, number_in, status_row_of}
-use Rattle.hyd_spec_input.specs.RowsTogether as others
-use Rattle.hyd_spec_input.specs.RowsTogether.{us, flow, is_speed, state_range, is_status, takes_number, is_check_valve}
-use Rattle.hyd_spec_input.specs.RowsTogether.{set_link}
+use Rattle.hyd_spec_input.specs.FaultsWithOtherRows as others
+use Rattle.hyd_spec_input.specs.FaultsWithOtherRows.{us, flow, is_speed, state_range, is_status, takes_number}
+use Rattle.hyd_spec_input.specs.FaultsWithOtherRows.{is_check_valve}
+use Rattle.hyd_spec_input.specs.FaultsWithOtherRows.{set_link}
 use Rattle.hyd_spec_input.specs.Project.{Where, IsProject, IsLink, IsKind, IsPipeKind, IsPumpKind, IsValveKind}
 use Rattle.hyd_spec_input.specs.Project.{IsOpenValve, IsLaw, IsThrottle, IsNumberState, IsState, IsStateOf, IsOwnState}
 use Rattle.hyd_spec_input.specs.Project.{IsStart, speed_state, open_state, numbered_links}
 use Rattle.hyd_lemmas.proofs.BooleanTests.{le_z-yes}
 use Rattle.hyd_theorems_on_input.proofs.ListsByPlace.{match_all, item_at, partner}
-use Rattle.hyd_theorems_on_input.proofs.Faultless.{AreRight, right_alone, right_among, or_none, all_none, unless_none}
-use Rattle.hyd_theorems_on_input.proofs.Faultless.{needed_none, lies, in_range}
-use Rattle.hyd_theorems_on_input.proofs.Occurs.{number_names, number_inside, same_name}
-use Rattle.hyd_theorems_on_input.proofs.InForce.{in_force}
+use Rattle.hyd_theorems_on_input.proofs.RowsWithoutFault.{AreRight, right_alone, right_among, or_none, all_none}
+use Rattle.hyd_theorems_on_input.proofs.RowsWithoutFault.{unless_none}
+use Rattle.hyd_theorems_on_input.proofs.RowsWithoutFault.{needed_none, lies, in_range}
+use Rattle.hyd_theorems_on_input.proofs.OccurrencesOfNames.{number_names, number_inside, same_name}
+use Rattle.hyd_theorems_on_input.proofs.OptionsAndTimesInForce.{in_force}
 use Rattle.hyd_theorems_on_input.proofs.Names.{First, Second, Third, one_of_three, own_ids, link_stands, link_new}
 use Rattle.hyd_theorems_on_input.proofs.Names.{row_named, link_ids_are, link_length}
 use Rattle.hyd_theorems_on_input.proofs.NodeRanges.{flow_right}

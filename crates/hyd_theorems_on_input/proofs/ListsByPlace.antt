@@ -9,7 +9,7 @@ use Rattle.std.proofs.lemmas.Option.{slice_get_within, get_or_from_slice_get, sl
 use Rattle.hyd_spec_input.specs.Project.{Match}
 use Rattle.hyd_spec_lines.specs.declared.section.Section.{Section}
 use Rattle.hyd_spec_lines.specs.declared.section.Section.TheVariants.{Junctions}
-use Rattle.hyd_spec_input.specs.Tables.{place}
+use Rattle.hyd_spec_input.specs.SectionsAndTables.{place}
 
 -- ---- each item
 

@@ -16,19 +16,22 @@ use Rattle.hyd_net.specs.Sound.{HasIds}
 use Rattle.hyd_net.specs.ControlsAndRules.{node_count}
 use Rattle.hyd_net.specs.declared.project.Project.{Project}
 use Rattle.hyd_spec_input.specs.Columns.{needed, id}
-use Rattle.hyd_spec_input.specs.NetworkRows as alone
-use Rattle.hyd_spec_input.specs.Tables.{is_of, rows_of, words_of_row, own_id, is_node, is_link, node_rows, link_rows}
-use Rattle.hyd_spec_input.specs.Tables.{row_with, has_id, place}
+use Rattle.hyd_spec_input.specs.NodeAndLinkRows as alone
+use Rattle.hyd_spec_input.specs.SectionsAndTables.{is_of, rows_of, words_of_row, own_id, is_node, is_link, node_rows}
+use Rattle.hyd_spec_input.specs.SectionsAndTables.{link_rows}
+use Rattle.hyd_spec_input.specs.SectionsAndTables.{row_with, has_id, place}
 use Rattle.hyd_spec_input.specs.MeaningsAcrossRows.{first_word, node_ids, tank_ids, link_ids, is_among, new_names}
-use Rattle.hyd_spec_input.specs.RowsTogether as others
-use Rattle.hyd_spec_input.specs.RowsTogether.{passes, new_in}
+use Rattle.hyd_spec_input.specs.FaultsWithOtherRows as others
+use Rattle.hyd_spec_input.specs.FaultsWithOtherRows.{passes, new_in}
 use Rattle.hyd_spec_input.specs.Project.{IsProject, IsJunction, IsReservoir, IsTank, IsLink, numbered_links}
 use Rattle.hyd_theorems_on_input.proofs.ListsByPlace.{all_from, all_at, Stands, item_at, kept_stands, kept_passes}
 use Rattle.hyd_theorems_on_input.proofs.ListsByPlace.{of_either}
 use Rattle.hyd_theorems_on_input.proofs.ListsByPlace.{kept_more, kept_same, split_at, match_length, source}
-use Rattle.hyd_theorems_on_input.proofs.Faultless.{AreRight, right_alone, right_among, or_none, all_none, unless_none}
-use Rattle.hyd_theorems_on_input.proofs.Faultless.{needed_none}
-use Rattle.hyd_theorems_on_input.proofs.Occurs.{same_name, itself, when, occurs, Once, occurs_append, distinct}
+use Rattle.hyd_theorems_on_input.proofs.RowsWithoutFault.{AreRight, right_alone, right_among, or_none, all_none}
+use Rattle.hyd_theorems_on_input.proofs.RowsWithoutFault.{unless_none}
+use Rattle.hyd_theorems_on_input.proofs.RowsWithoutFault.{needed_none}
+use Rattle.hyd_theorems_on_input.proofs.OccurrencesOfNames.{same_name, itself, when, occurs, Once, occurs_append}
+use Rattle.hyd_theorems_on_input.proofs.OccurrencesOfNames.{distinct}
 use Rattle.hyd_lemmas.proofs.BooleanTests.{or-turned}
 
 -- ---- one row of a name

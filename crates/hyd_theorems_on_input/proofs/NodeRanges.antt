@@ -28,23 +28,23 @@ use Rattle.hyd_net.specs.declared.nodes.Tank.{Tank}
 use Rattle.hyd_net.specs.declared.project.Project.{Project}
 use Rattle.hyd_spec_input.specs.Columns.{needed, optional, ends, id, number, not_negative, up_to, one_of, word, amount}
 use Rattle.hyd_spec_input.specs.Columns.{amount_or, units}
-use Rattle.hyd_spec_input.specs.NetworkRows as alone
-use Rattle.hyd_spec_input.specs.Tables.{is_of, rows_of, rows_with, own_id}
-use Rattle.hyd_spec_input.specs.InForce.{unit}
+use Rattle.hyd_spec_input.specs.NodeAndLinkRows as alone
+use Rattle.hyd_spec_input.specs.SectionsAndTables.{is_of, rows_of, rows_with, own_id}
+use Rattle.hyd_spec_input.specs.OptionsAndTimesInForce.{unit}
 use Rattle.hyd_spec_input.specs.MeaningsAcrossRows.{number_in, pattern_number, shape_names, as_list, is_among}
 use Rattle.hyd_spec_input.specs.MeaningsAcrossRows.{demand_of_row, own_demand, or_own, demands_of, coefficient}
 use Rattle.hyd_spec_input.specs.MeaningsAcrossRows.{last_naming, emitter_of}
-use Rattle.hyd_spec_input.specs.RowsTogether as others
-use Rattle.hyd_spec_input.specs.RowsTogether.{us, head, flow, multipliers_of, is_head_times}
+use Rattle.hyd_spec_input.specs.FaultsWithOtherRows as others
+use Rattle.hyd_spec_input.specs.FaultsWithOtherRows.{us, head, flow, multipliers_of, is_head_times}
 use Rattle.hyd_spec_input.specs.Project as project
 use Rattle.hyd_spec_input.specs.Project.{IsProject, shape_number, shape_points}
 use Rattle.hyd_lemmas.proofs.Each.{all_by}
 use Rattle.hyd_lemmas.proofs.BooleanTests.{le_z-yes}
 use Rattle.hyd_theorems_on_input.proofs.ListsByPlace.{all_from, kept_stands, kept_passes, match_all}
-use Rattle.hyd_theorems_on_input.proofs.Faultless.{AreRight, right_alone, right_among, all_none, unless_none}
-use Rattle.hyd_theorems_on_input.proofs.Faultless.{needed_none, lies, within, in_range}
-use Rattle.hyd_theorems_on_input.proofs.Occurs.{kept_once, has_number, itself}
-use Rattle.hyd_theorems_on_input.proofs.InForce.{in_force}
+use Rattle.hyd_theorems_on_input.proofs.RowsWithoutFault.{AreRight, right_alone, right_among, all_none, unless_none}
+use Rattle.hyd_theorems_on_input.proofs.RowsWithoutFault.{needed_none, lies, within, in_range}
+use Rattle.hyd_theorems_on_input.proofs.OccurrencesOfNames.{kept_once, has_number, itself}
+use Rattle.hyd_theorems_on_input.proofs.OptionsAndTimesInForce.{in_force}
 use Rattle.hyd_theorems_on_input.proofs.PatternsAndCurvesByNumber.{may_have_pattern, numbers_from, found_by}
 use Rattle.hyd_theorems_on_input.proofs.CurvePoints.{volume_curve_right}
 

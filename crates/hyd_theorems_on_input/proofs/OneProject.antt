@@ -7,7 +7,7 @@ use Rattle.std.specs.Option.{option_map}
 use Rattle.std.proofs.lemmas.Bool.{and_parts, not-true}
 use Rattle.std.proofs.lemmas.Int.{ints}
 use Rattle.hyd_num.specs.declared.decimals.Decimal.{Decimal}
-use Rattle.hyd_num.specs.declared.decimals.Span.{Span}
+use Rattle.hyd_num.specs.declared.spans.Span.{Span}
 use Rattle.hyd_num.specs.declared.flow_units.FlowUnit.{FlowUnit}
 use Rattle.hyd_num.specs.declared.link_capacities.Capacity.{Capacity}
 use Rattle.hyd_num.specs.declared.link_capacities.Origin.TheVariants.{Pipe as PipeOrigin, Valve as ValveOrigin}
@@ -20,7 +20,7 @@ use Rattle.hyd_spec_lines.specs.WordsOfLines.{is_keyword}
 use Rattle.hyd_spec_lines.specs.Lines.{Row}
 use Rattle.hyd_spec_lines.specs.declared.section.Section.TheVariants.{Junctions, Reservoirs, Tanks, Pipes, Pumps}
 use Rattle.hyd_spec_lines.specs.declared.section.Section.TheVariants.{Controls, Rules}
-use Rattle.hyd_net.proofs.Equal.{Decimal-equal, Span-equal}
+use Rattle.hyd_net.proofs.EqualValues.{Decimal-equal, Span-equal}
 use Rattle.hyd_net.specs.RoundedFileNumbers.{IsRounded, IsExactly, IsSeconds, IsAmount, IsAreaMade, IsShutoffMade}
 use Rattle.hyd_net.specs.ProjectAsCompared.{bare_list, compared_capacity, compared_link, compared_junction}
 use Rattle.hyd_net.specs.ProjectAsCompared.{compared_tank, compared_pattern, compared_control, compared_rule_clause}
@@ -52,13 +52,13 @@ use Rattle.hyd_net.specs.declared.rules.Action.{Action}
 use Rattle.hyd_net.specs.declared.rules.Rule.{Rule}
 use Rattle.hyd_net.specs.declared.project.Project.{Project}
 use Rattle.hyd_spec_input.specs.Columns.{word, amount, word_is}
-use Rattle.hyd_spec_input.specs.NetworkRows.{is_throttle, is_general, is_closed_pipe, pump_speed, valve_minor}
-use Rattle.hyd_spec_input.specs.Tables.{Point, is_of, rows_of, words_of, link_named}
-use Rattle.hyd_spec_input.specs.InForce.{unit}
+use Rattle.hyd_spec_input.specs.NodeAndLinkRows.{is_throttle, is_general, is_closed_pipe, pump_speed, valve_minor}
+use Rattle.hyd_spec_input.specs.SectionsAndTables.{Point, is_of, rows_of, words_of, link_named}
+use Rattle.hyd_spec_input.specs.OptionsAndTimesInForce.{unit}
 use Rattle.hyd_spec_input.specs.Curves.{Drop, drop_of}
 use Rattle.hyd_spec_input.specs.MeaningsAcrossRows.{emitter_of, status_row_of, pattern_ids, shape_names, bend_names}
 use Rattle.hyd_spec_input.specs.MeaningsAcrossRows.{rule_groups, clause_lines, then_lines, else_lines}
-use Rattle.hyd_spec_input.specs.RowsTogether.{us}
+use Rattle.hyd_spec_input.specs.FaultsWithOtherRows.{us}
 use Rattle.hyd_spec_input.specs.Project as project_of
 use Rattle.hyd_spec_input.specs.Project.{Where, IsOptions, IsTimes, IsEmitter, IsEmitterOf, IsPipeOf, IsPipeKind}
 use Rattle.hyd_spec_input.specs.Project.{IsPumpOf, IsShutoffOf, pump_points, IsPumpKind, IsValveOf, IsOpenValve}

@@ -23,19 +23,24 @@ use Rattle.hyd_spec_input.specs.Keywords.{option_word, option_words, more_option
 use Rattle.hyd_spec_input.specs.Keywords.{more_unused_words, last_unused_words}
 use Rattle.hyd_spec_input.specs.declared.OptionWord.{OptionWord}
 use Rattle.hyd_spec_input.specs.declared.OptionWord.TheVariants as at
-use Rattle.hyd_spec_input.specs.OptionRows.{demand_words, demand_value, demand_line, bound_line, option_about, option}
-use Rattle.hyd_spec_input.specs.InForce.{begins, begins_both, option_row, option_row_of, depends_on_pressure}
-use Rattle.hyd_spec_input.specs.InForce.{demand_multiplier, minimum_pressure, required_pressure, default_pattern}
-use Rattle.hyd_spec_input.specs.InForce.{pressure_line}
-use Rattle.hyd_spec_input.specs.RowsTogether.{us, pressure, pressures_apart}
-use Rattle.hyd_spec_input.specs.Tables.{pattern_named}
+use Rattle.hyd_spec_input.specs.OptionAndTimeRows.{demand_words, demand_value, demand_line, bound_line, option_about}
+use Rattle.hyd_spec_input.specs.OptionAndTimeRows.{option}
+use Rattle.hyd_spec_input.specs.OptionsAndTimesInForce.{begins, begins_both, option_row, option_row_of}
+use Rattle.hyd_spec_input.specs.OptionsAndTimesInForce.{depends_on_pressure}
+use Rattle.hyd_spec_input.specs.OptionsAndTimesInForce.{demand_multiplier, minimum_pressure, required_pressure}
+use Rattle.hyd_spec_input.specs.OptionsAndTimesInForce.{default_pattern}
+use Rattle.hyd_spec_input.specs.OptionsAndTimesInForce.{pressure_line}
+use Rattle.hyd_spec_input.specs.FaultsWithOtherRows.{us, pressure, pressures_apart}
+use Rattle.hyd_spec_input.specs.SectionsAndTables.{pattern_named}
 use Rattle.hyd_spec_input.specs.Project.{IsOptions, IsProject}
 use Rattle.hyd_lemmas.proofs.BooleanTests.{le_z-yes}
 use Rattle.hyd_theorems_on_input.proofs.ListsByPlace.{all_from}
-use Rattle.hyd_theorems_on_input.proofs.Faultless.{AreRight, right_alone, right_among, or_none, all_none, unless_none}
-use Rattle.hyd_theorems_on_input.proofs.Faultless.{needed_none, within, in_range}
-use Rattle.hyd_theorems_on_input.proofs.InForce.{IsInForce, in_force, say_is, word_is_keyword, first_named_same}
-use Rattle.hyd_theorems_on_input.proofs.InForce.{is_one_of_same}
+use Rattle.hyd_theorems_on_input.proofs.RowsWithoutFault.{AreRight, right_alone, right_among, or_none, all_none}
+use Rattle.hyd_theorems_on_input.proofs.RowsWithoutFault.{unless_none}
+use Rattle.hyd_theorems_on_input.proofs.RowsWithoutFault.{needed_none, within, in_range}
+use Rattle.hyd_theorems_on_input.proofs.OptionsAndTimesInForce.{IsInForce, in_force, say_is, word_is_keyword}
+use Rattle.hyd_theorems_on_input.proofs.OptionsAndTimesInForce.{first_named_same}
+use Rattle.hyd_theorems_on_input.proofs.OptionsAndTimesInForce.{is_one_of_same}
 use Rattle.hyd_theorems_on_input.proofs.PatternsAndCurvesByNumber.{has_pattern}
 
 -- ---- lines

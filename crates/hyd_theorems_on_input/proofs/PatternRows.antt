@@ -17,17 +17,17 @@ use Rattle.hyd_net.specs.declared.patterns.Pattern.{Pattern}
 use Rattle.hyd_net.specs.declared.project.Project.{Project}
 use Rattle.hyd_spec_input.specs.Columns as column
 use Rattle.hyd_spec_input.specs.Columns.{Column, first, needed, id, any, units, word}
-use Rattle.hyd_spec_input.specs.DemandCurveAndStatusRows.{each, multipliers}
-use Rattle.hyd_spec_input.specs.Tables.{rows_of, rows_with, own_id, row_multipliers, pattern_named}
+use Rattle.hyd_spec_input.specs.DemandEmitterCurvePatternAndStatusRows.{each, multipliers}
+use Rattle.hyd_spec_input.specs.SectionsAndTables.{rows_of, rows_with, own_id, row_multipliers, pattern_named}
 use Rattle.hyd_spec_input.specs.MeaningsAcrossRows.{is_among, pattern_ids}
 use Rattle.hyd_spec_input.specs.Project as project
 use Rattle.hyd_spec_input.specs.Project.{IsProject}
 use Rattle.hyd_theorems_on_input.proofs.ListsByPlace.{match_all}
-use Rattle.hyd_theorems_on_input.proofs.Faultless.{AreRight, right_alone, or_none, all_none, needed_none, within}
-use Rattle.hyd_theorems_on_input.proofs.Occurs.{new_among}
+use Rattle.hyd_theorems_on_input.proofs.RowsWithoutFault.{AreRight, right_alone, or_none, all_none, needed_none, within}
+use Rattle.hyd_theorems_on_input.proofs.OccurrencesOfNames.{new_among}
 use Rattle.hyd_theorems_on_input.proofs.Names.{own_ids}
 use Rattle.hyd_theorems_on_input.proofs.NodeRanges.{each_row}
-use Rattle.hyd_theorems_on_input.proofs.Tallies.{all_flat}
+use Rattle.hyd_theorems_on_input.proofs.CountsWithinLimits.{all_flat}
 
 -- ---- one row
 

@@ -9,12 +9,12 @@ use Rattle.hyd_net.specs.ListView.{ListView}
 use Rattle.hyd_net.specs.declared.curves.HeadPoint.{HeadPoint}
 use Rattle.hyd_net.specs.declared.patterns.Pattern.{Pattern}
 use Rattle.hyd_net.specs.declared.project.Project.{Project}
-use Rattle.hyd_spec_input.specs.Tables.{pattern_named}
+use Rattle.hyd_spec_input.specs.SectionsAndTables.{pattern_named}
 use Rattle.hyd_spec_input.specs.MeaningsAcrossRows.{number_in, pattern_ids, pattern_number, bend_names}
-use Rattle.hyd_spec_input.specs.RowsTogether.{multipliers_of}
+use Rattle.hyd_spec_input.specs.FaultsWithOtherRows.{multipliers_of}
 use Rattle.hyd_spec_input.specs.Project.{Match, IsPattern, IsProject, bend_points}
 use Rattle.hyd_theorems_on_input.proofs.ListsByPlace.{partner, match_length, item_at}
-use Rattle.hyd_theorems_on_input.proofs.Occurs.{number_inside, number_names}
+use Rattle.hyd_theorems_on_input.proofs.OccurrencesOfNames.{number_inside, number_names}
 
 -- the item at a place of a table
 pub numbers_from : {X : Type 0} (P : X → Type 0) (table : List X) (n : ℕ) (x : X) → slice_get table n ≡ Some x → P x

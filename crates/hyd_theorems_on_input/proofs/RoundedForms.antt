@@ -17,15 +17,15 @@ use Rattle.hyd_net.specs.declared.links.LinkKind.TheVariants.{Pipe, CheckPipe, P
 use Rattle.hyd_net.specs.declared.links.LinkState.{LinkState}
 use Rattle.hyd_net.specs.declared.project.Project.{Project}
 use Rattle.hyd_spec_input.specs.Columns.{amount}
-use Rattle.hyd_spec_input.specs.NetworkRows.{valve_minor}
-use Rattle.hyd_spec_input.specs.Tables.{rows_of, is_of}
-use Rattle.hyd_spec_input.specs.InForce.{unit}
+use Rattle.hyd_spec_input.specs.NodeAndLinkRows.{valve_minor}
+use Rattle.hyd_spec_input.specs.SectionsAndTables.{rows_of, is_of}
+use Rattle.hyd_spec_input.specs.OptionsAndTimesInForce.{unit}
 use Rattle.hyd_spec_input.specs.MeaningsAcrossRows.{emitter_of, status_row_of}
-use Rattle.hyd_spec_input.specs.RowsTogether.{us}
+use Rattle.hyd_spec_input.specs.FaultsWithOtherRows.{us}
 use Rattle.hyd_spec_input.specs.Project as project
 use Rattle.hyd_spec_input.specs.Project.{Where, IsProject, IsLink, IsKind, IsValveKind, numbered_links}
 use Rattle.hyd_theorems_on_input.proofs.ListsByPlace.{match_all, item_at, partner}
-use Rattle.hyd_theorems_on_input.proofs.Faultless.{AreRight}
+use Rattle.hyd_theorems_on_input.proofs.RowsWithoutFault.{AreRight}
 use Rattle.hyd_theorems_on_input.proofs.Names.{link_stands}
 use Rattle.hyd_theorems_on_input.proofs.LinkKinds.{kinds_made}
 use Rattle.hyd_theorems_on_input.proofs.LinkStates.{state_right, start_by, states_made, law_across, Command}

@@ -3,23 +3,23 @@ use Rattle.std.proofs.Common.{ℕ, List}
 use Rattle.std.specs.Prelude.{All}
 use Rattle.hyd_spec_lines.specs.Lines.{items_of, rows_in}
 use Rattle.hyd_net.specs.NetworkRanges.{HasOptions, IsJunction, IsReservoir, IsTank, HasSizes}
-use Rattle.hyd_net.specs.States.{CanHave}
+use Rattle.hyd_net.specs.LinkStates.{CanHave}
 use Rattle.hyd_net.specs.Sound.{HasIds, IsWithinLimits, AreTimes, HasEnds, IsPattern, IsSound}
 use Rattle.hyd_net.specs.RoundedFileNumbers.{IsAllMade}
 use Rattle.hyd_net.specs.ControlsAndRules.{node_count, IsControl, IsRule}
 use Rattle.hyd_net.specs.declared.project.Project.{Project}
 use Rattle.hyd_spec_input.specs.Faults.{HasNoFault}
 use Rattle.hyd_spec_input.specs.Project.{IsProject}
-use Rattle.hyd_theorems_on_input.proofs.Faultless.{right_rows}
+use Rattle.hyd_theorems_on_input.proofs.RowsWithoutFault.{right_rows}
 use Rattle.hyd_theorems_on_input.proofs.Names.{has_ids}
-use Rattle.hyd_theorems_on_input.proofs.Moments.{are_times}
+use Rattle.hyd_theorems_on_input.proofs.TimesAndClockTimes.{are_times}
 use Rattle.hyd_theorems_on_input.proofs.OptionRanges.{has_options}
 use Rattle.hyd_theorems_on_input.proofs.NodeRanges as nodes
 use Rattle.hyd_theorems_on_input.proofs.LinkKinds as links
 use Rattle.hyd_theorems_on_input.proofs.LinkStates as states
 use Rattle.hyd_theorems_on_input.proofs.ControlLines as controls
 use Rattle.hyd_theorems_on_input.proofs.RuleParts as rules
-use Rattle.hyd_theorems_on_input.proofs.Tallies.{within_limits}
+use Rattle.hyd_theorems_on_input.proofs.CountsWithinLimits.{within_limits}
 use Rattle.hyd_theorems_on_input.proofs.PatternRows as patterns
 use Rattle.hyd_theorems_on_input.proofs.RoundedForms.{all_made}
 

@@ -18,12 +18,12 @@ use Rattle.hyd_spec_input.specs.RuleRows as alone
 use Rattle.hyd_spec_input.specs.RuleRows.{stage_by, begins_with, stage_after, is_acting, words_of_rule_line}
 use Rattle.hyd_spec_input.specs.RuleRows.{words_about}
 use Rattle.hyd_spec_input.specs.RuleRows.{in_order, is_rule, until_rule, gets_then}
-use Rattle.hyd_spec_input.specs.Tables.{is_of, rows_of, words_of, words_of_row}
+use Rattle.hyd_spec_input.specs.SectionsAndTables.{is_of, rows_of, words_of, words_of_row}
 use Rattle.hyd_spec_input.specs.MeaningsAcrossRows.{rule_groups, lines_at, is_asking, is_doing, is_otherwise}
-use Rattle.hyd_spec_input.specs.RowsTogether as others
-use Rattle.hyd_spec_input.specs.RowsTogether.{passes, is_part_word, is_action_word}
+use Rattle.hyd_spec_input.specs.FaultsWithOtherRows as others
+use Rattle.hyd_spec_input.specs.FaultsWithOtherRows.{passes, is_part_word, is_action_word}
 use Rattle.hyd_theorems_on_input.proofs.ListsByPlace.{source}
-use Rattle.hyd_theorems_on_input.proofs.Faultless.{AreRight, right_alone, right_among, all_none}
+use Rattle.hyd_theorems_on_input.proofs.RowsWithoutFault.{AreRight, right_alone, right_among, all_none}
 
 -- ---- one line
 

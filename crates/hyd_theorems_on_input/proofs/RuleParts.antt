@@ -46,28 +46,29 @@ use Rattle.hyd_spec_input.specs.declared.Attribute.TheVariants as attribute
 use Rattle.hyd_spec_input.specs.declared.RuleWord.{RuleWord}
 use Rattle.hyd_spec_input.specs.declared.RuleWord.TheVariants as rule
 use Rattle.hyd_spec_input.specs.declared.Stage.TheVariants.{Outside}
-use Rattle.hyd_spec_input.specs.Moments.{time_seconds, clock_seconds}
+use Rattle.hyd_spec_input.specs.TimesAndClockTimes.{time_seconds, clock_seconds}
 use Rattle.hyd_spec_input.specs.RuleRows as alone
 use Rattle.hyd_spec_input.specs.RuleRows.{begins_with, is_acting, words_about, can_have}
 use Rattle.hyd_spec_input.specs.RuleRows.{attribute_of, is_equality, relates, relation_of, comparison, clause_about}
 use Rattle.hyd_spec_input.specs.RuleRows.{attribute_place}
-use Rattle.hyd_spec_input.specs.Tables.{is_of, is_node, is_link, rows_of, words_of, own_id, node_rows, link_rows}
-use Rattle.hyd_spec_input.specs.Tables.{row_with, node_named, link_named, allows_node, allows_link}
-use Rattle.hyd_spec_input.specs.InForce.{unit}
+use Rattle.hyd_spec_input.specs.SectionsAndTables.{is_of, is_node, is_link, rows_of, words_of, own_id, node_rows}
+use Rattle.hyd_spec_input.specs.SectionsAndTables.{link_rows}
+use Rattle.hyd_spec_input.specs.SectionsAndTables.{row_with, node_named, link_named, allows_node, allows_link}
+use Rattle.hyd_spec_input.specs.OptionsAndTimesInForce.{unit}
 use Rattle.hyd_spec_input.specs.MeaningsAcrossRows.{node_ids, link_ids, number_in, rule_groups, clause_lines}
 use Rattle.hyd_spec_input.specs.MeaningsAcrossRows.{then_lines}
 use Rattle.hyd_spec_input.specs.MeaningsAcrossRows.{else_lines, rule_id, is_priority, first_amount, priority_of}
 use Rattle.hyd_spec_input.specs.MeaningsAcrossRows.{is_asking}
 use Rattle.hyd_spec_input.specs.MeaningsAcrossRows.{is_doing, is_otherwise}
-use Rattle.hyd_spec_input.specs.RowsTogether.{known_as, link_by_word, can_show, object_known, set_link}
+use Rattle.hyd_spec_input.specs.FaultsWithOtherRows.{known_as, link_by_word, can_show, object_known, set_link}
 use Rattle.hyd_spec_input.specs.Project as project
 use Rattle.hyd_spec_input.specs.Project.{IsProject, IsLink, IsPumpKind, IsValveKind, IsWhat, compared}
 use Rattle.hyd_spec_input.specs.Project.{status_value, IsValue, place_of, IsClauseAt, numbered_links}
 use Rattle.hyd_theorems_on_input.proofs.ListsByPlace.{all_at, match_all, match_length, of_either, item_at, partner}
 use Rattle.hyd_theorems_on_input.proofs.ListsByPlace.{kept_passes}
-use Rattle.hyd_theorems_on_input.proofs.Faultless.{AreRight, or_none, all_none, unless_none, needed_none}
-use Rattle.hyd_theorems_on_input.proofs.Occurs.{number_inside, number_names}
-use Rattle.hyd_theorems_on_input.proofs.Moments.{time_right, clock_right}
+use Rattle.hyd_theorems_on_input.proofs.RowsWithoutFault.{AreRight, or_none, all_none, unless_none, needed_none}
+use Rattle.hyd_theorems_on_input.proofs.OccurrencesOfNames.{number_inside, number_names}
+use Rattle.hyd_theorems_on_input.proofs.TimesAndClockTimes.{time_right, clock_right}
 use Rattle.hyd_theorems_on_input.proofs.Names.{own_ids, numbered_nodes, node_stands, link_stands, node_new, link_new}
 use Rattle.hyd_theorems_on_input.proofs.Names.{row_named, node_ids_are, link_ids_are, node_length, link_length}
 use Rattle.hyd_theorems_on_input.proofs.PatternsAndCurvesByNumber.{numbers_from}

@@ -9,7 +9,7 @@ ghost use Rattle.hyd_net.specs.declared.refusal_cause.Cause.{Cause};
 ghost use Rattle.hyd_net.specs.declared.project.Project.{Project};
 ghost use Rattle.hyd_net.specs.ControlsAndRules.{node_count, IsControl, IsRule};
 ghost use Rattle.hyd_net.specs.NetworkRanges.{HasOptions, HasSizes, IsJunction, IsReservoir, IsTank};
-ghost use Rattle.hyd_net.specs.States.{CanHave};
+ghost use Rattle.hyd_net.specs.LinkStates.{CanHave};
 ghost use Rattle.hyd_net.specs.ProjectAsCompared.{compared_project};
 ghost use Rattle.hyd_net.specs.Sound.{HasIds, IsWithinLimits, HasEnds, AreTimes, IsPattern, IsSound};
 ghost use Rattle.hyd_net.specs.RoundedFileNumbers.{IsAllMade};

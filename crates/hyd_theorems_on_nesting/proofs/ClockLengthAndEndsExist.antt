@@ -15,7 +15,7 @@ use Rattle.hyd_spec_certificates.specs.PeriodNetwork.{Grid}
 use Rattle.hyd_spec_certificates.specs.RecordAndStanding.{Record, Standing}
 use Rattle.hyd_spec_certificates.specs.Decided.{Watch, watches, stocks_of_tank, inflow_of_tank, SomeReaches}
 use Rattle.hyd_spec_certificates.specs.Decided.{IsClockLength, IsEarliestEnd, IsLatestEnd}
-use Rattle.hyd_theorems_on_nesting.specs.Nesting.{ReachTest, watch_passes}
+use Rattle.hyd_theorems_on_nesting.specs.FirstAmongWatched.{ReachTest, watch_passes}
 use Rattle.hyd_lemmas.proofs.BooleanTests.{both-first, both-second, or-left, or-right, and-true, any_of, nat-lt-from}
 use Rattle.hyd_lemmas.proofs.BooleanTests.{nat-le-from}
 use Rattle.hyd_theorems_on_histories.proofs.WatchedLevels.{contains-here, contains-later}

@@ -11,8 +11,8 @@ use Rattle.hyd_num.specs.Fraction.{AtMost, whole}
 use Rattle.hyd_net.specs.Sound.{IsSound}
 use Rattle.hyd_lemmas.proofs.PressurePairs.{IsInReach, pressure_capacity_of}
 use Rattle.hyd_spec.specs.ProgramTypes.{Project, Junction}
-use Rattle.hyd_spec.specs.DemandsReservoirHeadsAndCurves.{is_us, demand_of, reservoir_head, minimum_pressure}
-use Rattle.hyd_spec.specs.DemandsReservoirHeadsAndCurves.{required_pressure}
+use Rattle.hyd_spec.specs.DemandsHeadsAndPumpLifts.{is_us, demand_of, reservoir_head, minimum_pressure}
+use Rattle.hyd_spec.specs.DemandsHeadsAndPumpLifts.{required_pressure}
 use Rattle.hyd_spec_certificates.specs.EnclosingFunctions.{DemandLaw, Fixed, Driven}
 use Rattle.hyd_spec_certificates.specs.PeriodNetwork.{Grid, GridJunction, IsJunctionOf, IsDemandLaw, IsDriven}
 use Rattle.hyd_spec_certificates.specs.PeriodNetwork.{grid_links, tank_intervals}

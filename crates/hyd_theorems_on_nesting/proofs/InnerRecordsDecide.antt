@@ -29,7 +29,8 @@ use Rattle.hyd_spec_certificates.specs.Decided.{EndsBy, ByRules, WithoutRules, b
 use Rattle.hyd_spec_certificates.specs.Decided.{by_clock as decided_by_clock}
 use Rattle.hyd_spec_certificates.specs.Valid.{LeavesLinks, by_rules as left_by_rules, by_clock as left_by_clock}
 use Rattle.hyd_spec_certificates.specs.Valid.{stocks_next}
-use Rattle.hyd_theorems_on_definitions.specs.TermsOfTheorems.{LiesIn, IsInside, AreInside, HasStock, Tells}
+use Rattle.hyd_theorems_on_definitions.specs.LyingInIntervals.{LiesIn, IsInside, AreInside, HasStock}
+use Rattle.hyd_theorems_on_definitions.specs.VerdictsOfTests.{Tells}
 use Rattle.hyd_num.proofs.Integers.{one_times}
 use Rattle.hyd_lemmas.proofs.Integers.{max_is}
 use Rattle.hyd_lemmas.proofs.BooleanTests.{or-false, le-no}

@@ -14,7 +14,7 @@ use Rattle.hyd_spec_certificates.specs.declared.Problem.TheVariants.{Main, Pinne
 use Rattle.hyd_spec.specs.Lists.{map_from}
 use Rattle.hyd_spec_certificates.specs.Interval.{Interval, shifted}
 use Rattle.hyd_spec.specs.NodeNumbers.{tank_node, tank_count, junction_count, reservoir_count}
-use Rattle.hyd_spec.specs.DemandsReservoirHeadsAndCurves.{reservoir_head}
+use Rattle.hyd_spec.specs.DemandsHeadsAndPumpLifts.{reservoir_head}
 use Rattle.hyd_spec.specs.Assignment.{head_at}
 use Rattle.hyd_spec_certificates.specs.PeriodNetwork.{Grid, GridLink, IsJunctionOf, all_heads, fixed_heads, end_on}
 use Rattle.hyd_spec_certificates.specs.PeriodNetwork.{opposite, tank_side, tank_intervals}
@@ -23,12 +23,13 @@ use Rattle.hyd_spec_certificates.specs.Certificate.{IsCertificate}
 use Rattle.hyd_spec_certificates.specs.RecordAndStanding.{Record, Standing, Vectors, no_vectors, vector_of}
 use Rattle.hyd_spec_certificates.specs.Decided.{level_of_tank, inflow_of_tank, heads_below, heads_above, nowhere}
 use Rattle.hyd_spec_certificates.specs.Valid.{IsProblem}
-use Rattle.hyd_theorems_on_definitions.specs.TermsOfTheorems.{IsSoundLaw, IsInside}
+use Rattle.hyd_theorems_on_definitions.specs.LyingInIntervals.{IsInside}
+use Rattle.hyd_theorems_on_definitions.specs.SoundLawsAndGrids.{IsSoundLaw}
 use Rattle.hyd_num.proofs.Integers.{one_times}
 use Rattle.hyd_lemmas.proofs.ListsOptionsAndResults.{same_item, item_there}
 use Rattle.hyd_theorems_on_definitions.proofs.EachLaw.{IsLaw-each}
 use Rattle.hyd_theorems_on_definitions.proofs.HeadsOfAllNodes.{excess}
-use Rattle.hyd_theorems_on_definitions.proofs.Comparison.{place_long}
+use Rattle.hyd_theorems_on_definitions.proofs.ComparisonPrinciple.{place_long}
 use Rattle.hyd_theorems_on_nesting.specs.Nesting.{IsOrdered, AreNested}
 use Rattle.hyd_theorems_on_histories.proofs.ListsByPlace.{numbered_from_start}
 use Rattle.hyd_theorems_on_nesting.proofs.TwoSides.{heads_below_plus}

@@ -7,7 +7,7 @@ use Rattle.hyd_spec.specs.ProgramTypes.{Project, Junction}
 use Rattle.hyd_spec_certificates.specs.declared.Problem.{Problem}
 use Rattle.hyd_spec_certificates.specs.declared.Side.{Side}
 use Rattle.hyd_spec_certificates.specs.Interval.{Interval}
-use Rattle.hyd_spec.specs.DemandsReservoirHeadsAndCurves.{demand_of}
+use Rattle.hyd_spec.specs.DemandsHeadsAndPumpLifts.{demand_of}
 use Rattle.hyd_spec_certificates.specs.PeriodNetwork.{Grid}
 use Rattle.hyd_spec_certificates.specs.RecordAndStanding.{Record, Standing, vector_of}
 use Rattle.hyd_spec_certificates.specs.Decided.{OpenRule, RuleIsOpen, EventIsOpen, EndsBy}
@@ -25,7 +25,9 @@ use Rattle.hyd_spec_certificates.specs.Certificate.{IsCertificate}
 use Rattle.hyd_theorems_on_definitions.proofs.OneRun.{one_grid}
 use Rattle.hyd_theorems_on_definitions.proofs.OneRefusal.{states-decided, controls-decided}
 use Rattle.hyd_theorems_on_histories.specs.Agreement.{IsKept}
-use Rattle.hyd_theorems_on_nesting.specs.Nesting.{AreNested, IsTidy, IsTightened, IsReason}
+use Rattle.hyd_theorems_on_nesting.specs.Nesting.{AreNested, IsTightened}
+use Rattle.hyd_theorems_on_nesting.specs.GoingOnOrStopped.{IsReason}
+use Rattle.hyd_theorems_on_nesting.specs.StandingsOfRuns.{IsTidy}
 use Rattle.hyd_theorems_on_nesting.proofs.ClockLengthAndEndsExist.{earliest_is}
 use Rattle.hyd_theorems_on_nesting.proofs.InnerRecordsDecide.{leaves_so}
 use Rattle.hyd_theorems_on_nesting.proofs.TightVectorsDecide.{tight_continues, tight-nested}

@@ -11,7 +11,7 @@ use Rattle.hyd_spec.specs.ProgramTypes.{Project, Junction, Tank, LinkState, Cont
 use Rattle.hyd_spec.specs.declared.TankState.{TankState}
 use Rattle.hyd_spec.specs.Lists.{map_from}
 use Rattle.hyd_spec.specs.NodeNumbers.{tank_count, junction_count}
-use Rattle.hyd_spec.specs.DemandsReservoirHeadsAndCurves.{demand_of}
+use Rattle.hyd_spec.specs.DemandsHeadsAndPumpLifts.{demand_of}
 use Rattle.hyd_spec.specs.Rules.{acted}
 use Rattle.hyd_spec_certificates.specs.declared.Problem.{Problem}
 use Rattle.hyd_spec_certificates.specs.declared.Problem.TheVariants.{Main, Pinned}
@@ -31,19 +31,20 @@ use Rattle.hyd_spec_certificates.specs.Valid.{AreStates, ControlsAreDecided, con
 use Rattle.hyd_spec_reports.specs.declared.StopCause.{StopCause}
 use Rattle.hyd_spec_reports.specs.declared.StopCause.TheVariants.{Demand as DemandOutOfRange, NoCertificate, RuleOpen}
 use Rattle.hyd_spec_reports.specs.declared.StopCause.TheVariants.{EventOpen, TankOpen, ControlOpen}
-use Rattle.hyd_spec_reports.specs.Stops.{EarlierHaveCertificates, beginning, IsTightRow, open_states, is_open_control}
+use Rattle.hyd_spec_reports.specs.Stops.{IsTightRow, open_states, is_open_control}
+use Rattle.hyd_spec_reports.specs.TurnsOfProblems.{EarlierHaveCertificates, beginning}
 use Rattle.hyd_spec_reports.specs.Stops.{Stops}
-use Rattle.hyd_theorems_on_definitions.specs.TermsOfTheorems.{IsSteady}
+use Rattle.hyd_theorems_on_definitions.specs.SoundLawsAndGrids.{IsSteady}
 use Rattle.hyd_lemmas.proofs.BooleanTests.{nat-lt-no}
 use Rattle.hyd_lemmas.proofs.ListsOptionsAndResults.{as_long}
-use Rattle.hyd_theorems_on_definitions.proofs.Comparison.{place_long}
+use Rattle.hyd_theorems_on_definitions.proofs.ComparisonPrinciple.{place_long}
 use Rattle.hyd_theorems_on_definitions.proofs.OneLength.{ends_again}
 use Rattle.hyd_theorems_on_definitions.proofs.OneStandingAndTightVector.{there}
-use Rattle.hyd_theorems_on_raises.proofs.Beginnings.{start-end}
+use Rattle.hyd_theorems_on_raises.proofs.SearchStarts.{start-end}
 use Rattle.hyd_theorems_on_raises.proofs.RaisesAndTightVector.{tight-or-none}
 use Rattle.hyd_theorems_on_histories.specs.Agreement.{IsKept}
 use Rattle.hyd_theorems_on_histories.proofs.WatchedLevels.{contains-here, contains-later}
-use Rattle.hyd_theorems_on_nesting.specs.Nesting.{IsReason, LeadsSomewhere, IsStopped}
+use Rattle.hyd_theorems_on_nesting.specs.GoingOnOrStopped.{IsReason, LeadsSomewhere, IsStopped}
 use Rattle.hyd_theorems_on_nesting.proofs.FirstPassingItem.{IsFound, HasNone, find_or_none, all_contained}
 use Rattle.hyd_theorems_on_nesting.proofs.TightVectorsDecide.{steady_at}
 use Rattle.hyd_theorems_on_nesting.proofs.GridsExist.{grid_is}

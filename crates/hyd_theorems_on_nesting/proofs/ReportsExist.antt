@@ -12,7 +12,7 @@ use Rattle.hyd_num.proofs.Floors.{floor_is, ceiling_is}
 use Rattle.hyd_net.specs.Sound.{IsSound}
 use Rattle.hyd_spec.specs.ProgramTypes.{Project, Tank, Link, LinkState}
 use Rattle.hyd_spec.specs.declared.TankState.{TankState}
-use Rattle.hyd_spec.specs.DemandsReservoirHeadsAndCurves.{is_us}
+use Rattle.hyd_spec.specs.DemandsHeadsAndPumpLifts.{is_us}
 use Rattle.hyd_spec.specs.Assignment.{head_at}
 use Rattle.hyd_spec_certificates.specs.Interval.{Interval, exactly, shifted}
 use Rattle.hyd_spec_certificates.specs.PeriodNetwork.{Grid, GridLink, GridJunction, grid_links}
@@ -32,7 +32,7 @@ use Rattle.hyd_lemmas.proofs.DenominatorsAboveZero.{flow_above, head_above, pres
 use Rattle.hyd_theorems_on_definitions.proofs.OneStandingAndTightVector.{there}
 use Rattle.hyd_theorems_on_histories.specs.Agreement.{IsOwnState, IsKept}
 use Rattle.hyd_theorems_on_histories.proofs.CommandedLinkStates.{started_own}
-use Rattle.hyd_theorems_on_nesting.specs.Nesting.{IsTidy}
+use Rattle.hyd_theorems_on_nesting.specs.StandingsOfRuns.{IsTidy}
 
 -- ---- printed intervals
 

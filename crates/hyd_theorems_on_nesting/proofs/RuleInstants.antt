@@ -8,7 +8,7 @@ use Rattle.hyd_spec_certificates.specs.PeriodNetwork.{Grid}
 use Rattle.hyd_spec.specs.PeriodLength.{IsLeast}
 use Rattle.hyd_spec_certificates.specs.RecordAndStanding.{Record, Standing}
 use Rattle.hyd_spec_certificates.specs.Decided.{RulesMatter}
-use Rattle.hyd_theorems_on_nesting.specs.Nesting.{IsWalked}
+use Rattle.hyd_theorems_on_nesting.specs.FirstAmongWatched.{IsWalked}
 
 -- a multiple is its quotient times the step
 whole-part : (n r : ℕ) → n % r ≡ 0 → n ≡ (n / r) * r

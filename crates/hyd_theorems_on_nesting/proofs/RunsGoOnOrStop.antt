@@ -8,7 +8,8 @@ use Rattle.hyd_spec_reports.specs.PromisesOfRunsAndChecks.{Found, IsFound, IsRun
 use Rattle.hyd_theorems_on_definitions.proofs.OnePeriodMore.{run_more}
 use Rattle.hyd_theorems_on_histories.specs.Agreement.{IsKept}
 use Rattle.hyd_theorems_on_histories.proofs.AgreementAfterPeriod.{kept_at_start, kept_next}
-use Rattle.hyd_theorems_on_nesting.specs.Nesting.{IsTidy, LeadsSomewhere, IsStopped, IsLonger}
+use Rattle.hyd_theorems_on_nesting.specs.GoingOnOrStopped.{LeadsSomewhere, IsStopped, IsLonger}
+use Rattle.hyd_theorems_on_nesting.specs.StandingsOfRuns.{IsTidy}
 use Rattle.hyd_theorems_on_nesting.proofs.TightVectorsDecide.{tidy_at_start, tidy_next}
 use Rattle.hyd_theorems_on_nesting.proofs.ReportsExist.{report_is}
 use Rattle.hyd_theorems_on_nesting.proofs.RecordOrStop.{goes_on}

@@ -9,7 +9,7 @@ use Rattle.hyd_net.specs.Sound.{IsSound}
 use Rattle.hyd_spec.specs.ProgramTypes.{Project, Tank, Junction, LinkState}
 use Rattle.hyd_spec.specs.declared.TankState.{TankState}
 use Rattle.hyd_spec.specs.Lists.{map_from}
-use Rattle.hyd_spec.specs.DemandsReservoirHeadsAndCurves.{is_us, demand_of, pressure_value}
+use Rattle.hyd_spec.specs.DemandsHeadsAndPumpLifts.{is_us, demand_of, pressure_value}
 use Rattle.hyd_spec.specs.PeriodLength.{duration}
 use Rattle.hyd_spec.specs.Tank.{walls_of, kept_volume, tank_state}
 use Rattle.hyd_spec_certificates.specs.declared.Side.TheVariants.{Upper, Lower}
@@ -24,18 +24,20 @@ use Rattle.hyd_spec_certificates.specs.Decided.{by_rules as decided_by_rules, by
 use Rattle.hyd_spec_certificates.specs.Valid.{IsGridAt, IsValid, Continues, continues, LeavesLinks}
 use Rattle.hyd_spec_certificates.specs.Valid.{by_rules as left_by_rules, by_clock as left_by_clock, AreStates}
 use Rattle.hyd_spec_certificates.specs.Valid.{ControlsAreDecided, stocks_next, levels_next, volumes_next}
-use Rattle.hyd_theorems_on_definitions.specs.TermsOfTheorems.{IsInside, IsSoundDemand, IsSteady}
+use Rattle.hyd_theorems_on_definitions.specs.LyingInIntervals.{IsInside}
+use Rattle.hyd_theorems_on_definitions.specs.SoundLawsAndGrids.{IsSoundDemand, IsSteady}
 use Rattle.hyd_lemmas.proofs.BooleanTests.{le-no}
 use Rattle.hyd_lemmas.proofs.ListsOptionsAndResults.{as_long}
 use Rattle.hyd_theorems_on_definitions.proofs.LawsOfGrids.{IsSoundGrid-made}
 use Rattle.hyd_theorems_on_definitions.proofs.StocksInIntervals.{state_nests}
 use Rattle.hyd_theorems_on_definitions.proofs.DecidedByEnds.{control_tells}
-use Rattle.hyd_theorems_on_definitions.proofs.Vessels.{vessels}
+use Rattle.hyd_theorems_on_definitions.proofs.SoundTankLemmas.{vessels}
 use Rattle.hyd_theorems_on_histories.specs.Agreement.{IsKept}
 use Rattle.hyd_theorems_on_histories.proofs.ListsByPlace.{numbered_from_start}
 use Rattle.hyd_theorems_on_histories.proofs.AgreementAfterPeriod.{made-states}
 use Rattle.hyd_theorems_on_histories.proofs.CommandedLinkStates.{started_own}
-use Rattle.hyd_theorems_on_nesting.specs.Nesting.{IsOrdered, AreNested, IsTidy, IsTightened}
+use Rattle.hyd_theorems_on_nesting.specs.Nesting.{IsOrdered, AreNested, IsTightened}
+use Rattle.hyd_theorems_on_nesting.specs.StandingsOfRuns.{IsTidy}
 use Rattle.hyd_theorems_on_nesting.proofs.ClockLengthAndEndsExist.{clock_length_is, earliest_is}
 use Rattle.hyd_theorems_on_nesting.proofs.InnerRecordsDecide.{lies-one, widened-lies, stocks_within, stocks_there}
 use Rattle.hyd_theorems_on_nesting.proofs.InnerRecordsDecide.{ends-refine}

@@ -1,1 +1,4 @@
 pub mod Nesting
+pub mod StandingsOfRuns
+pub mod FirstAmongWatched
+pub mod GoingOnOrStopped

@@ -28,12 +28,16 @@ ghost use Rattle.hyd_spec_reports.specs.Stops.{Stops};
 ghost use Rattle.hyd_spec_reports.specs.ReportLine.{ReportLine};
 ghost use Rattle.hyd_spec_reports.specs.Report.{IsReport};
 ghost use Rattle.hyd_spec_reports.specs.PromisesOfRunsAndChecks.{Found, IsRun};
-ghost use Rattle.hyd_theorems_on_definitions.specs.TermsOfTheorems.{IsInside, AreInside, HasStock, IsSteady};
+ghost use Rattle.hyd_theorems_on_definitions.specs.LyingInIntervals.{IsInside, AreInside, HasStock};
+ghost use Rattle.hyd_theorems_on_definitions.specs.SoundLawsAndGrids.{IsSteady};
 ghost use Rattle.hyd_theorems_on_histories.specs.Agreement.{IsKept};
-ghost use Rattle.hyd_theorems_on_nesting.specs.Nesting.{IsOrdered, AreNested, IsTightened, IsTidy, ReachTest};
-ghost use Rattle.hyd_theorems_on_nesting.specs.Nesting.{watch_passes};
-ghost use Rattle.hyd_theorems_on_nesting.specs.Nesting.{IsFirstAmong, IsWalked, IsReason, LeadsSomewhere, IsStopped};
-ghost use Rattle.hyd_theorems_on_nesting.specs.Nesting.{IsLonger};
+ghost use Rattle.hyd_theorems_on_nesting.specs.Nesting.{IsOrdered, AreNested, IsTightened};
+ghost use Rattle.hyd_theorems_on_nesting.specs.FirstAmongWatched.{ReachTest};
+ghost use Rattle.hyd_theorems_on_nesting.specs.StandingsOfRuns.{IsTidy};
+ghost use Rattle.hyd_theorems_on_nesting.specs.FirstAmongWatched.{watch_passes};
+ghost use Rattle.hyd_theorems_on_nesting.specs.GoingOnOrStopped.{IsReason, LeadsSomewhere, IsStopped};
+ghost use Rattle.hyd_theorems_on_nesting.specs.FirstAmongWatched.{IsFirstAmong, IsWalked};
+ghost use Rattle.hyd_theorems_on_nesting.specs.GoingOnOrStopped.{IsLonger};
 
 // ---- certificates of two sides
 

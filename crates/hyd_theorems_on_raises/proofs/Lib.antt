@@ -1,7 +1,7 @@
-pub mod GreatestLead
+pub mod WhereOneLiesBeyondByMost
 pub mod FirstItemsAndChoices
 pub mod RaisesAndTightVector
 pub mod RaisesInAnyOrder
-pub mod Beginnings
+pub mod SearchStarts
 pub mod NoLinkBetweenJunctions
 pub mod CertificateOrFailure

@@ -18,7 +18,7 @@ use Rattle.hyd_spec_certificates.specs.PeriodNetwork.{Grid, GridLink, GridJuncti
 use Rattle.hyd_spec_certificates.specs.NetOutflow.{net, outflow_low, outflow_high}
 use Rattle.hyd_spec_certificates.specs.Certificate.{IsInBox, Passes, Suits, IsCertificateHolding, IsRoundHolding}
 use Rattle.hyd_theorems_on_definitions.proofs.HeadsOfAllNodes.{head_front}
-use Rattle.hyd_spec_certificates.specs.SearchSteps.{JoinsNone}
+use Rattle.hyd_spec_certificates.specs.StartsRaisesAndLeaps.{JoinsNone}
 use Rattle.hyd_theorems_on_raises.proofs.RaisesAndTightVector.{set-here}
 use Rattle.hyd_lemmas.proofs.ListsOptionsAndResults.{item_there}
 

@@ -16,11 +16,11 @@ use Rattle.hyd_spec_certificates.specs.NetOutflow.{net_low, net_high, margin}
 use Rattle.hyd_spec_certificates.specs.declared.HeldJunction.{HeldJunction}
 use Rattle.hyd_spec_certificates.specs.Certificate.{box_limit, IsInBox, Passes, Suits, IsBeyond, IsCertificateHolding}
 use Rattle.hyd_spec_certificates.specs.Certificate.{IsCandidateHolding, IsRaisedHolding, IsTightHolding}
-use Rattle.hyd_theorems_on_definitions.specs.TermsOfTheorems.{IsSteady}
-use Rattle.hyd_spec_certificates.specs.SearchSteps.{LiesBeyond, IsStart}
+use Rattle.hyd_theorems_on_definitions.specs.SoundLawsAndGrids.{IsSteady}
+use Rattle.hyd_spec_certificates.specs.StartsRaisesAndLeaps.{LiesBeyond, IsStart}
 use Rattle.hyd_theorems_on_definitions.specs.Sides.{along}
 use Rattle.hyd_lemmas.proofs.Integers.{same-or-not}
-use Rattle.hyd_theorems_on_raises.proofs.GreatestLead.{beyond-is, is-beyond, suits-nearer}
+use Rattle.hyd_theorems_on_raises.proofs.WhereOneLiesBeyondByMost.{beyond-is, is-beyond, suits-nearer}
 use Rattle.hyd_theorems_on_raises.proofs.FirstItemsAndChoices.{first-below, each-or-lacks}
 
 -- ---- the order of a side

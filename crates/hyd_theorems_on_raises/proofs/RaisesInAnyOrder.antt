@@ -12,11 +12,12 @@ use Rattle.hyd_spec_certificates.specs.declared.HeldJunction.{HeldJunction}
 use Rattle.hyd_spec_certificates.specs.Certificate.{IsInBox, IsBeyond, IsCertificateHolding, IsRaisedHolding}
 use Rattle.hyd_spec_certificates.specs.Certificate.{IsRoundHolding, AreRoundsHolding, none, more}
 use Rattle.hyd_theorems_on_definitions.proofs.HeadsOfAllNodes.{greatest_below}
-use Rattle.hyd_theorems_on_definitions.specs.TermsOfTheorems.{IsSteady}
-use Rattle.hyd_spec_certificates.specs.SearchSteps.{LiesBeyond, IsStart, IsLeap, Climbs, done, raised, leapt, HasParts}
-use Rattle.hyd_spec_certificates.specs.SearchSteps.{no_more, part, HasRounds}
+use Rattle.hyd_theorems_on_definitions.specs.SoundLawsAndGrids.{IsSteady}
+use Rattle.hyd_spec_certificates.specs.StartsRaisesAndLeaps.{LiesBeyond, IsStart, IsLeap, Climbs, done, raised, leapt}
+use Rattle.hyd_spec_certificates.specs.StartsRaisesAndLeaps.{HasParts}
+use Rattle.hyd_spec_certificates.specs.StartsRaisesAndLeaps.{no_more, part, HasRounds}
 use Rattle.hyd_theorems_on_definitions.specs.Sides.{along}
-use Rattle.hyd_theorems_on_raises.proofs.GreatestLead.{beyond-is, lead, fails-leading, suits-nearer}
+use Rattle.hyd_theorems_on_raises.proofs.WhereOneLiesBeyondByMost.{beyond-is, lead, fails-leading, suits-nearer}
 use Rattle.hyd_theorems_on_raises.proofs.FirstItemsAndChoices.{choose}
 use Rattle.hyd_theorems_on_raises.proofs.RaisesAndTightVector.{beyond-trans, beyond-self, along-one, by-beyond}
 use Rattle.hyd_theorems_on_raises.proofs.RaisesAndTightVector.{set-here, set-on}

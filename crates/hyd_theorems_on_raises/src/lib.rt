@@ -15,10 +15,11 @@ ghost use Rattle.hyd_spec_certificates.specs.PeriodNetwork.{Grid, GridJunction, 
 ghost use Rattle.hyd_spec_certificates.specs.Certificate.{Suits, FailsFirst, IsCandidateHolding, IsRaisedHolding};
 ghost use Rattle.hyd_spec_certificates.specs.Certificate.{AreRoundsHolding, IsCertificate, IsCertificateHolding};
 ghost use Rattle.hyd_spec_certificates.specs.Certificate.{IsTightHolding, IsRoundHolding, IsInBox, IsBeyond};
-ghost use Rattle.hyd_spec_certificates.specs.SearchSteps.{LiesBeyond, IsStart, IsLeap, Climbs, HasParts, HasRounds};
-ghost use Rattle.hyd_spec_certificates.specs.SearchSteps.{IsOrderedHolding, JoinsNone};
-ghost use Rattle.hyd_spec_reports.specs.Stops.{beginning};
-ghost use Rattle.hyd_theorems_on_definitions.specs.TermsOfTheorems.{IsSteady};
+ghost use Rattle.hyd_spec_certificates.specs.StartsRaisesAndLeaps.{LiesBeyond, IsStart, IsLeap, Climbs, HasParts};
+ghost use Rattle.hyd_spec_certificates.specs.StartsRaisesAndLeaps.{HasRounds};
+ghost use Rattle.hyd_spec_certificates.specs.StartsRaisesAndLeaps.{IsOrderedHolding, JoinsNone};
+ghost use Rattle.hyd_spec_reports.specs.TurnsOfProblems.{beginning};
+ghost use Rattle.hyd_theorems_on_definitions.specs.SoundLawsAndGrids.{IsSteady};
 
 /// A vector with a head for each junction is a certificate, or fails first at a junction; not both, and at one
 /// junction.

@@ -8,7 +8,7 @@ pub mod SameGridsAndCertificates
 pub mod SamePeriodEnds
 pub mod SameValidRecords
 pub mod ValidRecordsWithoutSpare
-pub mod Headers
+pub mod SameHeaders
 pub mod SameAssignments
 pub mod SamePeriodLengths
 pub mod HistoriesWithoutSpare

@@ -6,8 +6,8 @@ use Rattle.hyd_net.specs.ProjectAsCompared.{bare_list, compared_pattern}
 use Rattle.hyd_net.specs.declared.nodes.Junction.{Junction}
 use Rattle.hyd_net.specs.declared.rules.Rule.{Rule}
 use Rattle.hyd_net.specs.declared.project.Project.{Project}
-use Rattle.hyd_spec_input.specs.Tables.{rows_of, words_of}
-use Rattle.hyd_spec_input.specs.InForce.{unit}
+use Rattle.hyd_spec_input.specs.SectionsAndTables.{rows_of, words_of}
+use Rattle.hyd_spec_input.specs.OptionsAndTimesInForce.{unit}
 use Rattle.hyd_spec_input.specs.MeaningsAcrossRows.{emitter_of, pattern_ids, shape_names, bend_names, rule_groups}
 use Rattle.hyd_spec_input.specs.MeaningsAcrossRows.{clause_lines, then_lines, else_lines}
 use Rattle.hyd_spec_input.specs.Project as project_of

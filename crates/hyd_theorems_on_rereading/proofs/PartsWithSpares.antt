@@ -7,7 +7,7 @@ use Rattle.std.specs.List.{AllZip}
 use Rattle.hyd_net.specs.ListView.{ListView}
 use Rattle.hyd_net.specs.ProjectAsCompared.{bare_list, compared_pattern}
 use Rattle.hyd_spec.specs.ProgramTypes.{Project, Junction, Pattern, VolumePoint, HeadPoint, Rule}
-use Rattle.hyd_spec.specs.DemandsReservoirHeadsAndCurves.{points_of}
+use Rattle.hyd_spec.specs.DemandsHeadsAndPumpLifts.{points_of}
 use Rattle.hyd_theorems_on_rereading.specs.WithoutSpare.{bare_junction, bare_rule}
 
 -- ---- parts

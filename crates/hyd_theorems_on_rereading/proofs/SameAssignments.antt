@@ -7,8 +7,8 @@ use Rattle.hyd_num.specs.Rational.{is_at_most}
 use Rattle.hyd_spec.specs.ProgramTypes.{Project, Junction, Reservoir, Link, LinkState, Capacity}
 use Rattle.hyd_spec.specs.declared.TankState.{TankState}
 use Rattle.hyd_spec.specs.Scale.{at_scale}
-use Rattle.hyd_spec.specs.DemandsReservoirHeadsAndCurves.{demand_of, reservoir_head, minimum_pressure}
-use Rattle.hyd_spec.specs.DemandsReservoirHeadsAndCurves.{required_pressure}
+use Rattle.hyd_spec.specs.DemandsHeadsAndPumpLifts.{demand_of, reservoir_head, minimum_pressure}
+use Rattle.hyd_spec.specs.DemandsHeadsAndPumpLifts.{required_pressure}
 use Rattle.hyd_spec.specs.Law.{Law, QuadraticLaw, Follows}
 use Rattle.hyd_spec.specs.Outflow.{IsWithinTolerance, pressure_at, is_pressure_driven, FollowsPart, FollowsPressure}
 use Rattle.hyd_spec.specs.Outflow.{FollowsDemand, FollowsEmitter}

@@ -5,7 +5,7 @@ use Rattle.hyd_net.specs.ListView.{ListView}
 use Rattle.hyd_spec.specs.ProgramTypes.{Project, Link, HeadPoint, LinkKind, PipeLink, CheckPipe, PumpLink, CurvePump}
 use Rattle.hyd_spec.specs.ProgramTypes.{Tcv, Fcv, Gpv, LinkState, Open, Closed, Speed, Throttle, Limit}
 use Rattle.hyd_spec.specs.declared.TankState.{TankState}
-use Rattle.hyd_spec.specs.DemandsReservoirHeadsAndCurves.{points_of, pump_knots, valve_knots, is_us}
+use Rattle.hyd_spec.specs.DemandsHeadsAndPumpLifts.{points_of, pump_knots, valve_knots, is_us}
 use Rattle.hyd_spec.specs.Law.{Law, Held, Bent}
 use Rattle.hyd_spec.specs.LinkLaw.{own_law, greatest_curve_flow, law_of}
 use Rattle.hyd_spec_certificates.specs.PeriodNetwork.{GridLink, grid_links}

@@ -5,9 +5,10 @@ use Rattle.std.specs.Prelude.{◌/◌, ◌*ℤ◌, slice_get, slice_index_or, un
 use Rattle.std.specs.Option.{option_map_or, option_or}
 use Rattle.std.specs.List.{AllZip}
 use Rattle.hyd_spec.specs.ProgramTypes.{Project, Junction, Demand, Reservoir, Tank}
-use Rattle.hyd_spec.specs.Scale.{cut, total}
+use Rattle.hyd_spec.specs.WholeNumbers.{cut}
+use Rattle.hyd_spec.specs.Lists.{total}
 use Rattle.hyd_spec.specs.NodeNumbers.{junction_count, nodes_before_tanks, tank_node}
-use Rattle.hyd_spec.specs.DemandsReservoirHeadsAndCurves.{multiplier_at, category_demand, demand_of, reservoir_head}
+use Rattle.hyd_spec.specs.DemandsHeadsAndPumpLifts.{multiplier_at, category_demand, demand_of, reservoir_head}
 use Rattle.hyd_spec.specs.Tank.{Walls, Cylinder, Curve, shape_points, walls_of}
 use Rattle.hyd_spec.specs.Rules.{elevation_of}
 use Rattle.hyd_theorems_on_rereading.proofs.PartsWithSpares.{Inner, with_inner, IsLikeJunction, AreAlike}

@@ -12,7 +12,7 @@ use Rattle.hyd_spec.specs.ProgramTypes.{Rule}
 use Rattle.hyd_spec.specs.declared.Change.{Change}
 use Rattle.hyd_spec.specs.declared.Source.TheVariants.{Control as ByControl}
 use Rattle.hyd_spec.specs.Lists.{map_from, joined, present}
-use Rattle.hyd_spec.specs.DemandsReservoirHeadsAndCurves.{is_us, points_of, pump_knots}
+use Rattle.hyd_spec.specs.DemandsHeadsAndPumpLifts.{is_us, points_of, pump_knots}
 use Rattle.hyd_spec.specs.PumpPatternsAndSimpleControls.{patterned, control_acts}
 use Rattle.hyd_spec.specs.Rules.{is_same_state, state_of_link}
 use Rattle.hyd_spec_certificates.specs.Interval.{Interval}
@@ -27,7 +27,8 @@ use Rattle.hyd_spec_reports.specs.ReportLine.{ReportLine, ControlLine, TimeLine,
 use Rattle.hyd_spec_reports.specs.ReportLine.{LinkLine, FilledLine, EmptiedLine, ReachedLine, RuleLine, line_words}
 use Rattle.hyd_spec_reports.specs.ReportLine.{tank_id, reservoir_id, rule_id, tank_words, reservoir_words}
 use Rattle.hyd_spec_reports.specs.ReportLine.{event_words, given_words, link_id, clock_text, line_text, report_text}
-use Rattle.hyd_spec_reports.specs.Report.{Prints, control_changes, changes_at, change_line, control_lines, LineEach}
+use Rattle.hyd_spec_reports.specs.Report.{Prints, LineEach}
+use Rattle.hyd_spec_reports.specs.ChangesAtStart.{control_changes, changes_at, change_line, control_lines}
 use Rattle.hyd_spec_reports.specs.Report.{is_report_time, IsJunctionLine, IsReservoirLine, IsTankLine, by_knots}
 use Rattle.hyd_spec_reports.specs.Report.{status_of, IsLinkLine, AreStateLines, tank_events, control_event, events_of}
 use Rattle.hyd_spec_reports.specs.Report.{EndBrings, at_end, by_rules, by_clock, AreEndLines, IsReport}

@@ -9,7 +9,7 @@ use Rattle.hyd_spec_reports.specs.declared.StopCause.{StopCause}
 use Rattle.hyd_spec_reports.specs.PromisesOfRunsAndChecks.{Found, Outcome, Finished, Stopped, EndsSo}
 use Rattle.hyd_spec_reports.specs.PromisesOfRunsAndChecks.{certificate_so_far}
 use Rattle.hyd_spec_reports.specs.PromisesOfRunsAndChecks.{report_so_far}
-use Rattle.hyd_theorems_on_nesting.specs.Nesting.{IsReason}
+use Rattle.hyd_theorems_on_nesting.specs.GoingOnOrStopped.{IsReason}
 use Rattle.hyd_theorems_on_tight_runs.specs.TightRuns.{IsTightRun, FinishesTight, BreaksOffTight}
 use Rattle.hyd_theorems_on_tight_runs.proofs.TwoRuns.{whole}
 use Rattle.hyd_theorems_on_tight_runs.proofs.Texts.{all_tight, begins, never_stops, certificate_begins, report_begins}

@@ -16,7 +16,7 @@ use Rattle.hyd_spec_reports.specs.PromisesOfRunsAndChecks.{Found, rows_of, lines
 use Rattle.hyd_spec_reports.specs.PromisesOfRunsAndChecks.{IsTightThroughout}
 use Rattle.hyd_spec_reports.specs.PromisesOfRunsAndChecks.{certificate_so_far, report_so_far}
 use Rattle.hyd_spec_certificates.specs.Narrow.{IsNarrow}
-use Rattle.hyd_theorems_on_nesting.specs.Nesting.{IsReason}
+use Rattle.hyd_theorems_on_nesting.specs.GoingOnOrStopped.{IsReason}
 use Rattle.hyd_theorems_on_nesting.proofs.NoStopWhereValid.{no_stop}
 use Rattle.hyd_theorems_on_nesting.proofs.RunsGoOnOrStop.{run_keeps}
 use Rattle.hyd_theorems_on_tight_runs.specs.TightRuns.{IsTightRun, FinishesTight}

@@ -9,7 +9,7 @@ use Rattle.hyd_spec_reports.specs.PromisesOfRunsAndChecks.{Found, IsRun, Sharpne
 use Rattle.hyd_spec_reports.specs.PromisesOfRunsAndChecks.{Stopped}
 use Rattle.hyd_spec_reports.specs.PromisesOfRunsAndChecks.{RunWrites}
 use Rattle.hyd_spec_reports.specs.PromisesOfRunsAndChecks.{RunBreaksOff}
-use Rattle.hyd_theorems_on_nesting.specs.Nesting.{IsReason}
+use Rattle.hyd_theorems_on_nesting.specs.GoingOnOrStopped.{IsReason}
 
 -- A run of the network in which every vector of every record is the tight one, and the standing that it leaves.
 pub record IsTightRun (project : Project) (founds : List Found) (left : Standing) : Type 0 where

@@ -11,7 +11,7 @@ ghost use Rattle.hyd_spec_certificates.specs.RecordAndStanding.{Standing};
 ghost use Rattle.hyd_spec_reports.specs.declared.StopCause.{StopCause};
 ghost use Rattle.hyd_spec_reports.specs.Stops.{Stops};
 ghost use Rattle.hyd_spec_reports.specs.PromisesOfRunsAndChecks.{Found, rows_of, certificate_so_far, report_so_far};
-ghost use Rattle.hyd_theorems_on_nesting.specs.Nesting.{IsReason};
+ghost use Rattle.hyd_theorems_on_nesting.specs.GoingOnOrStopped.{IsReason};
 ghost use Rattle.hyd_theorems_on_tight_runs.specs.TightRuns.{IsTightRun, FinishesTight, BreaksOffTight};
 
 // ---- two runs

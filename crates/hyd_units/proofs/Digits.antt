@@ -3,7 +3,7 @@ use Rattle.std.proofs.Common.{Bool, true, false, ◌≡◌, ℕ, zero, suc, ◌+
 use Rattle.std.proofs.Common.{◌++◌, length, refl, ap, ◌∙◌, arith, length-append}
 use Rattle.std.proofs.lemmas.Fmt.{decimal_step_wide, length-decimal-le_wide}
 use Rattle.std.specs.Fmt.{decimal, sign_text}
-use Rattle.hyd_units.specs.WrittenText.{Writes}
+use Rattle.hyd_units.specs.TextInBuffer.{Writes}
 use Rattle.hyd_num.specs.PrintedDecimals.{last_digits, fixed_point}
 
 pub length-last_digits : (places n : ℕ) → length (last_digits places n) ≡ places

@@ -2,7 +2,7 @@
 use Rattle.std.proofs.Common.{◌≡◌, ℕ, ◌+◌, ◌-◌, ◌≤◌, List, ◌++◌, drop, ap, ◌∙◌, arith, append_assoc, length-append}
 use Rattle.std.proofs.Common.{subst}
 use Rattle.std.proofs.lemmas.List.{drop-drop}
-use Rattle.hyd_units.specs.WrittenText.{Writes}
+use Rattle.hyd_units.specs.TextInBuffer.{Writes}
 
 behind : {A : Type 0} (xs ys : List A) (i j : ℕ) → i ≤ j → drop i xs ≡ drop i ys → drop j xs ≡ drop j ys
 behind xs ys i j h e =

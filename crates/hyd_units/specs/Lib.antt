@@ -1,2 +1,2 @@
 pub mod PrintedText
-pub mod WrittenText
+pub mod TextInBuffer

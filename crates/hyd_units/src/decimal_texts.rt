@@ -1,8 +1,8 @@
 //! The decimal text of a number of ten-thousandths, in a buffer of the caller's.
 ghost use Rattle.std.specs.Fmt.{decimal, sign_text};
-ghost use Rattle.std.specs.Prelude.{◌≡◌, ◌+◌, ◌<◌, ◌≤◌, ◌^◌, ◌∷◌, [], length};
+ghost use Rattle.std.specs.Prelude.{◌+◌, ◌<◌, ◌≤◌, ◌∷◌, [], length};
 ghost use Rattle.hyd_num.specs.PrintedDecimals.{decimal_text, fixed_point, last_digits};
-ghost use Rattle.hyd_units.specs.WrittenText.{Writes};
+ghost use Rattle.hyd_units.specs.TextInBuffer.{Writes};
 
 /// The size of a buffer that takes each decimal: a sign, 39 digits and a point are 41 bytes.
 pub const BUFFER_SIZE: usize = 48;

@@ -1,5 +1,5 @@
-//! Every number that enters or leaves: the conversion of a number of the input file to ticks,
-//! and of ticks to a decimal of the file's units, rounded outward.
+//! Numbers of an input file in ticks, where rows and options give them, and ticks as decimals of the file's units,
+//! rounded outward, as reports print them.
 //!
 //! A head tick is 10^-13 m, a flow tick 10^-7 m^3 a day. US customary files have feet and pounds
 //! a square inch, the others metres for both (EPANET 2.2 User Manual, Units of Measurement).

@@ -9,7 +9,7 @@ use Rattle.hyd_spec.specs.declared.TankState.{TankState}
 use Rattle.hyd_spec.specs.Lists.{map_from}
 use Rattle.hyd_spec.specs.Scale.{at_scale}
 use Rattle.hyd_spec.specs.NodeNumbers.{tank_node, junction_count, reservoir_count}
-use Rattle.hyd_spec.specs.DemandsReservoirHeadsAndCurves.{reservoir_head}
+use Rattle.hyd_spec.specs.DemandsHeadsAndPumpLifts.{reservoir_head}
 use Rattle.hyd_spec.specs.Assignment.{head_at, node_heads, tank_heads}
 use Rattle.hyd_spec_certificates.specs.declared.Problem.{Problem}
 use Rattle.hyd_spec_certificates.specs.declared.Problem.TheVariants.{Main, Pinned}
@@ -18,8 +18,8 @@ use Rattle.hyd_spec_certificates.specs.declared.Side.TheVariants.{Upper, Lower}
 use Rattle.hyd_spec_certificates.specs.Interval.{Interval}
 use Rattle.hyd_spec_certificates.specs.PeriodNetwork.{Grid, IsGrid, all_heads, tank_intervals, end_on, tank_side}
 use Rattle.hyd_spec_certificates.specs.Certificate.{IsCertificate}
-use Rattle.hyd_theorems_on_definitions.specs.TermsOfTheorems.{IsSteady}
-use Rattle.hyd_theorems_on_definitions.proofs.Comparison.{below_main, above_main, one_each}
+use Rattle.hyd_theorems_on_definitions.specs.SoundLawsAndGrids.{IsSteady}
+use Rattle.hyd_theorems_on_definitions.proofs.ComparisonPrinciple.{below_main, above_main, one_each}
 use Rattle.hyd_theorems_on_definitions.proofs.PinnedTankInflows.{upper_within, lower_within}
 use Rattle.hyd_theorems_on_nesting.proofs.TwoSides.{lower-below}
 use Rattle.hyd_vector_check.specs.ComparisonPrinciple.{LiesAbove, LiesBelow, LiesAbovePinned, LiesBelowPinned}

@@ -1,5 +1,5 @@
 pub mod HeadsWithOneReplaced
 pub mod FlowsOfLinkEnds
 pub mod OutflowsBySide
-pub mod Surpluses
+pub mod NetOutflowAboveMargin
 pub mod CertificateComparisons

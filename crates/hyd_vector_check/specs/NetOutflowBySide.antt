@@ -10,7 +10,7 @@ use Rattle.hyd_spec_certificates.specs.EnclosingFunctions.{low, high}
 use Rattle.hyd_spec_certificates.specs.PeriodNetwork.{Grid, GridLink, GridJunction}
 use Rattle.hyd_spec_certificates.specs.NetOutflow.{net, net_low, net_high, outflow_low, outflow_high, margin}
 use Rattle.hyd_spec_certificates.specs.Certificate.{IsInBox, Passes}
-use Rattle.hyd_period_network.specs.NetInvariant.{is_upper}
+use Rattle.hyd_period_network.specs.SoundNets.{is_upper}
 
 -- ---- enclosing functions
 

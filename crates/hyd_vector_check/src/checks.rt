@@ -7,7 +7,7 @@ ghost use Rattle.hyd_spec_certificates.specs.declared.Problem.TheVariants.{Main,
 ghost use Rattle.hyd_spec_certificates.specs.declared.Side.TheVariants.{Upper, Lower};
 ghost use Rattle.hyd_spec_certificates.specs.Certificate.{IsInBox, Suits, FailsFirst, IsCertificate};
 ghost use Rattle.hyd_period_network.specs.NetAsPeriodNetwork.{grid_of};
-ghost use Rattle.hyd_period_network.specs.NetInvariant.{HasProblem};
+ghost use Rattle.hyd_period_network.specs.SoundNets.{HasProblem};
 ghost use Rattle.hyd_vector_check.specs.NetOutflowBySide.{IsFirstOutside};
 ghost use Rattle.hyd_vector_check.specs.ComparisonPrinciple.{LiesAbove, LiesBelow, LiesAbovePinned, LiesBelowPinned};
 ghost use Rattle.hyd_vector_check.specs.ComparisonPrinciple.{LiesAboveLower};

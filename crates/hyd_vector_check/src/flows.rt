@@ -1,17 +1,17 @@
-//! Flows of links out of a junction.
+//! Flows of links out of a node.
 #![tactic(auto)]
 
-ghost use Rattle.std.specs.Prelude.{◌≡◌, ◌<◌, ◌≤◌, ◌*◌, ◌^◌, length, unsigned_abs, All, Some, slice_get, slice_set};
+ghost use Rattle.std.specs.Prelude.{◌≡◌, ◌<◌, ◌≤◌, ◌*◌, ◌^◌, length, unsigned_abs, All, slice_set};
 ghost use Rattle.hyd_spec.specs.Assignment.{head_at};
 ghost use Rattle.hyd_spec.specs.Law.{Law};
-ghost use Rattle.hyd_spec_certificates.specs.PeriodNetwork.{GridLink, all_heads};
+ghost use Rattle.hyd_spec_certificates.specs.PeriodNetwork.{all_heads};
 ghost use Rattle.hyd_spec_certificates.specs.Certificate.{IsInBox};
 ghost use Rattle.hyd_law.specs.LinkLaws.{IsSoundLink, LinkAccepts};
 ghost use Rattle.hyd_period_network.specs.LawsInSettings.{Stands};
 ghost use Rattle.hyd_period_network.specs.NetAsPeriodNetwork.{grid_of, node_count};
-ghost use Rattle.hyd_period_network.specs.NetInvariant.{HasProblem};
+ghost use Rattle.hyd_period_network.specs.SoundNets.{HasProblem};
 ghost use Rattle.hyd_period_network.specs.LinkEnds.{IsTie, tie_share};
-ghost use Rattle.hyd_period_network.specs.NetInvariant.{is_upper};
+ghost use Rattle.hyd_period_network.specs.SoundNets.{is_upper};
 ghost use Rattle.hyd_vector_check.specs.NetOutflowBySide.{flow_by, is_lower, flows_out};
 
 use crate::heads::{difference, head_with};

@@ -7,7 +7,7 @@ ghost use Rattle.hyd_spec_certificates.specs.PeriodNetwork.{GridJunction};
 ghost use Rattle.hyd_spec_certificates.specs.Certificate.{IsInBox};
 ghost use Rattle.hyd_spec_certificates.specs.NetOutflow.{net_low, net_high};
 ghost use Rattle.hyd_period_network.specs.NetAsPeriodNetwork.{grid_of};
-ghost use Rattle.hyd_period_network.specs.NetInvariant.{HasProblem};
+ghost use Rattle.hyd_period_network.specs.SoundNets.{HasProblem};
 ghost use Rattle.hyd_vector_check.specs.NetOutflowBySide.{net_outflow, surplus, PassesWith, PassesAt};
 
 use crate::flows::flows_out;

@@ -1,12 +1,12 @@
 //! Outflows of a junction.
 #![tactic(auto)]
 
-ghost use Rattle.std.specs.Prelude.{◌≡◌, ◌<◌, ◌≤◌, ◌*◌, ◌^◌, ℤ, true, false, length, unsigned_abs, Some, slice_get};
+ghost use Rattle.std.specs.Prelude.{◌≡◌, ◌<◌, ◌≤◌, ◌*◌, ◌^◌, true, false, length, unsigned_abs, Some, slice_get};
 ghost use Rattle.std.specs.Option.{option_map, option_copied, IfSome};
 ghost use Rattle.hyd_spec_certificates.specs.EnclosingFunctions.{emitter_low, emitter_high};
 ghost use Rattle.hyd_spec_certificates.specs.PeriodNetwork.{GridJunction};
 ghost use Rattle.hyd_spec_certificates.specs.Certificate.{box_limit, IsInBox};
-ghost use Rattle.hyd_theorems_on_definitions.specs.TermsOfTheorems.{IsSoundCapacity};
+ghost use Rattle.hyd_theorems_on_definitions.specs.SoundLawsAndGrids.{IsSoundCapacity};
 ghost use Rattle.hyd_law.specs.DemandLaws.{IsSoundOut, OutAccepts, out_low, out_high};
 ghost use Rattle.hyd_period_network.specs.NetAsPeriodNetwork.{grid_of, capacity_of};
 ghost use Rattle.hyd_vector_check.specs.NetOutflowBySide.{outflow};

@@ -1,69 +1,25 @@
 -- First seconds of watched levels, by the facts of a period and by whatever standing and record these are of.
-use Rattle.std.proofs.Common.{◌≡◌, inl, inr, ℕ, zero, suc, ◌+◌, ◌<◌, min, List, [], ◌∷◌, ◌++◌, length, refl, ap, ◌∙◌}
-use Rattle.std.proofs.Common.{subst, arith}
-use Rattle.std.specs.Prelude.{Some, map, slice_get, slice_index_or, Contains}
+use Rattle.std.proofs.Common.{◌≡◌, inl, inr, ℕ, ◌+◌, min, List, [], ◌∷◌, ◌++◌, ◌∙◌}
+use Rattle.std.proofs.Common.{subst}
+use Rattle.std.specs.Prelude.{Some, slice_get, Contains}
 use Rattle.std.proofs.lemmas.List.Elements.{Contains-append_left, Contains-push, Contains-push_cases}
 use Rattle.hyd_spec.specs.ProgramTypes.{Project, Tank}
-use Rattle.hyd_spec.specs.Lists.{map_from}
 use Rattle.hyd_spec.specs.Tank.{walls_of}
 use Rattle.hyd_spec_certificates.specs.Interval.{Interval}
 use Rattle.hyd_spec_certificates.specs.PeriodNetwork.{Grid}
 use Rattle.hyd_spec_certificates.specs.RecordAndStanding.{Record, Standing}
 use Rattle.hyd_spec_certificates.specs.Stocks.{Stocks}
 use Rattle.hyd_spec_certificates.specs.FirstSeconds.{IsFirstSecond}
-use Rattle.hyd_spec_certificates.specs.Decided.{Watch, stocks_of_tank, inflow_of_tank, nowhere}
-use Rattle.hyd_theorems_on_nesting.specs.Nesting.{ReachTest, IsFirstAmong}
-use Rattle.hyd_lemmas.proofs.ListsOptionsAndResults.{item_is}
+use Rattle.hyd_spec_certificates.specs.Decided.{Watch, inflow_of_tank}
+use Rattle.hyd_theorems_on_nesting.specs.FirstAmongWatched.{ReachTest, IsFirstAmong}
 use Rattle.hyd_theorems_on_nesting.proofs.EndsByWatchedLevels.{one_watched, one_more}
 use Rattle.hyd_theorems_on_histories.proofs.WatchedLevels.{contains-here, contains-later, contains-cons}
 use Rattle.hyd_period_facts.specs.declared.facts.Facts.{Facts}
-use Rattle.hyd_watched_levels.specs.FactsBeforeEnd.{AreStarted, stocks_in, inflow_in}
+use Rattle.hyd_period_facts.specs.FactsBeforeEnd.{stocks_in, inflow_in}
 use Rattle.hyd_watched_levels.specs.Watched.{IsReachedFirst, IsReachedAmong}
-
--- ---- items of lists
-
-pub mapped : {X Y : Type 0} (f : X → Y) (xs : List X) (k : ℕ) (d : Y) (e : X) → k < length xs
-    → slice_index_or (map f xs) k d ≡ f (slice_index_or xs k e)
-mapped {X} {Y} f [] k d e h = absurd (omega (arith, h))
-mapped {X} {Y} f (x ∷ xs) zero d e h = refl
-mapped {X} {Y} f (x ∷ xs) (suc k) d e h = mapped f xs k d e (omega (arith, h))
-
-placed : {X Y : Type 0} (f : ℕ → X → Y) (from k : ℕ) (xs : List X) (d : Y) (x : X) → slice_get xs k ≡ Some x
-    → slice_index_or (map_from f from xs) k d ≡ f (from + k) x
-placed {X} {Y} f from k [] d x at = absurd (cc)
-placed {X} {Y} f from zero (y ∷ xs) d x at =
-    let same : y ≡ x = cc in ap (λ (z : X). f from z) same ∙ ap (λ (n : ℕ). f n x) (omega arith)
-placed {X} {Y} f from (suc k) (y ∷ xs) d x at =
-    placed f (suc from) k xs d x at ∙ ap (λ (n : ℕ). f n x) (omega arith)
-
--- the item that was read at a place
-pub each_is : {X : Type 0} (xs ys : List X) (k : ℕ) (here each : X) → here ≡ slice_index_or ys k here → ys ≡ xs
-    → slice_get xs k ≡ Some each → here ≡ each
-each_is {X} xs ys k here each is are at =
-    is ∙ ap (λ (zs : List X). slice_index_or zs k here) are ∙ item_is xs k each here at
+use Rattle.hyd_period_facts.proofs.StocksAndInflowsByFacts.{stocks_are, inflow_is}
 
 -- ---- what facts say
-
-pub stocks_are : (project : Project) (grid : Grid) (standing : Standing) (row : Record) (facts : Facts)
-    → AreStarted project grid standing row facts → (k : ℕ) → stocks_in facts k ≡ stocks_of_tank standing k
-stocks_are project grid standing row facts started k =
-    ap (λ (levels : List Interval). let s : Stocks = record {
-      level = slice_index_or levels k nowhere;
-      volume =
-          (stocks_in facts k).volume;
-    } in s) started.levels
-    ∙ ap (λ (volumes : List Interval). let s : Stocks = record {
-      level = slice_index_or standing.levels k nowhere;
-      volume = slice_index_or volumes k nowhere;
-    } in s) started.volumes
-
-pub inflow_is : (project : Project) (grid : Grid) (standing : Standing) (row : Record) (facts : Facts)
-    → AreStarted project grid standing row facts → (k : ℕ) (tank : Tank) → slice_get project.tanks.list k ≡ Some tank
-    → inflow_in facts k ≡ inflow_of_tank project grid row k
-inflow_is project grid standing row facts started k tank at =
-    ap (λ (inflows : List Interval). slice_index_or inflows k nowhere) started.inflows
-    ∙ placed (λ k (tank : Tank). inflow_of_tank project grid row k) 0 k project.tanks.list nowhere tank at
-    ∙ ap (inflow_of_tank project grid row) (let same : 0 + k ≡ k = omega arith in same)
 
 -- the first second of a watched level is that of its tank's stocks and inflow
 pub reached_first : (test : ReachTest) (project : Project) (facts : Facts) (cap : ℕ) (watch : Watch) (second : ℕ)

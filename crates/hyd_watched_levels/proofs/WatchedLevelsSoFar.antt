@@ -7,19 +7,19 @@ use Rattle.hyd_spec.specs.ProgramTypes.{Project, Tank, Control}
 use Rattle.hyd_spec.specs.declared.TankState.{TankState}
 use Rattle.hyd_spec.specs.LinkLaw.{is_full, is_empty}
 use Rattle.hyd_spec.specs.Lists.{present}
-use Rattle.hyd_spec_certificates.specs.Spans.{levels_of}
+use Rattle.hyd_spec_certificates.specs.SpansAsIntervals.{levels_of}
 use Rattle.hyd_spec_certificates.specs.Interval.{Interval}
 use Rattle.hyd_spec_certificates.specs.PeriodNetwork.{Grid}
 use Rattle.hyd_spec_certificates.specs.RecordAndStanding.{Record, Standing}
 use Rattle.hyd_spec_certificates.specs.Stocks.{may_reach, must_reach}
 use Rattle.hyd_spec_certificates.specs.Decided.{Watch, watches, tank_watches, watch_of, IsClockLength, IsEarliestEnd}
 use Rattle.hyd_spec_certificates.specs.Decided.{IsLatestEnd}
-use Rattle.hyd_theorems_on_nesting.specs.Nesting.{IsFirstAmong}
+use Rattle.hyd_theorems_on_nesting.specs.FirstAmongWatched.{IsFirstAmong}
 use Rattle.hyd_lemmas.proofs.ListsOptionsAndResults.{present_push}
 use Rattle.hyd_theorems_on_nesting.proofs.EndsByWatchedLevels.{none_watched, end_is}
 use Rattle.hyd_period_facts.specs.declared.facts.Facts.{Facts}
 use Rattle.hyd_watched_levels.specs.declared.watch.Ends.{Ends}
-use Rattle.hyd_watched_levels.specs.FactsBeforeEnd.{AreStarted}
+use Rattle.hyd_period_facts.specs.FactsBeforeEnd.{AreStarted}
 use Rattle.hyd_watched_levels.specs.Watched.{IsReachedFirst, IsReachedAmong, AreEnds, most_of, least_of}
 use Rattle.hyd_watched_levels.proofs.FirstSecondsByFacts.{one_behind}
 

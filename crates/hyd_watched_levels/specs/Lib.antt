@@ -1,2 +1,1 @@
-pub mod FactsBeforeEnd
 pub mod Watched

@@ -6,7 +6,7 @@ ghost use Rattle.hyd_net.specs.Sound.{IsSound};
 ghost use Rattle.hyd_spec_certificates.specs.PeriodNetwork.{Grid};
 ghost use Rattle.hyd_spec_certificates.specs.RecordAndStanding.{Record, Standing};
 ghost use Rattle.hyd_spec_certificates.specs.Decided.{IsClockLength, IsEarliestEnd, IsLatestEnd};
-ghost use Rattle.hyd_watched_levels.specs.FactsBeforeEnd.{HaveTanks, AreStarted};
+ghost use Rattle.hyd_period_facts.specs.FactsBeforeEnd.{HaveTanks, AreStarted};
 
 use crate::controls::with_controls;
 use crate::tank_bounds::bound_ends;

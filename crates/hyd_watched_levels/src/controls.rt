@@ -6,22 +6,21 @@ ghost use Rattle.std.specs.Option.{option_map};
 ghost use Rattle.hyd_net.specs.Sound.{IsSound};
 ghost use Rattle.hyd_net.specs.ControlsAndRules.{IsControl};
 ghost use Rattle.hyd_spec.specs.Lists.{present};
-ghost use Rattle.hyd_spec_certificates.specs.Spans.{levels_of};
+ghost use Rattle.hyd_spec_certificates.specs.SpansAsIntervals.{levels_of};
 ghost use Rattle.hyd_spec_certificates.specs.Decided as decided;
-ghost use Rattle.hyd_watched_levels.specs.FactsBeforeEnd.{HaveTanks};
+ghost use Rattle.hyd_period_facts.specs.FactsBeforeEnd.{HaveTanks};
 ghost use Rattle.hyd_watched_levels.specs.Watched.{IsWatch, AreEnds, watch_for};
 
-use crate::facts_of_tanks::level_at;
 use crate::watch::{Ends, Watch, with_watch};
 use hyd_net::{Control, Project, When};
-use hyd_period_facts::{Facts, control_holds};
+use hyd_period_facts::{Facts, control_holds, level_at};
 
 // Whether a level control holds at the start.
 fn acts(facts: &Facts, tank: u32, above: bool, ticks: i64) -> bool
     requires { tank < length facts.now.levels.list }
     ensures { result ≡ decided.acts_on (map levels_of facts.now.levels.list) tank above ticks }
 {
-    let level = level_at(facts, tank);
+    let level = level_at(facts.levels.as_slice(), tank);
     control_holds(&level, above, ticks)
 }
 

@@ -7,7 +7,7 @@ ghost use Rattle.hyd_spec.specs.ProgramTypes.{Tank};
 ghost use Rattle.hyd_spec.specs.declared.TankState.{TankState as State};
 ghost use Rattle.hyd_spec.specs.LinkLaw as states;
 ghost use Rattle.hyd_spec_certificates.specs.Decided.{Watch as Watched, tank_watches};
-ghost use Rattle.hyd_watched_levels.specs.FactsBeforeEnd.{HaveTanks};
+ghost use Rattle.hyd_period_facts.specs.FactsBeforeEnd.{HaveTanks};
 ghost use Rattle.hyd_watched_levels.specs.Watched.{AreEnds, most_of, least_of};
 
 use crate::watch::{Ends, Watch, with_watch};

@@ -5,12 +5,11 @@ ghost use Rattle.std.specs.Prelude.{◌<◌, ◌≤◌, ◌++◌, ◌∷◌, [],
 ghost use Rattle.hyd_net.specs.Sound.{IsSound};
 ghost use Rattle.hyd_spec_certificates.specs.Stocks.{may_reach, must_reach};
 ghost use Rattle.hyd_spec_certificates.specs.Decided as decided;
-ghost use Rattle.hyd_watched_levels.specs.FactsBeforeEnd.{HaveTanks};
+ghost use Rattle.hyd_period_facts.specs.FactsBeforeEnd.{HaveTanks};
 ghost use Rattle.hyd_watched_levels.specs.Watched.{IsWatch, IsReachedFirst, AreEnds, watch_for};
 
-use crate::facts_of_tanks::{inflow_at, stock_at};
 use hyd_net::Project;
-use hyd_period_facts::Facts;
+use hyd_period_facts::{Facts, inflow_at, stock_at};
 use hyd_tank::first_stock;
 
 /// A level of a tank that is watched, in head ticks above its bottom, and whether the tank rises to it or falls to it.

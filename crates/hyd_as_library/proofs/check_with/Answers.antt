@@ -1,6 +1,6 @@
 -- What a check prints, said of the moment before its file was opened.
 use Rattle.std.proofs.Common.{refl, rules}
-use Rattle.hyd_io.specs.MemoryView.{memory}
+use Rattle.hyd_io.specs.DeskInMemoryView.{memory}
 use Rattle.hyd_as_library.proofs.DeskLemmas.{checked, check_cut_short}
 use Rattle.hyd_as_library.proofs.check_with.Goals as goal
 

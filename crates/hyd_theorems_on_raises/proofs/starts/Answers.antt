@@ -1,5 +1,5 @@
 use Rattle.hyd_spec_certificates.specs.declared.Problem.TheVariants.{Main}
-use Rattle.hyd_theorems_on_raises.proofs.Beginnings.{start-end, start-other, main-fixed, start-held, drawn}
+use Rattle.hyd_theorems_on_raises.proofs.SearchStarts.{start-end, start-other, main-fixed, start-held, drawn}
 use Rattle.hyd_theorems_on_raises.proofs.starts.Goals as goal
 
 pub returns-clause-at_end : goal.returns-clause-at_end

@@ -1,4 +1,4 @@
-use Rattle.hyd_theorems_on_rereading.proofs.Headers.{same_compared, same_version, same_junctions, same_tanks}
+use Rattle.hyd_theorems_on_rereading.proofs.SameHeaders.{same_compared, same_version, same_junctions, same_tanks}
 use Rattle.hyd_theorems_on_rereading.proofs.same.Goals as goal
 
 pub returns-clause-compared : goal.returns-clause-compared

@@ -1,5 +1,5 @@
 use Rattle.hyd_spec_lines.specs.Lines.{row_of}
-use Rattle.hyd_asked_link_states.proofs.StateLemmas.{type_fault_is, allowed_where}
+use Rattle.hyd_asked_link_states.proofs.FaultLemmas.{type_fault_is, allowed_where}
 use Rattle.hyd_asked_link_states.proofs.faults.state_fault.Goals as goal
 
 pub returns-clause-fault : goal.returns-clause-fault

@@ -2,12 +2,12 @@ use Rattle.std.proofs.Common.{◌≡◌, ◌↔◌, true, subst}
 use Rattle.std.specs.Prelude.{Bool}
 use Rattle.hyd_num.specs.FileQuantity.{is_us_unit}
 use Rattle.hyd_spec_lines.specs.Lines.{row_of}
-use Rattle.hyd_option_and_rule_lines.specs.Meanings.{IsAsked}
+use Rattle.hyd_option_and_rule_lines.specs.WhatLinesSay.{IsAsked}
 use Rattle.hyd_option_and_rule_lines.specs.declared.controls.Asked.TheVariants.{Number}
 use Rattle.hyd_spec_input.specs.CapacitiesOutOfRange.{IsRefusedValve}
-use Rattle.hyd_asked_link_states.specs.AskedLinks.{IsType}
+use Rattle.hyd_asked_link_states.specs.AskedStatesOfLinks.{IsType}
 use Rattle.hyd_asked_link_states.specs.declared.link_types.LinkType.TheVariants.{Tcv}
-use Rattle.hyd_asked_link_states.proofs.SettingLemmas.{setting_refused}
+use Rattle.hyd_asked_link_states.proofs.StateAndValveLawLemmas.{setting_refused}
 use Rattle.hyd_asked_link_states.proofs.states_and_valve_laws.is_refused.Goals as goal
 
 pub returns-in-Tcv : goal.returns-in-Tcv

@@ -1,7 +1,7 @@
 use Rattle.std.proofs.Common.{arith}
 use Rattle.std.specs.Prelude.{pos, ◌<ℤ◌}
 use Rattle.std.proofs.lemmas.Int.{ints}
-use Rattle.hyd_asked_link_states.proofs.SettingLemmas.{refused_valve, refused_numbers}
+use Rattle.hyd_asked_link_states.proofs.StateAndValveLawLemmas.{refused_valve, refused_numbers}
 use Rattle.hyd_asked_link_states.proofs.states_and_valve_laws.is_refused_valve.Goals as goal
 
 pub returns-in-Ok : goal.returns-in-Ok

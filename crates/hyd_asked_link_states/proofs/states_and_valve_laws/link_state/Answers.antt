@@ -1,7 +1,7 @@
 use Rattle.std.proofs.Common.{◌≡◌, true, false, codes, refl, subst}
 use Rattle.hyd_spec_lines.specs.WordsOfLines.{is_keyword}
-use Rattle.hyd_option_and_rule_lines.specs.Meanings.{IsAsked}
-use Rattle.hyd_asked_link_states.proofs.SettingLemmas.{closed_isn't_open}
+use Rattle.hyd_option_and_rule_lines.specs.WhatLinesSay.{IsAsked}
+use Rattle.hyd_asked_link_states.proofs.StateAndValveLawLemmas.{closed_isn't_open}
 use Rattle.hyd_asked_link_states.proofs.states_and_valve_laws.link_state.Goals as goal
 
 pub returns-in-Closed : goal.returns-in-Closed

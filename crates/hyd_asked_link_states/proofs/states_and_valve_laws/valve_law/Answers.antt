@@ -1,7 +1,7 @@
 use Rattle.std.proofs.Common.{arith, refl}
 use Rattle.std.specs.Prelude.{pos, ◌<ℤ◌}
 use Rattle.std.proofs.lemmas.Int.{ints}
-use Rattle.hyd_asked_link_states.proofs.SettingLemmas.{refused_valve}
+use Rattle.hyd_asked_link_states.proofs.StateAndValveLawLemmas.{refused_valve}
 use Rattle.hyd_asked_link_states.proofs.states_and_valve_laws.valve_law.Goals as goal
 
 pub returns-in-Ok : goal.returns-in-Ok

@@ -1,4 +1,4 @@
-use Rattle.hyd_bounds.proofs.Pinned.{pinned-fixed, pinned-order}
+use Rattle.hyd_bounds.proofs.PinnedInOrder.{pinned-fixed, pinned-order}
 use Rattle.hyd_bounds.proofs.inflows.pinned_in_order.Goals as goal
 
 pub returns-clause-fixed : goal.returns-clause-fixed

@@ -2,9 +2,10 @@ use Rattle.std.proofs.Common.{sym, ◌∙◌, get_or}
 use Rattle.hyd_spec_lines.specs.Lines.{row_of}
 use Rattle.hyd_spec_lines.specs.declared.line.Line.{Line}
 use Rattle.hyd_spec_lines.specs.declared.section.Section.TheVariants.{Junctions}
-use Rattle.hyd_rows_and_tables.proofs.FoundLemmas.{row_at}
-use Rattle.hyd_build_links.specs.CheckedRows.{rows_from}
-use Rattle.hyd_build_links.proofs.BuiltLemmas.{other_section, same_section, link_section, built_same, built_more}
+use Rattle.hyd_rows_and_tables.proofs.FirstWrongRowLemmas.{row_at}
+use Rattle.hyd_build_links.specs.RowsToBuildLinksFrom.{rows_from}
+use Rattle.hyd_build_links.proofs.LinksBuiltSoFarLemmas.{other_section, same_section, link_section, built_same}
+use Rattle.hyd_build_links.proofs.LinksBuiltSoFarLemmas.{built_more}
 use Rattle.hyd_build_links.proofs.links.add.Goals as goal
 
 nothing : Line
@@ -14,7 +15,7 @@ pub returns-then-number_of : goal.returns-then-number_of
 unfolding nothing
 returns-then-number_of c = λ before built.
     let text = c.args.text.now.text in
-    let from = c.args.source.now in
+    let from = c.args.given.now in
     let row = row_of text (get_or from.lines.now c.args.place nothing) in
     built_same (rows_from text from) before c.args.section c.args.place row c.args.links.now.list
     (row_at text from.lines.now c.args.place nothing c.requires.within)
@@ -25,7 +26,7 @@ pub link_of-requires-clause-row : goal.link_of-requires-clause-row
 unfolding nothing
 link_of-requires-clause-row c =
     let text = c.args.text.now.text in
-    let from = c.args.source.now in
+    let from = c.args.given.now in
     let row = row_of text (get_or from.lines.now c.args.place nothing) in
     record {
       lies = c.requires.right.lie c.args.place nothing c.requires.within;
@@ -39,7 +40,7 @@ pub returns : goal.returns
 unfolding nothing
 returns c = λ before built.
     let text = c.args.text.now.text in
-    let from = c.args.source.now in
+    let from = c.args.given.now in
     let row = row_of text (get_or from.lines.now c.args.place nothing) in
     built_more (rows_from text from) before c.args.section c.args.place row c.args.links.now.list _ c.link_of.result
     (row_at text from.lines.now c.args.place nothing c.requires.within)

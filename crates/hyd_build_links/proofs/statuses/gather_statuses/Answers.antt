@@ -1,5 +1,5 @@
 use Rattle.std.proofs.Common.{ℕ, sym, ap, ◌∙◌, length, subst}
-use Rattle.hyd_rows_and_tables.specs.FirstWrongRow.{rows_at}
+use Rattle.hyd_rows_and_tables.specs.RowsOfLines.{rows_at}
 use Rattle.hyd_rows_and_tables.specs.IdTables.{AreNone}
 use Rattle.hyd_build_links.proofs.StatusLemmas.{before_rows, after_rows}
 use Rattle.hyd_build_links.proofs.statuses.gather_statuses.Goals as goal

@@ -1,4 +1,4 @@
-use Rattle.hyd_rows_and_tables.specs.FirstWrongRow.{rows_at}
+use Rattle.hyd_rows_and_tables.specs.RowsOfLines.{rows_at}
 use Rattle.hyd_build_links.specs.Statuses.{AreStatuses}
 use Rattle.hyd_build_links.proofs.statuses.gather_statuses.Given as goal
 

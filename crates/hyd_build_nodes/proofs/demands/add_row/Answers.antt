@@ -6,9 +6,9 @@ use Rattle.hyd_spec_lines.specs.declared.line.Line.{Line}
 use Rattle.hyd_spec_lines.specs.declared.section.Section.TheVariants.{Junctions, Demands}
 use Rattle.hyd_net.specs.ListView.{ListView}
 use Rattle.hyd_net.specs.declared.nodes.Demand.{Demand}
-use Rattle.hyd_theorems_on_input.proofs.Occurs.{number_inside}
-use Rattle.hyd_rows_and_tables.specs.FirstWrongRow.{rows_at}
-use Rattle.hyd_rows_and_tables.proofs.FoundLemmas.{row_at}
+use Rattle.hyd_theorems_on_input.proofs.OccurrencesOfNames.{number_inside}
+use Rattle.hyd_rows_and_tables.specs.RowsOfLines.{rows_at}
+use Rattle.hyd_rows_and_tables.proofs.FirstWrongRowLemmas.{row_at}
 use Rattle.hyd_build_nodes.specs.DemandsAndEmitters.{each}
 use Rattle.hyd_build_nodes.proofs.RowsWithoutFault.{alone}
 use Rattle.hyd_build_nodes.proofs.DemandLemmas.{skip_row, add_row, id_is, base_is_small, junction_there, demand_is}

@@ -1,5 +1,5 @@
 use Rattle.std.proofs.Common.{ℕ, ap, length, subst}
-use Rattle.hyd_rows_and_tables.specs.FirstWrongRow.{rows_at}
+use Rattle.hyd_rows_and_tables.specs.RowsOfLines.{rows_at}
 use Rattle.hyd_rows_and_tables.specs.IdTables.{AreEmpty}
 use Rattle.hyd_build_nodes.specs.DemandsAndEmitters.{each}
 use Rattle.hyd_build_nodes.proofs.DemandLemmas.{before_rows, after_rows}

@@ -1,4 +1,4 @@
-use Rattle.hyd_rows_and_tables.specs.FirstWrongRow.{rows_at}
+use Rattle.hyd_rows_and_tables.specs.RowsOfLines.{rows_at}
 use Rattle.hyd_build_nodes.specs.DemandsAndEmitters.{AreDemands, each}
 use Rattle.hyd_build_nodes.proofs.demands.gather_demands.Given as goal
 

@@ -3,9 +3,9 @@ use Rattle.std.specs.Str.{bytes_eq}
 use Rattle.hyd_spec_lines.specs.Lines.{row_of}
 use Rattle.hyd_spec_lines.specs.declared.line.Line.{Line}
 use Rattle.hyd_spec_lines.specs.declared.section.Section.TheVariants.{Junctions, Emitters}
-use Rattle.hyd_theorems_on_input.proofs.Occurs.{number_inside}
-use Rattle.hyd_rows_and_tables.specs.FirstWrongRow.{rows_at}
-use Rattle.hyd_rows_and_tables.proofs.FoundLemmas.{row_at}
+use Rattle.hyd_theorems_on_input.proofs.OccurrencesOfNames.{number_inside}
+use Rattle.hyd_rows_and_tables.specs.RowsOfLines.{rows_at}
+use Rattle.hyd_rows_and_tables.proofs.FirstWrongRowLemmas.{row_at}
 use Rattle.hyd_build_nodes.proofs.RowsWithoutFault.{alone}
 use Rattle.hyd_build_nodes.proofs.EmitterLemmas.{skip_row, add_row, id_is, junction_there, not_negative, at_most}
 use Rattle.hyd_build_nodes.proofs.EmitterLemmas.{accepted, emitter_is}

@@ -1,4 +1,4 @@
-use Rattle.hyd_rows_and_tables.specs.FirstWrongRow.{rows_at}
+use Rattle.hyd_rows_and_tables.specs.RowsOfLines.{rows_at}
 use Rattle.hyd_build_nodes.specs.DemandsAndEmitters.{AreEmitters}
 use Rattle.hyd_build_nodes.proofs.emitters.gather_emitters.Given as goal
 

@@ -5,9 +5,9 @@ use Rattle.hyd_spec_lines.specs.Lines.{row_of}
 use Rattle.hyd_spec_lines.specs.declared.line.Line.{Line}
 use Rattle.hyd_spec_lines.specs.declared.section.Section.TheVariants.{Junctions}
 use Rattle.hyd_spec_input.specs.Project.{IsJunction}
-use Rattle.hyd_theorems_on_input.proofs.Occurs.{number_inside}
-use Rattle.hyd_rows_and_tables.specs.FirstWrongRow.{rows_at}
-use Rattle.hyd_rows_and_tables.proofs.FoundLemmas.{row_at}
+use Rattle.hyd_theorems_on_input.proofs.OccurrencesOfNames.{number_inside}
+use Rattle.hyd_rows_and_tables.specs.RowsOfLines.{rows_at}
+use Rattle.hyd_rows_and_tables.proofs.FirstWrongRowLemmas.{row_at}
 use Rattle.hyd_build_nodes.specs.WholeJunctions.{AreParts}
 use Rattle.hyd_build_nodes.proofs.RowsWithoutFault.{alone, built_same}
 use Rattle.hyd_build_nodes.proofs.JunctionLemmas.{id_is, id_there, elevation_is_small, base_is_small, junction_more}

@@ -2,8 +2,8 @@ use Rattle.std.proofs.Common.{sym, ◌∙◌}
 use Rattle.hyd_spec_lines.specs.declared.line.Line.{Line}
 use Rattle.hyd_spec_lines.specs.declared.section.Section.TheVariants.{Junctions, Reservoirs}
 use Rattle.hyd_spec_input.specs.Project.{IsReservoir}
-use Rattle.hyd_rows_and_tables.specs.FirstWrongRow.{rows_at}
-use Rattle.hyd_rows_and_tables.proofs.FoundLemmas.{row_at}
+use Rattle.hyd_rows_and_tables.specs.RowsOfLines.{rows_at}
+use Rattle.hyd_rows_and_tables.proofs.FirstWrongRowLemmas.{row_at}
 use Rattle.hyd_build_nodes.proofs.RowsWithoutFault.{alone, built_more, built_same}
 use Rattle.hyd_build_nodes.proofs.ReservoirLemmas.{reservoir_is, head_is_small}
 use Rattle.hyd_build_nodes.proofs.reservoirs.add_row.Goals as goal

@@ -1,6 +1,6 @@
 use Rattle.hyd_spec_lines.specs.declared.section.Section.TheVariants.{Reservoirs}
 use Rattle.hyd_spec_input.specs.Project.{IsReservoir}
-use Rattle.hyd_rows_and_tables.specs.FirstWrongRow.{rows_at}
+use Rattle.hyd_rows_and_tables.specs.RowsOfLines.{rows_at}
 use Rattle.hyd_build_nodes.proofs.RowsWithoutFault.{built_all}
 use Rattle.hyd_build_nodes.proofs.reservoirs.build_reservoirs.Goals as goal
 

@@ -1,8 +1,8 @@
 use Rattle.std.proofs.Common.{take}
 use Rattle.hyd_spec_lines.specs.declared.section.Section.TheVariants.{Reservoirs}
 use Rattle.hyd_spec_input.specs.Project.{Match, IsReservoir}
-use Rattle.hyd_spec_input.specs.Tables.{rows_of}
-use Rattle.hyd_rows_and_tables.specs.FirstWrongRow.{rows_at}
+use Rattle.hyd_spec_input.specs.SectionsAndTables.{rows_of}
+use Rattle.hyd_rows_and_tables.specs.RowsOfLines.{rows_at}
 use Rattle.hyd_build_nodes.proofs.reservoirs.build_reservoirs.Given as goal
 
 abbrev pub invariant-loop-place : goal.invariant-loop-place

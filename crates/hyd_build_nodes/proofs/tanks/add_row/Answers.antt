@@ -2,8 +2,8 @@ use Rattle.std.proofs.Common.{sym, ◌∙◌}
 use Rattle.hyd_spec_lines.specs.declared.line.Line.{Line}
 use Rattle.hyd_spec_lines.specs.declared.section.Section.TheVariants.{Junctions, Tanks}
 use Rattle.hyd_spec_input.specs.Project.{IsTank}
-use Rattle.hyd_rows_and_tables.specs.FirstWrongRow.{rows_at}
-use Rattle.hyd_rows_and_tables.proofs.FoundLemmas.{row_at}
+use Rattle.hyd_rows_and_tables.specs.RowsOfLines.{rows_at}
+use Rattle.hyd_rows_and_tables.proofs.FirstWrongRowLemmas.{row_at}
 use Rattle.hyd_build_nodes.proofs.RowsWithoutFault.{alone, built_same}
 use Rattle.hyd_build_nodes.proofs.TankLemmas.{are_small, tank_more}
 use Rattle.hyd_build_nodes.proofs.tanks.add_row.Goals as goal

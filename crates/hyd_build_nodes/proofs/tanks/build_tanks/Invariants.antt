@@ -1,8 +1,8 @@
 use Rattle.std.proofs.Common.{take}
 use Rattle.hyd_spec_lines.specs.declared.section.Section.TheVariants.{Tanks}
 use Rattle.hyd_spec_input.specs.Project.{Match, IsTank}
-use Rattle.hyd_spec_input.specs.Tables.{rows_of}
-use Rattle.hyd_rows_and_tables.specs.FirstWrongRow.{rows_at}
+use Rattle.hyd_spec_input.specs.SectionsAndTables.{rows_of}
+use Rattle.hyd_rows_and_tables.specs.RowsOfLines.{rows_at}
 use Rattle.hyd_build_nodes.proofs.tanks.build_tanks.Given as goal
 
 abbrev pub invariant-loop-place : goal.invariant-loop-place

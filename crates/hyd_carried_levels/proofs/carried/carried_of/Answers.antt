@@ -1,10 +1,10 @@
 use Rattle.std.proofs.Common.{◌∙◌, ap, sym, subst}
 use Rattle.hyd_spec.specs.Tank.{walls_of}
-use Rattle.hyd_spec_certificates.specs.Spans.{flows_of}
+use Rattle.hyd_spec_certificates.specs.SpansAsIntervals.{flows_of}
 use Rattle.hyd_spec_certificates.specs.Interval.{Interval}
 use Rattle.hyd_spec_certificates.specs.Stocks.{Stocks, carried_levels}
 use Rattle.hyd_tank.specs.StockIntervals.{stocks_of, AreHeld}
-use Rattle.hyd_watched_levels.specs.FactsBeforeEnd.{stocks_in}
+use Rattle.hyd_period_facts.specs.FactsBeforeEnd.{stocks_in}
 use Rattle.hyd_tank.proofs.TanksOfSoundNetworks.{carried_is}
 use Rattle.hyd_carried_levels.proofs.carried.carried_of.Goals as goal
 

@@ -2,7 +2,7 @@ use Rattle.std.proofs.Common.{ap}
 use Rattle.hyd_cases_of_runs.proofs.two_tank_town_ends.grids.Goals as goal
 use Rattle.hyd_cases_of_runs.proofs.TwoTankTownAsOneValue.{town_is}
 use Rattle.std.specs.Prelude.{map}
-use Rattle.hyd_spec.specs.DemandsReservoirHeadsAndCurves.{demand_of, reservoir_head}
+use Rattle.hyd_spec.specs.DemandsHeadsAndPumpLifts.{demand_of, reservoir_head}
 use Rattle.hyd_spec_certificates.specs.PeriodNetwork.{grid_links, tank_intervals}
 use Rattle.hyd_spec_certificates.specs.Decided.{links_at}
 use Rattle.hyd_cases_of_runs.specs.TwoTankTownPeriods.{standing_at_two, standing_when_full}

@@ -3,7 +3,7 @@ use Rattle.hyd_cases_of_runs.proofs.two_tank_town_report.statuses.Goals as goal
 use Rattle.hyd_cases_of_runs.proofs.TwoTankTownAsOneValue.{town_is}
 use Rattle.std.specs.Prelude.{slice_index_or}
 use Rattle.hyd_spec.specs.Lists.{map_from}
-use Rattle.hyd_spec.specs.DemandsReservoirHeadsAndCurves.{is_us}
+use Rattle.hyd_spec.specs.DemandsHeadsAndPumpLifts.{is_us}
 use Rattle.hyd_spec.specs.Rules.{state_of_link}
 use Rattle.hyd_spec_certificates.specs.FlowIntervals.{difference}
 use Rattle.hyd_spec_certificates.specs.Decided.{links_at, heads_below, heads_above}

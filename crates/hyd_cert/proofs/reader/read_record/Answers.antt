@@ -4,7 +4,7 @@ use Rattle.hyd_io.specs.DeskBytes.{prepend_known}
 use Rattle.hyd_spec_reports.specs.CertificateText.{words}
 use Rattle.hyd_cert.specs.Lines.{end_word}
 use Rattle.hyd_cert.specs.RecordView.{header_of}
-use Rattle.hyd_cert.specs.NextLine.{NextFits, next_text}
+use Rattle.hyd_cert.specs.PeriodOrEndLine.{NextFits, next_text}
 use Rattle.hyd_cert.specs.declared.lines.Next.{Next}
 use Rattle.hyd_cert.specs.declared.lines.Next.TheVariants.{Period, End}
 use Rattle.hyd_cert.proofs.HeadLemmas.{stuck_between, stuck_in_heads, stuck_behind, period_is, end_is}

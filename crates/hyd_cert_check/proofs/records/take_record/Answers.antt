@@ -1,6 +1,6 @@
 -- What was read, and what was found of it.
 use Rattle.std.proofs.Common.{◌∙◌, refl}
-use Rattle.hyd_sim.specs.View.{header_for}
+use Rattle.hyd_sim.specs.RunView.{header_for}
 use Rattle.hyd_run.specs.Pens.{told}
 use Rattle.hyd_cert_check.specs.ReaderAndPen.{moment}
 use Rattle.hyd_cert_check.specs.RecordByRecord.{in_reading, in_report}

@@ -1,6 +1,6 @@
 -- One record after another.
 use Rattle.std.proofs.Common.{◌∙◌, sym, ap}
-use Rattle.hyd_sim.specs.View.{header_for}
+use Rattle.hyd_sim.specs.RunView.{header_for}
 use Rattle.hyd_cert_check.proofs.RecordByRecordLemmas.{turn-more, turn-over, turn-lost, goes-on}
 use Rattle.hyd_cert_check.proofs.records.take_records.Goals as goal
 

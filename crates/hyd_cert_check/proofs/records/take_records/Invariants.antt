@@ -2,7 +2,7 @@ use Rattle.std.proofs.Common.{◌≡◌, None}
 use Rattle.hyd_cert.specs.RecordView.{header_of}
 use Rattle.hyd_run.specs.Pens.{told}
 use Rattle.hyd_run.specs.Runs.{periods_left}
-use Rattle.hyd_sim.specs.View.{header_for, standing_of}
+use Rattle.hyd_sim.specs.RunView.{header_for, standing_of}
 use Rattle.hyd_cert_check.specs.ReaderAndPen.{CheckMoment, moment}
 use Rattle.hyd_cert_check.specs.RecordByRecord.{CanGoOn, IsSoFar}
 use Rattle.hyd_cert_check.proofs.records.take_records.Given as goal

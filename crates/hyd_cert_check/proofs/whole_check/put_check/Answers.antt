@@ -1,7 +1,7 @@
 -- The first line, the records, and the last line.
 use Rattle.std.proofs.Common.{sym, subst, refl}
 use Rattle.hyd_cert.specs.ReaderView.{ReaderView, IsGoing}
-use Rattle.hyd_sim.specs.View.{standing_of}
+use Rattle.hyd_sim.specs.RunView.{standing_of}
 use Rattle.hyd_cert_check.specs.declared.outcome.CheckFault.TheVariants.{Output}
 use Rattle.hyd_cert_check.proofs.PenLemmas.{not_cert, put-in, put-cut-off}
 use Rattle.hyd_cert_check.proofs.WholeCheckLemmas.{so-far-begun, first-cut-short, ending-puts}

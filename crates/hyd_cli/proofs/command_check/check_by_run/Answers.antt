@@ -1,7 +1,7 @@
 -- The record has the version and the counts of the run's network.
 use Rattle.std.proofs.Common.{◌∙◌, ap, sym, subst}
 use Rattle.hyd_net.specs.Sound.{IsSound}
-use Rattle.hyd_sim.specs.View.{header_for}
+use Rattle.hyd_sim.specs.RunView.{header_for}
 use Rattle.hyd_cli.proofs.CheckLemmas.{prints_nothing}
 use Rattle.hyd_cli.proofs.command_check.check_by_run.Goals as goal
 

@@ -2,7 +2,7 @@
 use Rattle.std.proofs.Common.{rules, inl, inr, sym, ap, ◌∙◌}
 use Rattle.std.proofs.lemmas.Result.{IfOk-weaker, IfErr-weaker}
 use Rattle.hyd_io.specs.declared.desk.Openings.{Openings}
-use Rattle.hyd_io.specs.FailureCounts.{with_created}
+use Rattle.hyd_io.specs.DeskCounts.{with_created}
 use Rattle.hyd_run.specs.Pens.{told}
 use Rattle.hyd_run.specs.Runs.{outcome_of}
 use Rattle.hyd_command_words.specs.CommandView.{files_seen}

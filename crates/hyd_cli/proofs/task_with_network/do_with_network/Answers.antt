@@ -3,7 +3,7 @@ use Rattle.std.proofs.Common.{subst}
 use Rattle.hyd_spec.specs.ProgramTypes.{Project}
 use Rattle.hyd_cli.specs.DeskContents.{seen}
 use Rattle.hyd_cli.specs.TaskWithNetwork.{DoesTask}
-use Rattle.hyd_cli.proofs.TaskLemmas.{does_nothing}
+use Rattle.hyd_cli.proofs.TaskWithoutMemory.{does_nothing}
 use Rattle.hyd_cli.proofs.task_with_network.do_with_network.Goals as goal
 
 pub returns-in-Ok-clause-does : goal.returns-in-Ok-clause-does

@@ -9,7 +9,7 @@ use Rattle.hyd_cli.specs.DeskContents.{seen}
 use Rattle.hyd_cli.specs.Answers.{Leaves}
 use Rattle.hyd_cli.specs.RunAnswers.{AnswersText}
 use Rattle.hyd_cli.specs.Commands.{DoesRun, DoesCheck, DoesGen}
-use Rattle.hyd_cli.proofs.CommandLemmas.{same_run, same_check, same_gen_order}
+use Rattle.hyd_cli.proofs.CommandsOfWords.{same_run, same_check, same_gen_order}
 use Rattle.hyd_cli.proofs.whole_command.carry_out.Goals as goal
 
 pub returns-in-Some-Run-clause-runs : goal.returns-in-Some-Run-clause-runs
@@ -18,15 +18,15 @@ returns-in-Some-Run-clause-runs g c order asked =
     let kind : c.in-Some-Run.field-0 ≡ Run words = rw c.in-Some-Run.is at c.in-Some-Run.field-0-is in
     let found : c.args.found ≡ Some (Run words) = c.in-Some-Run.is ∙ ap Some kind in
     let before = seen g.D.Desk.files g.D.Desk.written g.D.Desk.printed c.args.desk.now in
-    let now = seen g.D.Desk.files g.D.Desk.written g.D.Desk.printed c.run.new.desk in
-    subst (λ (o : RunOrder). DoesRun o c.run.result before now (g.D.Desk.openings c.args.desk.now)
-    (g.D.Desk.openings c.run.new.desk)) (sym (same_run words c.args.found order found asked)) (record {
-      refused = c.run.ensures.refused;
-      runs = λ text told none. subst (λ (s : Settings). AnswersText text s (run_seen words).files.cert c.run.result
-          before now) c.settings_of.ensures (c.run.ensures.run text told none);
-      holds = c.run.ensures.holds;
-      others = c.run.ensures.others;
-      once = c.run.ensures.once;
+    let now = seen g.D.Desk.files g.D.Desk.written g.D.Desk.printed c.run_files.new.desk in
+    subst (λ (o : RunOrder). DoesRun o c.run_files.result before now (g.D.Desk.openings c.args.desk.now)
+    (g.D.Desk.openings c.run_files.new.desk)) (sym (same_run words c.args.found order found asked)) (record {
+      refused = c.run_files.ensures.refused;
+      runs = λ text told none. subst (λ (s : Settings). AnswersText text s (run_seen words).files.cert c.run_files.result
+          before now) c.settings_of.ensures (c.run_files.ensures.run text told none);
+      holds = c.run_files.ensures.holds;
+      others = c.run_files.ensures.others;
+      once = c.run_files.ensures.once;
     })
 
 pub returns-in-Some-Check-clause-leaves : goal.returns-in-Some-Check-clause-leaves

@@ -1,7 +1,7 @@
 -- The command of the words is the one that is carried out.
 use Rattle.std.proofs.Common.{sym, ◌∙◌, map}
 use Rattle.std.specs.Prelude.{string_bytes}
-use Rattle.hyd_cli.proofs.CommandLemmas.{names_apart}
+use Rattle.hyd_cli.proofs.CommandsOfWords.{names_apart}
 use Rattle.hyd_cli.proofs.whole_command.tool.Goals as goal
 
 pub carry_out-requires-clause-apart : goal.carry_out-requires-clause-apart

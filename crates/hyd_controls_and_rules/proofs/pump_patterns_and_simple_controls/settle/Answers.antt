@@ -1,9 +1,9 @@
 use Rattle.std.proofs.Common.{◌∙◌, ap, map, List}
 use Rattle.hyd_spec.specs.ProgramTypes.{LinkState}
 use Rattle.hyd_spec.specs.PumpPatternsAndSimpleControls.{controlled}
-use Rattle.hyd_spec_certificates.specs.Spans.{levels_of}
+use Rattle.hyd_spec_certificates.specs.SpansAsIntervals.{levels_of}
 use Rattle.hyd_spec_certificates.specs.Decided.{acts_on}
-use Rattle.hyd_controls_and_rules.proofs.Settled.{start_is}
+use Rattle.hyd_controls_and_rules.proofs.SameStartAtEveryLevel.{start_is}
 use Rattle.hyd_controls_and_rules.proofs.pump_patterns_and_simple_controls.settle.Goals as goal
 
 pub returns-clause-holds : goal.returns-clause-holds

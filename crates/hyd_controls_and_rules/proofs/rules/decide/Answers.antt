@@ -1,10 +1,10 @@
 use Rattle.std.proofs.Common.{map, subst}
 use Rattle.hyd_spec.specs.ProgramTypes.{Rule}
-use Rattle.hyd_spec_certificates.specs.Spans.{levels_of, flows_of}
+use Rattle.hyd_spec_certificates.specs.SpansAsIntervals.{levels_of, flows_of}
 use Rattle.hyd_spec_certificates.specs.Decided.{IsTruthBetween}
 use Rattle.hyd_controls_and_rules.specs.RuleReadings.{lower_readings, upper_readings}
 use Rattle.hyd_controls_and_rules.proofs.OpenClausesOfRules.{sound_rule, rule_is}
-use Rattle.hyd_controls_and_rules.proofs.Truths.{truth_holds, truth_stays}
+use Rattle.hyd_controls_and_rules.proofs.TruthsBetweenReadings.{truth_holds, truth_stays}
 use Rattle.hyd_controls_and_rules.proofs.rules.decide.Goals as goal
 
 pub rule_truth-requires-clause-rule : goal.rule_truth-requires-clause-rule

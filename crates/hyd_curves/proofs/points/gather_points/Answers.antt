@@ -1,5 +1,5 @@
 use Rattle.std.proofs.Common.{ap, ℕ, length, subst}
-use Rattle.hyd_rows_and_tables.specs.FirstWrongRow.{rows_at}
+use Rattle.hyd_rows_and_tables.specs.RowsOfLines.{rows_at}
 use Rattle.hyd_rows_and_tables.specs.IdTables.{AreEmpty}
 use Rattle.hyd_curves.proofs.PointLemmas.{before_rows, after_rows}
 use Rattle.hyd_curves.proofs.points.gather_points.Goals as goal

@@ -3,7 +3,7 @@ use Rattle.std.specs.Int.{w128}
 use Rattle.std.proofs.lemmas.Int.{ints, to_z-of_z}
 use Rattle.hyd_curves.specs.PointsAsKnots.{knot_of}
 use Rattle.hyd_lemmas.proofs.BooleanTests.{lt_z-yes}
-use Rattle.hyd_curves.proofs.LineLemmas.{low_is, high_is}
+use Rattle.hyd_curves.proofs.LinesBetweenKnots.{low_is, high_is}
 use Rattle.hyd_curves.proofs.pumps.begins_low.Goals as goal
 
 pub returns-then-first-gt-GREATEST_SHUTOFF_HEAD : goal.returns-then-first-gt-GREATEST_SHUTOFF_HEAD

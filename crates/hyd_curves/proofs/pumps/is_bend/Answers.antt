@@ -2,7 +2,7 @@ use Rattle.std.proofs.Common.{◌∙◌}
 use Rattle.hyd_num.specs.FileQuantity.{is_us_unit}
 use Rattle.hyd_spec_input.specs.Curves.{head_point}
 use Rattle.hyd_curves.specs.Points.{point_in}
-use Rattle.hyd_curves.proofs.StraightLineCurveLemmas.{AreTicks, bend, FirstTwoPoints, two_begin}
+use Rattle.hyd_curves.proofs.PumpAndValveCurveTestLemmas.{AreTicks, bend, FirstTwoPoints, two_begin}
 use Rattle.hyd_curves.proofs.pumps.is_bend.Goals as goal
 
 begins : (c : goal.After-head_point-2) → FirstTwoPoints (bend c.args.unit c.args.points.now) c.head_point.result

@@ -1,5 +1,5 @@
 use Rattle.std.proofs.Common.{◌∙◌}
-use Rattle.hyd_curves.proofs.StraightLineCurveLemmas.{ends_are}
+use Rattle.hyd_curves.proofs.PumpAndValveCurveTestLemmas.{ends_are}
 use Rattle.hyd_curves.proofs.pumps.is_forward.Goals as goal
 
 pub returns : goal.returns

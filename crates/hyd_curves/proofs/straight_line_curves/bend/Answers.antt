@@ -1,5 +1,5 @@
 use Rattle.std.proofs.Common.{arith}
-use Rattle.hyd_curves.proofs.StraightLineCurveRowLemmas.{small_at}
+use Rattle.hyd_curves.proofs.StraightLineCurveLemmas.{small_at}
 use Rattle.hyd_curves.proofs.straight_line_curves.bend.Goals as goal
 
 pub bend_point-requires : goal.bend_point-requires

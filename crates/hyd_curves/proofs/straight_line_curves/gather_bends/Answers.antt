@@ -1,4 +1,4 @@
-use Rattle.hyd_curves.proofs.StraightLineCurveRowLemmas.{all_bends}
+use Rattle.hyd_curves.proofs.StraightLineCurveLemmas.{all_bends}
 use Rattle.hyd_curves.proofs.straight_line_curves.gather_bends.Goals as goal
 
 pub returns : goal.returns

@@ -1,5 +1,5 @@
-use Rattle.hyd_rows_and_tables.specs.FirstWrongRow.{rows_at}
-use Rattle.hyd_curves.proofs.StraightLineCurveRowLemmas.{no_bends, all_pumps}
+use Rattle.hyd_rows_and_tables.specs.RowsOfLines.{rows_at}
+use Rattle.hyd_curves.proofs.StraightLineCurveLemmas.{no_bends, all_pumps}
 use Rattle.hyd_curves.proofs.straight_line_curves.pump_bends.Goals as goal
 
 pub loop-place-init : goal.loop-place-init

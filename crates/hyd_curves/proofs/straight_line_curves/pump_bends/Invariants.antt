@@ -1,4 +1,4 @@
-use Rattle.hyd_rows_and_tables.specs.FirstWrongRow.{rows_at}
+use Rattle.hyd_rows_and_tables.specs.RowsOfLines.{rows_at}
 use Rattle.hyd_curves.specs.NamedStraightLineCurves.{AreOfPumps}
 use Rattle.hyd_curves.proofs.straight_line_curves.pump_bends.Given as goal
 

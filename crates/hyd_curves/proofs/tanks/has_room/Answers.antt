@@ -1,7 +1,7 @@
 use Rattle.std.proofs.Common.{FitsSigned, ◌-ℤ◌, refl, arith}
 use Rattle.std.specs.Int.{w128}
 use Rattle.std.proofs.lemmas.Int.{ints, to_z-of_z}
-use Rattle.hyd_curves.proofs.VolumeCurveLemmas.{shape, covered_small}
+use Rattle.hyd_curves.proofs.TankCurveTestLemmas.{shape, covered_small}
 use Rattle.hyd_curves.proofs.tanks.has_room.Goals as goal
 
 pub volume_up_to-requires-clause-level : goal.volume_up_to-requires-clause-level

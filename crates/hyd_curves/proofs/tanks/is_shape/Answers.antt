@@ -1,7 +1,7 @@
 use Rattle.std.proofs.Common.{sym, ◌∙◌}
 use Rattle.std.specs.Int.{w128}
 use Rattle.std.proofs.lemmas.Int.{to_z-of_z}
-use Rattle.hyd_curves.proofs.VolumeCurveLemmas.{all_but_room, two_points}
+use Rattle.hyd_curves.proofs.TankCurveTestLemmas.{all_but_room, two_points}
 use Rattle.hyd_curves.proofs.tanks.is_shape.Goals as goal
 
 pub returns : goal.returns

@@ -1,7 +1,7 @@
 use Rattle.std.proofs.Common.{◌∙◌}
 use Rattle.std.specs.Int.{w128}
 use Rattle.std.proofs.lemmas.Int.{to_z-of_z}
-use Rattle.hyd_curves.proofs.VolumeCurveLemmas.{ends_are}
+use Rattle.hyd_curves.proofs.TankCurveTestLemmas.{ends_are}
 use Rattle.hyd_curves.proofs.tanks.spans.Goals as goal
 
 pub returns : goal.returns

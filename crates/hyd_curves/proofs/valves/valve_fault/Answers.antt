@@ -1,4 +1,4 @@
-use Rattle.hyd_curves.proofs.StraightLineCurveLemmas.{valve_right}
+use Rattle.hyd_curves.proofs.PumpAndValveCurveTestLemmas.{valve_right}
 use Rattle.hyd_curves.proofs.valves.valve_fault.Goals as goal
 
 pub returns : goal.returns

@@ -2,7 +2,7 @@ use Rattle.std.proofs.Common.{◌≤◌, ℤ, unsigned_abs, ◌-ℤ◌, to_z, of
 use Rattle.std.specs.Int.{w128}
 use Rattle.std.proofs.lemmas.Int.{ints, to_z-of_z}
 use Rattle.hyd_curves.specs.PointsAsKnots.{knot_of}
-use Rattle.hyd_curves.proofs.LineLemmas.{floor_is, quotient_small}
+use Rattle.hyd_curves.proofs.LinesBetweenKnots.{floor_is, quotient_small}
 use Rattle.hyd_curves.proofs.volume_at_level.volume_between.Goals as goal
 
 pub returns-clause-value : goal.returns-clause-value

@@ -1,7 +1,7 @@
 use Rattle.std.proofs.Common.{to_z, of_z, FitsSigned, arith, sym, ◌∙◌}
 use Rattle.std.specs.Int.{w128}
 use Rattle.std.proofs.lemmas.Int.{ints, to_z-of_z}
-use Rattle.hyd_curves.proofs.VolumeCurveLemmas.{AreTicks, small, walk_on, walk_ends, walk_alone, next_two}
+use Rattle.hyd_curves.proofs.TankCurveTestLemmas.{AreTicks, small, walk_on, walk_ends, walk_alone, next_two}
 use Rattle.hyd_curves.proofs.volume_at_level.volume_up_to.Goals as goal
 
 pub volume_between-requires-clause-first : goal.volume_between-requires-clause-first

@@ -1,5 +1,5 @@
 use Rattle.std.proofs.Common.{length}
-use Rattle.hyd_curves.proofs.VolumeCurveLemmas.{IsWalked}
+use Rattle.hyd_curves.proofs.TankCurveTestLemmas.{IsWalked}
 use Rattle.hyd_curves.proofs.volume_at_level.volume_up_to.Given as goal
 
 abbrev pub invariant-loop-next : goal.invariant-loop-next

@@ -1,5 +1,5 @@
-use Rattle.hyd_rows_and_tables.specs.FirstWrongRow.{rows_at}
-use Rattle.hyd_curves.proofs.TankRowLemmas.{no_shapes, all_shapes}
+use Rattle.hyd_rows_and_tables.specs.RowsOfLines.{rows_at}
+use Rattle.hyd_curves.proofs.VolumeCurveLemmas.{no_shapes, all_shapes}
 use Rattle.hyd_curves.proofs.volume_curves.gather_shapes.Goals as goal
 
 pub loop-place-init : goal.loop-place-init

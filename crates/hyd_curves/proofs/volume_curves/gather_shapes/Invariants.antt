@@ -1,4 +1,4 @@
-use Rattle.hyd_rows_and_tables.specs.FirstWrongRow.{rows_at}
+use Rattle.hyd_rows_and_tables.specs.RowsOfLines.{rows_at}
 use Rattle.hyd_curves.specs.NamedVolumeCurves.{AreShapesAt}
 use Rattle.hyd_curves.proofs.volume_curves.gather_shapes.Given as goal
 

@@ -1,5 +1,5 @@
 use Rattle.std.proofs.Common.{arith}
-use Rattle.hyd_curves.proofs.TankRowLemmas.{small_at}
+use Rattle.hyd_curves.proofs.VolumeCurveLemmas.{small_at}
 use Rattle.hyd_curves.proofs.volume_curves.shape.Goals as goal
 
 pub shape_point-requires : goal.shape_point-requires

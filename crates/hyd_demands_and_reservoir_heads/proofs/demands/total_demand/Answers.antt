@@ -2,8 +2,8 @@ use Rattle.std.proofs.Common.{pos, List, None, map, arith}
 use Rattle.std.proofs.lemmas.Int.{ints}
 use Rattle.std.proofs.lemmas.List.{at_drop_more}
 use Rattle.hyd_net.specs.declared.nodes.Demand.{Demand}
-use Rattle.hyd_spec.specs.Scale.{total}
-use Rattle.hyd_spec.specs.DemandsReservoirHeadsAndCurves.{category_demand}
+use Rattle.hyd_spec.specs.Lists.{total}
+use Rattle.hyd_spec.specs.DemandsHeadsAndPumpLifts.{category_demand}
 use Rattle.hyd_demands_and_reservoir_heads.proofs.demands.total_demand.Goals as goal
 
 pub loop-category-preserved : goal.loop-category-preserved

@@ -1,6 +1,6 @@
 use Rattle.std.proofs.Common.{◌≡◌, ◌≤◌, ◌*◌, ◌^◌, ◌+ℤ◌, unsigned_abs, map, drop}
-use Rattle.hyd_spec.specs.Scale.{total}
-use Rattle.hyd_spec.specs.DemandsReservoirHeadsAndCurves.{category_demand}
+use Rattle.hyd_spec.specs.Lists.{total}
+use Rattle.hyd_spec.specs.DemandsHeadsAndPumpLifts.{category_demand}
 use Rattle.hyd_demands_and_reservoir_heads.proofs.demands.total_demand.Given as goal
 
 abbrev pub invariant-loop-category : goal.invariant-loop-category

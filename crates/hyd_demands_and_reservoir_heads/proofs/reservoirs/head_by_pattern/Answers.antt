@@ -1,7 +1,7 @@
 use Rattle.std.proofs.Common.{◌≤◌, ◌^◌, unsigned_abs, to_z, of_z, arith}
 use Rattle.std.specs.Int.{w128}
 use Rattle.std.proofs.lemmas.Int.{ints}
-use Rattle.hyd_spec.specs.DemandsReservoirHeadsAndCurves.{multiplier_at}
+use Rattle.hyd_spec.specs.DemandsHeadsAndPumpLifts.{multiplier_at}
 use Rattle.hyd_demands_and_reservoir_heads.proofs.DemandsAndReservoirHeads.{head_small}
 use Rattle.hyd_demands_and_reservoir_heads.proofs.reservoirs.head_by_pattern.Goals as goal
 

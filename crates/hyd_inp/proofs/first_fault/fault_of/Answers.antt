@@ -1,6 +1,7 @@
 use Rattle.std.proofs.Common.{length, subst, sym, ◌∙◌}
 use Rattle.hyd_spec_input.specs.Faults.{IsWrongWithOthers}
-use Rattle.hyd_rows_and_tables.specs.FirstWrongRow.{HasFound, rows_at}
+use Rattle.hyd_rows_and_tables.specs.FirstWrongRow.{HasFound}
+use Rattle.hyd_rows_and_tables.specs.RowsOfLines.{rows_at}
 use Rattle.hyd_inp.proofs.FaultFromFindings.{fault_alone, none_alone, fault_of_lines, fault_among, none_among}
 use Rattle.hyd_inp.proofs.FaultFromFindings.{fault_of_all}
 use Rattle.hyd_inp.proofs.FaultFromFindings.{no_fault}

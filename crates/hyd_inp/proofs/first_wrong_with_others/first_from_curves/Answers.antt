@@ -1,7 +1,7 @@
 use Rattle.hyd_spec_lines.specs.declared.section.Section.TheVariants.{Curves}
-use Rattle.hyd_spec_input.specs.Tables.{is_of}
-use Rattle.hyd_inp.specs.SectionFamilies.{from_nodes}
-use Rattle.hyd_inp.proofs.Families.{found_next}
+use Rattle.hyd_spec_input.specs.SectionsAndTables.{is_of}
+use Rattle.hyd_inp.specs.SectionsInJudgingOrder.{from_nodes}
+use Rattle.hyd_inp.proofs.FirstWrongAmongSections.{found_next}
 use Rattle.hyd_inp.proofs.first_wrong_with_others.first_from_curves.Goals as goal
 
 pub returns : goal.returns

@@ -1,6 +1,6 @@
-use Rattle.hyd_spec_input.specs.Tables.{is_link}
-use Rattle.hyd_inp.specs.SectionFamilies.{commands}
-use Rattle.hyd_inp.proofs.Families.{found_next}
+use Rattle.hyd_spec_input.specs.SectionsAndTables.{is_link}
+use Rattle.hyd_inp.specs.SectionsInJudgingOrder.{commands}
+use Rattle.hyd_inp.proofs.FirstWrongAmongSections.{found_next}
 use Rattle.hyd_inp.proofs.first_wrong_with_others.first_from_links.Goals as goal
 
 pub returns : goal.returns

@@ -1,6 +1,6 @@
-use Rattle.hyd_spec_input.specs.Tables.{is_node}
-use Rattle.hyd_inp.specs.SectionFamilies.{behind_nodes}
-use Rattle.hyd_inp.proofs.Families.{found_next}
+use Rattle.hyd_spec_input.specs.SectionsAndTables.{is_node}
+use Rattle.hyd_inp.specs.SectionsInJudgingOrder.{behind_nodes}
+use Rattle.hyd_inp.proofs.FirstWrongAmongSections.{found_next}
 use Rattle.hyd_inp.proofs.first_wrong_with_others.first_from_nodes.Goals as goal
 
 pub returns : goal.returns

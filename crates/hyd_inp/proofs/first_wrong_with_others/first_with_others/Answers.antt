@@ -1,9 +1,9 @@
 use Rattle.std.proofs.Common.{length}
 use Rattle.hyd_spec_lines.specs.declared.section.Section.TheVariants.{Options, Patterns}
-use Rattle.hyd_spec_input.specs.Tables.{is_of}
-use Rattle.hyd_rows_and_tables.specs.FirstWrongRow.{rows_at}
-use Rattle.hyd_inp.specs.SectionFamilies.{Both, from_curves}
-use Rattle.hyd_inp.proofs.Families.{found_next, found_all}
+use Rattle.hyd_spec_input.specs.SectionsAndTables.{is_of}
+use Rattle.hyd_rows_and_tables.specs.RowsOfLines.{rows_at}
+use Rattle.hyd_inp.specs.SectionsInJudgingOrder.{Both, from_curves}
+use Rattle.hyd_inp.proofs.FirstWrongAmongSections.{found_next, found_all}
 use Rattle.hyd_inp.proofs.first_wrong_with_others.first_with_others.Goals as goal
 
 pub returns : goal.returns

@@ -1,9 +1,9 @@
 use Rattle.std.proofs.Common.{sym, ◌∙◌, filter, take}
 use Rattle.hyd_spec_lines.specs.declared.line.Line.{Line}
 use Rattle.hyd_spec_lines.specs.declared.section.Section.TheVariants.{Junctions}
-use Rattle.hyd_rows_and_tables.specs.FirstWrongRow.{rows_at}
-use Rattle.hyd_rows_and_tables.proofs.FoundLemmas.{row_at}
-use Rattle.hyd_rows_and_tables.proofs.SectionLemmas.{table_of_all}
+use Rattle.hyd_rows_and_tables.specs.RowsOfLines.{rows_at}
+use Rattle.hyd_rows_and_tables.proofs.FirstWrongRowLemmas.{row_at}
+use Rattle.hyd_rows_and_tables.proofs.WrongInSectionLemmas.{table_of_all}
 use Rattle.hyd_inp.specs.IdTables.{is_kind}
 use Rattle.hyd_inp.proofs.TableRows.{pass_over, add_row}
 use Rattle.hyd_inp.proofs.tables.table_of.Goals as goal

@@ -1,4 +1,4 @@
-use Rattle.hyd_rows_and_tables.specs.FirstWrongRow.{rows_at}
+use Rattle.hyd_rows_and_tables.specs.RowsOfLines.{rows_at}
 use Rattle.hyd_inp.specs.IdTables.{is_kind}
 use Rattle.hyd_inp.proofs.TableRows.{IsTableUpTo}
 use Rattle.hyd_inp.proofs.tables.table_of.Given as goal

@@ -1,4 +1,4 @@
-use Rattle.hyd_rows_and_tables.specs.FirstWrongRow.{rows_at}
+use Rattle.hyd_rows_and_tables.specs.RowsOfLines.{rows_at}
 use Rattle.hyd_judge_links.specs.LinksSoFar.{AreLinks}
 use Rattle.hyd_judge_links.proofs.links.judge_links.Given as goal
 

@@ -1,9 +1,9 @@
 use Rattle.std.proofs.Common.{refl, arith, length, ap}
 use Rattle.hyd_spec_lines.specs.declared.section.Section.TheVariants.{Curves}
-use Rattle.hyd_spec_input.specs.Tables.{is_of}
-use Rattle.hyd_rows_and_tables.specs.FirstWrongRow.{rows_at}
+use Rattle.hyd_spec_input.specs.SectionsAndTables.{is_of}
+use Rattle.hyd_rows_and_tables.specs.RowsOfLines.{rows_at}
 use Rattle.hyd_rows_and_tables.specs.WrongInSection.{IsWrongIn}
-use Rattle.hyd_rows_and_tables.proofs.SectionLemmas.{table_of_all, found_fewer}
+use Rattle.hyd_rows_and_tables.proofs.WrongInSectionLemmas.{table_of_all, found_fewer}
 use Rattle.hyd_judge_nodes_curves_and_options.proofs.curves.judge_curves.Goals as goal
 
 pub loop-place-init : goal.loop-place-init

@@ -3,7 +3,7 @@ use Rattle.std.proofs.lemmas.Int.{ints}
 use Rattle.hyd_num.specs.declared.decimals.Decimal.{Decimal}
 use Rattle.hyd_num.specs.declared.link_capacities.Origin.TheVariants.{Emitter}
 use Rattle.hyd_num.specs.CapacityRange.{IsRefused}
-use Rattle.hyd_net.proofs.Equal.{Decimal-equal}
+use Rattle.hyd_net.proofs.EqualValues.{Decimal-equal}
 use Rattle.hyd_judge_nodes_curves_and_options.proofs.emitters.capacity_fault.Goals as goal
 
 pub returns-in-Ok : goal.returns-in-Ok

@@ -1,9 +1,9 @@
 use Rattle.std.proofs.Common.{sym, ◌∙◌}
 use Rattle.hyd_spec_lines.specs.declared.line.Line.{Line}
 use Rattle.hyd_spec_lines.specs.declared.section.Section.TheVariants.{Junctions}
-use Rattle.hyd_spec_input.specs.Tables.{node_rows}
-use Rattle.hyd_rows_and_tables.specs.FirstWrongRow.{rows_at}
-use Rattle.hyd_rows_and_tables.proofs.FoundLemmas.{row_at}
+use Rattle.hyd_spec_input.specs.SectionsAndTables.{node_rows}
+use Rattle.hyd_rows_and_tables.specs.RowsOfLines.{rows_at}
+use Rattle.hyd_rows_and_tables.proofs.FirstWrongRowLemmas.{row_at}
 use Rattle.hyd_rows_and_tables.proofs.TableLemmas.{even}
 use Rattle.hyd_judge_nodes_curves_and_options.proofs.EmitterLemmas.{emitter_is_right, skip_row, add_row}
 use Rattle.hyd_judge_nodes_curves_and_options.proofs.emitters.further.Goals as goal

@@ -1,5 +1,6 @@
 use Rattle.hyd_spec_lines.specs.declared.section.Section.TheVariants.{Emitters}
-use Rattle.hyd_rows_and_tables.specs.FirstWrongRow.{rows_at, HasFound}
+use Rattle.hyd_rows_and_tables.specs.FirstWrongRow.{HasFound}
+use Rattle.hyd_rows_and_tables.specs.RowsOfLines.{rows_at}
 use Rattle.hyd_rows_and_tables.specs.WrongInSection.{IsWrongIn}
 use Rattle.hyd_judge_nodes_curves_and_options.proofs.emitters.judge_emitters.Given as goal
 

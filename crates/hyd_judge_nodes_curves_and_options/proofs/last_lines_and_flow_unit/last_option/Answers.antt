@@ -1,9 +1,9 @@
 use Rattle.std.proofs.Common.{rules, sym, ◌∙◌}
 use Rattle.hyd_spec_lines.specs.declared.line.Line.{Line}
 use Rattle.hyd_spec_lines.specs.declared.section.Section.TheVariants.{Junctions, Options}
-use Rattle.hyd_spec_input.specs.InForce.{begins}
-use Rattle.hyd_rows_and_tables.specs.FirstWrongRow.{rows_at}
-use Rattle.hyd_rows_and_tables.proofs.FoundLemmas.{row_at}
+use Rattle.hyd_spec_input.specs.OptionsAndTimesInForce.{begins}
+use Rattle.hyd_rows_and_tables.specs.RowsOfLines.{rows_at}
+use Rattle.hyd_rows_and_tables.proofs.FirstWrongRowLemmas.{row_at}
 use Rattle.hyd_rows_and_tables.proofs.LastLines.{last_here, last_before, last_elsewhere}
 use Rattle.hyd_judge_nodes_curves_and_options.proofs.last_lines_and_flow_unit.last_option.Goals as goal
 

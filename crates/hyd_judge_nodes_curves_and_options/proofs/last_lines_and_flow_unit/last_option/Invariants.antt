@@ -1,9 +1,9 @@
 use Rattle.std.proofs.Common.{◌≡◌, take, IfSome}
 use Rattle.hyd_spec_lines.specs.Lines.{LiesIn}
 use Rattle.hyd_spec_lines.specs.declared.section.Section.TheVariants.{Options}
-use Rattle.hyd_spec_input.specs.Tables.{rows_of}
-use Rattle.hyd_spec_input.specs.InForce.{begins, last_where}
-use Rattle.hyd_rows_and_tables.specs.FirstWrongRow.{rows_at, row_in}
+use Rattle.hyd_spec_input.specs.SectionsAndTables.{rows_of}
+use Rattle.hyd_spec_input.specs.OptionsAndTimesInForce.{begins, last_where}
+use Rattle.hyd_rows_and_tables.specs.RowsOfLines.{rows_at, row_in}
 use Rattle.hyd_judge_nodes_curves_and_options.proofs.last_lines_and_flow_unit.last_option.Given as goal
 
 abbrev pub invariant-loop-place : goal.invariant-loop-place

@@ -1,7 +1,7 @@
 use Rattle.std.proofs.Common.{refl, arith, length, ap}
-use Rattle.hyd_spec_input.specs.Tables.{is_node}
-use Rattle.hyd_rows_and_tables.specs.FirstWrongRow.{rows_at}
-use Rattle.hyd_rows_and_tables.proofs.SectionLemmas.{table_of_all, found_fewer}
+use Rattle.hyd_spec_input.specs.SectionsAndTables.{is_node}
+use Rattle.hyd_rows_and_tables.specs.RowsOfLines.{rows_at}
+use Rattle.hyd_rows_and_tables.proofs.WrongInSectionLemmas.{table_of_all, found_fewer}
 use Rattle.hyd_judge_nodes_curves_and_options.specs.JudgedNodes.{IsWrongNode}
 use Rattle.hyd_judge_nodes_curves_and_options.proofs.nodes.judge_nodes.Goals as goal
 

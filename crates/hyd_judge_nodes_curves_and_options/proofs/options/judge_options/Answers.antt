@@ -1,8 +1,8 @@
 use Rattle.std.proofs.Common.{length, arith}
 use Rattle.hyd_spec_lines.specs.declared.section.Section.TheVariants.{Options}
-use Rattle.hyd_rows_and_tables.specs.FirstWrongRow.{rows_at}
+use Rattle.hyd_rows_and_tables.specs.RowsOfLines.{rows_at}
 use Rattle.hyd_rows_and_tables.specs.WrongInSection.{IsWrongIn}
-use Rattle.hyd_rows_and_tables.proofs.SectionLemmas.{found_fewer}
+use Rattle.hyd_rows_and_tables.proofs.WrongInSectionLemmas.{found_fewer}
 use Rattle.hyd_judge_nodes_curves_and_options.proofs.options.judge_options.Goals as goal
 
 pub loop-place-init : goal.loop-place-init

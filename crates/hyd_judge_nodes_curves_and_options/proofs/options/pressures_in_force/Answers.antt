@@ -1,4 +1,4 @@
-use Rattle.hyd_rows_and_tables.specs.FirstWrongRow.{rows_at}
+use Rattle.hyd_rows_and_tables.specs.RowsOfLines.{rows_at}
 use Rattle.hyd_judge_nodes_curves_and_options.proofs.PressureRowLemmas.{minimum_has, required_has}
 use Rattle.hyd_judge_nodes_curves_and_options.proofs.options.pressures_in_force.Goals as goal
 

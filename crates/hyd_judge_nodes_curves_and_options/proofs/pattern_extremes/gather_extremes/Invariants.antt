@@ -1,4 +1,4 @@
-use Rattle.hyd_rows_and_tables.specs.FirstWrongRow.{rows_at}
+use Rattle.hyd_rows_and_tables.specs.RowsOfLines.{rows_at}
 use Rattle.hyd_judge_nodes_curves_and_options.specs.Extremes.{AreWidened}
 use Rattle.hyd_judge_nodes_curves_and_options.proofs.pattern_extremes.gather_extremes.Given as goal
 

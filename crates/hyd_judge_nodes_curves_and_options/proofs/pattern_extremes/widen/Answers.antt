@@ -2,9 +2,9 @@ use Rattle.std.proofs.Common.{arith, ℕ, List, position, sym, ap, ◌∙◌}
 use Rattle.std.specs.Str.{bytes_eq}
 use Rattle.hyd_spec_lines.specs.declared.line.Line.{Line}
 use Rattle.hyd_spec_lines.specs.declared.section.Section.TheVariants.{Junctions}
-use Rattle.hyd_rows_and_tables.specs.FirstWrongRow.{rows_at}
-use Rattle.hyd_rows_and_tables.proofs.FoundLemmas.{row_at}
-use Rattle.hyd_theorems_on_input.proofs.Occurs.{number_inside}
+use Rattle.hyd_rows_and_tables.specs.RowsOfLines.{rows_at}
+use Rattle.hyd_rows_and_tables.proofs.FirstWrongRowLemmas.{row_at}
+use Rattle.hyd_theorems_on_input.proofs.OccurrencesOfNames.{number_inside}
 use Rattle.hyd_judge_nodes_curves_and_options.proofs.ExtremeLemmas.{skip_row, add_row, pattern_is_right}
 use Rattle.hyd_judge_nodes_curves_and_options.proofs.ExtremeLemmas.{number_is_there}
 use Rattle.hyd_judge_nodes_curves_and_options.proofs.pattern_extremes.widen.Goals as goal

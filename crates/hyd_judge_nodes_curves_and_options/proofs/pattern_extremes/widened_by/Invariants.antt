@@ -2,7 +2,7 @@ use Rattle.std.proofs.Common.{◌≡◌, ◌^◌, None, map, length}
 use Rattle.hyd_num.specs.Numeral.{nano_of}
 use Rattle.hyd_spec_lines.specs.WordsOfLines.{words_in}
 use Rattle.hyd_spec_input.specs.Columns.{within}
-use Rattle.hyd_spec_input.specs.DemandCurveAndStatusRows.{each}
+use Rattle.hyd_spec_input.specs.DemandEmitterCurvePatternAndStatusRows.{each}
 use Rattle.hyd_judge_nodes_curves_and_options.specs.Extremes.{bounds, all_widened}
 use Rattle.hyd_judge_nodes_curves_and_options.proofs.pattern_extremes.widened_by.Given as goal
 

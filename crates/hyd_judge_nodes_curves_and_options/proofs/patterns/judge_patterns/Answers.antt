@@ -1,6 +1,6 @@
 use Rattle.std.proofs.Common.{arith, length, sym}
-use Rattle.hyd_rows_and_tables.specs.FirstWrongRow.{rows_at}
-use Rattle.hyd_rows_and_tables.proofs.SectionLemmas.{all_rows}
+use Rattle.hyd_rows_and_tables.specs.RowsOfLines.{rows_at}
+use Rattle.hyd_rows_and_tables.proofs.WrongInSectionLemmas.{all_rows}
 use Rattle.hyd_judge_nodes_curves_and_options.proofs.ExtremeLemmas.{patterns_of}
 use Rattle.hyd_judge_nodes_curves_and_options.proofs.patterns.judge_patterns.Goals as goal
 

@@ -2,9 +2,9 @@ use Rattle.std.proofs.Common.{◌∙◌, None, length}
 use Rattle.hyd_spec_lines.specs.declared.line.Line.{Line}
 use Rattle.hyd_spec_lines.specs.declared.section.Section.TheVariants.{Junctions}
 use Rattle.hyd_spec_input.specs.SingleRows.{IsWrongByItself}
-use Rattle.hyd_rows_and_tables.specs.FirstWrongRow.{rows_at}
-use Rattle.hyd_rows_and_tables.proofs.FoundLemmas.{row_at}
-use Rattle.hyd_rows_and_tables.proofs.SectionLemmas.{found_fewer}
+use Rattle.hyd_rows_and_tables.specs.RowsOfLines.{rows_at}
+use Rattle.hyd_rows_and_tables.proofs.FirstWrongRowLemmas.{row_at}
+use Rattle.hyd_rows_and_tables.proofs.WrongInSectionLemmas.{found_fewer}
 use Rattle.hyd_judge_single_rows.proofs.StageLemmas.{next_stage, row_fault_is, none_further, wrong_here}
 use Rattle.hyd_judge_single_rows.proofs.first_wrong_row.first_by_itself.Goals as goal
 

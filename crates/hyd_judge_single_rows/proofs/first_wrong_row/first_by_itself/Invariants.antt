@@ -2,8 +2,9 @@ use Rattle.std.proofs.Common.{◌≡◌, None, take}
 use Rattle.hyd_spec_lines.specs.declared.section.Section.TheVariants.{Rules}
 use Rattle.hyd_spec_input.specs.SingleRows.{IsWrongByItself}
 use Rattle.hyd_spec_input.specs.RuleRows.{stage_after}
-use Rattle.hyd_spec_input.specs.Tables.{words_of}
-use Rattle.hyd_rows_and_tables.specs.FirstWrongRow.{HasFound, rows_at}
+use Rattle.hyd_spec_input.specs.SectionsAndTables.{words_of}
+use Rattle.hyd_rows_and_tables.specs.FirstWrongRow.{HasFound}
+use Rattle.hyd_rows_and_tables.specs.RowsOfLines.{rows_at}
 use Rattle.hyd_judge_single_rows.proofs.first_wrong_row.first_by_itself.Given as goal
 
 abbrev pub invariant-loop-place : goal.invariant-loop-place

@@ -1,4 +1,4 @@
-use Rattle.hyd_net.proofs.Equal.{bare_list-by_items}
+use Rattle.hyd_net.proofs.EqualValues.{bare_list-by_items}
 use Rattle.hyd_net.proofs.comparison.same_demands.Goals as goal
 
 pub returns : goal.returns

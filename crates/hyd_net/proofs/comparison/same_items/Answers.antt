@@ -1,6 +1,6 @@
 use Rattle.std.proofs.Common.{◌∙◌, sym, ap, refl, arith, true≢false, length, ◌<◌, below_more}
 use Rattle.std.proofs.lemmas.List.{get_or_read}
-use Rattle.hyd_net.proofs.Equal.{map-equal, map-at}
+use Rattle.hyd_net.proofs.EqualValues.{map-equal, map-at}
 use Rattle.hyd_net.proofs.comparison.same_items.Goals as goal
 
 pub returns-then-not-same : goal.returns-then-not-same

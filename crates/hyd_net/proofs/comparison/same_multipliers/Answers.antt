@@ -1,5 +1,5 @@
 use Rattle.std.proofs.lemmas.Bool.Decides.{Decides-int_eq}
-use Rattle.hyd_net.proofs.Equal.{bare_list-by_eq}
+use Rattle.hyd_net.proofs.EqualValues.{bare_list-by_eq}
 use Rattle.hyd_net.proofs.comparison.same_multipliers.Goals as goal
 
 pub returns : goal.returns

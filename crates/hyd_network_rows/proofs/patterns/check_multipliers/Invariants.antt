@@ -1,7 +1,7 @@
 use Rattle.std.proofs.Common.{◌≡◌, ◌^◌, length}
 use Rattle.hyd_spec_lines.specs.WordsOfLines.{words_in}
 use Rattle.hyd_spec_input.specs.Columns.{within}
-use Rattle.hyd_spec_input.specs.DemandCurveAndStatusRows.{each}
+use Rattle.hyd_spec_input.specs.DemandEmitterCurvePatternAndStatusRows.{each}
 use Rattle.hyd_network_rows.proofs.patterns.check_multipliers.Given as goal
 
 abbrev pub invariant-loop-word : goal.invariant-loop-word

@@ -1,6 +1,6 @@
 use Rattle.std.proofs.Common.{◌∙◌}
 use Rattle.hyd_spec_lines.specs.WordsOfLines.{words_in}
-use Rattle.hyd_network_rows.proofs.PairLemmas.{pair_more}
+use Rattle.hyd_network_rows.proofs.KeyAndValueLemmas.{pair_more}
 use Rattle.hyd_network_rows.proofs.pumps.check_pairs.Goals as goal
 
 pub loop-key-preserved : goal.loop-key-preserved

@@ -1,6 +1,6 @@
 use Rattle.std.proofs.Common.{◌≡◌, length}
 use Rattle.hyd_spec_lines.specs.WordsOfLines.{words_in}
-use Rattle.hyd_spec_input.specs.NetworkRows.{pump_pairs, none_earlier}
+use Rattle.hyd_spec_input.specs.NodeAndLinkRows.{pump_pairs, none_earlier}
 use Rattle.hyd_network_rows.proofs.pumps.check_pairs.Given as goal
 
 abbrev pub invariant-loop-key : goal.invariant-loop-key

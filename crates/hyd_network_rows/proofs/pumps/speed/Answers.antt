@@ -1,6 +1,6 @@
 use Rattle.std.proofs.Common.{sym, ap, ◌∙◌}
 use Rattle.hyd_spec_lines.specs.WordsOfLines.{text_of, words_in}
-use Rattle.hyd_network_rows.proofs.PairLemmas.{speed_is_right}
+use Rattle.hyd_network_rows.proofs.KeyAndValueLemmas.{speed_is_right}
 use Rattle.hyd_network_rows.proofs.pumps.speed.Goals as goal
 
 pub returns-in-Some : goal.returns-in-Some

@@ -1,6 +1,6 @@
 use Rattle.std.proofs.Common.{◌≡◌, ◌∙◌, ℕ, ◌+◌, ◌<◌, ◌≤◌, ap, arith}
 use Rattle.hyd_period_facts.specs.declared.facts.Facts.{Facts}
-use Rattle.hyd_period_length.proofs.RulesAtInstant.{decided_so, unless_so}
+use Rattle.hyd_period_length.proofs.WhatRulesBringAbout.{decided_so, unless_so}
 use Rattle.hyd_period_length.proofs.EndByRulesOrWithout.{before_last, ends_brought, leaves_brought, changes_brought}
 use Rattle.hyd_period_length.proofs.EndByRulesOrWithout.{ends_without}
 use Rattle.hyd_period_length.proofs.EndByRulesOrWithout.{leaves_without, changes_without, decided_without}

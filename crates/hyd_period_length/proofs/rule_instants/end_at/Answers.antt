@@ -1,5 +1,5 @@
 use Rattle.std.proofs.Common.{refl}
-use Rattle.hyd_period_length.proofs.RulesAtInstant.{all_stay, idle, have_acted}
+use Rattle.hyd_period_length.proofs.WhatRulesBringAbout.{all_stay, idle, have_acted}
 use Rattle.hyd_period_length.proofs.rule_instants.end_at.Goals as goal
 
 pub returns-in-Err-clause-some : goal.returns-in-Err-clause-some

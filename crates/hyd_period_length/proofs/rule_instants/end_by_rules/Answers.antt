@@ -2,9 +2,9 @@ use Rattle.std.proofs.Common.{◌≡◌, ◌∙◌, ℕ, ◌+◌, ◌%◌, ◌<�
 use Rattle.std.proofs.Math.Nat.{mod-lt}
 use Rattle.hyd_spec_certificates.specs.Decided.{RulesMatter}
 use Rattle.hyd_period_facts.specs.declared.facts.Facts.{Facts}
-use Rattle.hyd_watched_levels.specs.FactsBeforeEnd.{HaveTanks}
+use Rattle.hyd_period_facts.specs.FactsBeforeEnd.{HaveTanks}
 use Rattle.hyd_period_length.specs.Endings.{ForPeriod, IsBrought}
-use Rattle.hyd_period_length.proofs.RulesAtInstant.{keeps_all, decided_so, unless_so}
+use Rattle.hyd_period_length.proofs.WhatRulesBringAbout.{keeps_all, decided_so, unless_so}
 use Rattle.hyd_period_length.proofs.InstantsTriedSoFar.{next_multiple, walk_starts, walk_goes_on, walk_ends}
 use Rattle.hyd_period_length.proofs.InstantsTriedSoFar.{walk_finds}
 use Rattle.hyd_period_length.proofs.rule_instants.end_by_rules.Goals as goal

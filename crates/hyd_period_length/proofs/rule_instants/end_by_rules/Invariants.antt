@@ -1,5 +1,5 @@
 use Rattle.std.proofs.Common.{◌≡◌, ◌+◌, ◌-◌, ◌%◌, ◌<◌, ◌≤◌, length}
-use Rattle.hyd_theorems_on_nesting.specs.Nesting.{IsWalked}
+use Rattle.hyd_theorems_on_nesting.specs.FirstAmongWatched.{IsWalked}
 use Rattle.hyd_period_length.specs.Endings.{ForPeriod}
 use Rattle.hyd_period_length.proofs.rule_instants.end_by_rules.Given as goal
 

@@ -1,7 +1,7 @@
 use Rattle.std.proofs.Common.{pos, map, reverse, drop, neg_ℤ, ◌+◌, ◌++◌, arith}
 use Rattle.hyd_net.specs.declared.curves.HeadPoint.{HeadPoint}
 use Rattle.hyd_law.specs.KnotsOfStraightLines.{places}
-use Rattle.hyd_period_network.proofs.Knots.{back_more, more_places, more_ranges}
+use Rattle.hyd_period_network.proofs.KnotsOfCurves.{back_more, more_places, more_ranges}
 use Rattle.hyd_period_network.proofs.curves.add_reverse_knots.Goals as goal
 
 pub loop-i-preserved : goal.loop-i-preserved

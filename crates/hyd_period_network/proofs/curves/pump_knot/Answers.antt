@@ -3,8 +3,8 @@ use Rattle.std.proofs.Common.{◌∙◌, arith}
 use Rattle.std.specs.Int.{w128}
 use Rattle.std.proofs.Math.Nat.{mul-le-mul}
 use Rattle.std.proofs.lemmas.Int.{ints, to_z-of_z}
-use Rattle.hyd_spec.specs.Scale.{cut}
-use Rattle.hyd_period_network.proofs.Knots.{pump_knot_is, cut_head, cut_flow, fits_128, fits_64}
+use Rattle.hyd_spec.specs.WholeNumbers.{cut}
+use Rattle.hyd_period_network.proofs.KnotsOfCurves.{pump_knot_is, cut_head, cut_flow, fits_128, fits_64}
 use Rattle.hyd_period_network.proofs.curves.pump_knot.Goals as goal
 
 within_both : (n : ℕ) → n ≤ 10 ^ 16 → n ≤ 10 ^ 18

@@ -1,8 +1,9 @@
 use Rattle.std.proofs.Common.{pos, [], ◌∷◌, drop, ◌+◌, length, ap, to_z, of_z, w64, arith}
 use Rattle.std.proofs.lemmas.List.{length-append}
-use Rattle.hyd_spec.specs.DemandsReservoirHeadsAndCurves.{pump_knots}
+use Rattle.hyd_spec.specs.DemandsHeadsAndPumpLifts.{pump_knots}
 use Rattle.hyd_law.specs.KnotsOfStraightLines.{places}
-use Rattle.hyd_period_network.proofs.Knots.{heads_within, pump_more, pump_all, pump_curve, more_places, more_ranges}
+use Rattle.hyd_period_network.proofs.KnotsOfCurves.{heads_within, pump_more, pump_all, pump_curve, more_places}
+use Rattle.hyd_period_network.proofs.KnotsOfCurves.{more_ranges}
 use Rattle.hyd_period_network.proofs.curves.write_pump_knots.Goals as goal
 
 pub pump_knot-requires-clause-head : goal.pump_knot-requires-clause-head

@@ -1,6 +1,6 @@
 use Rattle.std.proofs.Common.{◌≡◌, ◌+◌, ◌≤◌, ◌++◌, length, drop}
 use Rattle.std.specs.List.{All}
-use Rattle.hyd_spec.specs.DemandsReservoirHeadsAndCurves.{pump_knots}
+use Rattle.hyd_spec.specs.DemandsHeadsAndPumpLifts.{pump_knots}
 use Rattle.hyd_law.specs.KnotsOfStraightLines.{IsKnot, places}
 use Rattle.hyd_period_network.proofs.curves.write_pump_knots.Given as goal
 

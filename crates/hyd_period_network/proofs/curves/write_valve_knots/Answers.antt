@@ -1,7 +1,7 @@
 use Rattle.std.proofs.Common.{List, ◌++◌, map, ap, ◌∙◌, refl}
 use Rattle.hyd_net.specs.Curves.{Knot as Place}
 use Rattle.hyd_net.specs.declared.curves.HeadPoint.{HeadPoint}
-use Rattle.hyd_period_network.proofs.Knots.{valve_curve}
+use Rattle.hyd_period_network.proofs.KnotsOfCurves.{valve_curve}
 use Rattle.hyd_period_network.proofs.curves.write_valve_knots.Goals as goal
 
 pub returns-clause-curve : goal.returns-clause-curve

@@ -1,6 +1,6 @@
 use Rattle.std.proofs.Common.{ℕ, ◌<◌, ◌≤◌, ◌^◌, slice_index_or, unsigned_abs}
 use Rattle.hyd_spec.specs.ProgramTypes.{Junction}
-use Rattle.hyd_spec.specs.DemandsReservoirHeadsAndCurves.{demand_of}
+use Rattle.hyd_spec.specs.DemandsHeadsAndPumpLifts.{demand_of}
 use Rattle.hyd_period_network.specs.Demands.{AreDemandsAt}
 use Rattle.hyd_period_network.proofs.demands.kept_demands.Given as goal
 

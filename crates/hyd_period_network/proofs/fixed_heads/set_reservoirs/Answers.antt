@@ -1,7 +1,7 @@
 use Rattle.std.proofs.Common.{◌≡◌, ℕ, ℤ, rules, subst, sym, arith}
 use Rattle.std.proofs.lemmas.Int.{ints}
 use Rattle.hyd_net.specs.NumberRanges.{IsHead}
-use Rattle.hyd_spec.specs.DemandsReservoirHeadsAndCurves.{reservoir_head}
+use Rattle.hyd_spec.specs.DemandsHeadsAndPumpLifts.{reservoir_head}
 use Rattle.hyd_demands_and_reservoir_heads.specs.DemandsAndHeadsByNumber.{head_of_reservoir}
 use Rattle.hyd_period_network.proofs.ListsItemByItem.{more_set, mapped}
 use Rattle.hyd_period_network.proofs.fixed_heads.set_reservoirs.Goals as goal

@@ -1,9 +1,9 @@
 use Rattle.std.proofs.Common.{◌<◌, ℕ, List, length, map, slice_index_or, pos, rules, subst, sym, ap, ◌∙◌, arith}
 use Rattle.hyd_spec.specs.ProgramTypes.{Tank}
-use Rattle.hyd_spec_certificates.specs.Spans.{levels_of}
+use Rattle.hyd_spec_certificates.specs.SpansAsIntervals.{levels_of}
 use Rattle.hyd_spec_certificates.specs.PeriodNetwork.{tank_intervals}
 use Rattle.hyd_spec_certificates.specs.declared.LevelSpan.{LevelSpan}
-use Rattle.hyd_period_network.specs.NetInvariant.{AreHeads}
+use Rattle.hyd_period_network.specs.SoundNets.{AreHeads}
 use Rattle.hyd_period_network.specs.NetsSetToPeriods.{HasHeads}
 use Rattle.hyd_period_network.proofs.ListsItemByItem.{more_set, intervals, heads_at}
 use Rattle.hyd_period_network.proofs.fixed_heads.set_tanks.Goals as goal

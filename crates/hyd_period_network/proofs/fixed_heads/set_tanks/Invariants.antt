@@ -1,7 +1,7 @@
 use Rattle.std.proofs.Common.{◌≡◌, ℕ, ◌<◌, length, slice_index_or}
 use Rattle.hyd_spec.specs.ProgramTypes.{Tank}
 use Rattle.hyd_spec_certificates.specs.declared.LevelSpan.{LevelSpan}
-use Rattle.hyd_period_network.specs.NetInvariant.{AreHeads}
+use Rattle.hyd_period_network.specs.SoundNets.{AreHeads}
 use Rattle.hyd_period_network.specs.NetsSetToPeriods.{HasHeads}
 use Rattle.hyd_period_network.proofs.fixed_heads.set_tanks.Given as goal
 

@@ -1,10 +1,10 @@
 use Rattle.std.proofs.Common.{◌≡◌, ℤ, Bool, to_z, of_z, w64, subst, arith}
 use Rattle.std.proofs.lemmas.Int.{ints}
 use Rattle.hyd_spec.specs.ProgramTypes.{Speed, Limit}
-use Rattle.hyd_spec.specs.DemandsReservoirHeadsAndCurves.{is_us}
+use Rattle.hyd_spec.specs.DemandsHeadsAndPumpLifts.{is_us}
 use Rattle.hyd_spec.specs.LinkLaw.{own_law}
 use Rattle.hyd_period_network.specs.LawsInSettings.{Represents}
-use Rattle.hyd_period_network.proofs.LawsStand.{shut_represents}
+use Rattle.hyd_period_network.proofs.LawsStandForExactLaws.{shut_represents}
 use Rattle.hyd_period_network.proofs.RangesOfLinkNumbers.{speed_of, flow_of, shutoff_of, closed_is}
 use Rattle.hyd_period_network.proofs.laws.law_without_curve.Goals as goal
 

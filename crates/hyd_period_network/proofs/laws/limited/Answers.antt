@@ -1,6 +1,6 @@
 use Rattle.std.proofs.Common.{w64}
 use Rattle.std.proofs.lemmas.Int.{to_z-of_z}
-use Rattle.hyd_period_network.proofs.LawsStand.{limit_represents, linear_limit_represents}
+use Rattle.hyd_period_network.proofs.LawsStandForExactLaws.{limit_represents, linear_limit_represents}
 use Rattle.hyd_period_network.proofs.laws.limited.Goals as goal
 
 pub returns-in-Quadratic : goal.returns-in-Quadratic

@@ -1,12 +1,14 @@
 use Rattle.std.proofs.Common.{subst}
-use Rattle.hyd_law.specs.declared.link_law.LinkLaw.{LinkLaw}
-use Rattle.hyd_law.specs.declared.link_law.LinkLaw.TheVariants.{QuadOneWay, LinearOneWay, Pump, LimitOneWay}
-use Rattle.hyd_law.specs.declared.link_law.LinkLaw.TheVariants.{LinearLimitOneWay}
+use Rattle.hyd_law.specs.declared.link_law_kinds.LinkLaw.{LinkLaw}
+use Rattle.hyd_law.specs.declared.link_law_kinds.LinkLaw.TheVariants.{QuadOneWay, LinearOneWay, Pump, LimitOneWay}
+use Rattle.hyd_law.specs.declared.link_law_kinds.LinkLaw.TheVariants.{LinearLimitOneWay}
 use Rattle.hyd_period_network.specs.LawsInSettings.{Stands}
-use Rattle.hyd_period_network.proofs.LawsStand.{still_shut, quad_one_way, linear_one_way, limit_one_way}
-use Rattle.hyd_period_network.proofs.LawsStand.{linear_limit_one_way}
-use Rattle.hyd_period_network.proofs.LawsStand.{quad_again, linear_again, pump_again, limit_again, linear_limit_again}
-use Rattle.hyd_period_network.proofs.LawsStand.{shut_one_way, against, against_least, against_most, bent_one_way}
+use Rattle.hyd_period_network.proofs.LawsStandForExactLaws.{still_shut, quad_one_way, linear_one_way, limit_one_way}
+use Rattle.hyd_period_network.proofs.LawsStandForExactLaws.{linear_limit_one_way}
+use Rattle.hyd_period_network.proofs.LawsStandForExactLaws.{quad_again, linear_again, pump_again, limit_again}
+use Rattle.hyd_period_network.proofs.LawsStandForExactLaws.{linear_limit_again}
+use Rattle.hyd_period_network.proofs.LawsStandForExactLaws.{shut_one_way, against, against_least, against_most}
+use Rattle.hyd_period_network.proofs.LawsStandForExactLaws.{bent_one_way}
 use Rattle.hyd_period_network.proofs.laws.one_way.Goals as goal
 
 pub returns-in-Shut-clause-stands : goal.returns-in-Shut-clause-stands

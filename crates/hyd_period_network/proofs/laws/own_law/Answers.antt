@@ -1,6 +1,6 @@
 use Rattle.std.proofs.Common.{◌*◌, length, subst, sym, ap, arith}
 use Rattle.hyd_net.specs.Curves.{IsLossCurve}
-use Rattle.hyd_spec.specs.DemandsReservoirHeadsAndCurves.{is_us, points_of}
+use Rattle.hyd_spec.specs.DemandsHeadsAndPumpLifts.{is_us, points_of}
 use Rattle.hyd_period_network.proofs.RoomOfKnots.{bend_points}
 use Rattle.hyd_period_network.proofs.laws.own_law.Goals as goal
 

@@ -1,6 +1,6 @@
 use Rattle.std.proofs.Common.{w64}
 use Rattle.std.proofs.lemmas.Int.{to_z-of_z}
-use Rattle.hyd_period_network.proofs.LawsStand.{shut_represents}
+use Rattle.hyd_period_network.proofs.LawsStandForExactLaws.{shut_represents}
 use Rattle.hyd_period_network.proofs.laws.running_law.Goals as goal
 
 pub returns-in-Pipe : goal.returns-in-Pipe

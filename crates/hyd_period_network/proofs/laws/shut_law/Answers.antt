@@ -1,5 +1,5 @@
 use Rattle.std.proofs.Common.{subst}
-use Rattle.hyd_law.specs.declared.link_law.LinkLaw.{LinkLaw}
+use Rattle.hyd_law.specs.declared.link_law_kinds.LinkLaw.{LinkLaw}
 use Rattle.hyd_period_network.specs.LawsInSettings.{HasRoom}
 use Rattle.hyd_period_network.proofs.laws.shut_law.Goals as goal
 

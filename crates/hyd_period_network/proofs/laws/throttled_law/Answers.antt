@@ -1,4 +1,4 @@
-use Rattle.hyd_period_network.proofs.LawsStand.{shut_represents}
+use Rattle.hyd_period_network.proofs.LawsStandForExactLaws.{shut_represents}
 use Rattle.hyd_period_network.proofs.laws.throttled_law.Goals as goal
 
 pub returns-in-Pipe : goal.returns-in-Pipe

@@ -1,4 +1,4 @@
-use Rattle.hyd_period_network.proofs.LawsStand.{quad_represents, linear_represents}
+use Rattle.hyd_period_network.proofs.LawsStandForExactLaws.{quad_represents, linear_represents}
 use Rattle.hyd_period_network.proofs.laws.valve_law.Goals as goal
 
 pub returns-in-Quadratic : goal.returns-in-Quadratic

@@ -1,6 +1,6 @@
 use Rattle.std.proofs.Common.{◌≡◌, ℕ, ◌<◌, ◌++◌, length, slice_index_or, drop}
 use Rattle.smallvec.specs.SmallVec.{SmallVec}
-use Rattle.hyd_period_network.specs.declared.net_types.Tie.{Tie}
+use Rattle.hyd_period_network.specs.declared.junctions_ends_and_settings.Tie.{Tie}
 use Rattle.hyd_period_network.specs.LinkEnds.{ties_from}
 use Rattle.hyd_period_network.proofs.link_ends.rows_of.Given as goal
 

@@ -1,6 +1,6 @@
 use Rattle.std.proofs.Common.{◌≡◌, ℕ, ◌<◌, length, slice_index_or}
 use Rattle.hyd_spec.specs.ProgramTypes.{Junction}
-use Rattle.hyd_period_network.specs.declared.net_types.NetJunction.{NetJunction}
+use Rattle.hyd_period_network.specs.declared.junctions_ends_and_settings.NetJunction.{NetJunction}
 use Rattle.hyd_period_network.specs.Demands.{IsNetJunction}
 use Rattle.hyd_period_network.proofs.parts_of_new_net.net_junctions.Given as goal
 

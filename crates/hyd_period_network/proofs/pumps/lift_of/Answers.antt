@@ -1,7 +1,7 @@
 use Rattle.std.proofs.Common.{pos, ◌*ℤ◌, to_z, of_z, w64, arith}
 use Rattle.std.specs.Int.{w128}
 use Rattle.std.proofs.lemmas.Int.{ints}
-use Rattle.hyd_spec.specs.DemandsReservoirHeadsAndCurves.{lift_of}
+use Rattle.hyd_spec.specs.DemandsHeadsAndPumpLifts.{lift_of}
 use Rattle.hyd_period_network.proofs.PumpLifts.{lift_value}
 use Rattle.hyd_period_network.proofs.pumps.lift_of.Goals as goal
 

@@ -1,6 +1,6 @@
 use Rattle.std.proofs.Common.{w64}
 use Rattle.std.proofs.lemmas.Int.{to_z-of_z}
-use Rattle.hyd_period_network.proofs.LawsStand.{pump_represents}
+use Rattle.hyd_period_network.proofs.LawsStandForExactLaws.{pump_represents}
 use Rattle.hyd_period_network.proofs.pumps.pump_law.Goals as goal
 
 pub returns : goal.returns

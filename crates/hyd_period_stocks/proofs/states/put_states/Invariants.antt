@@ -1,7 +1,7 @@
 use Rattle.std.proofs.Common.{◌≡◌, ℕ, ◌+◌, ◌<◌, ◌≤◌, Bool, false, length, take}
 use Rattle.std.specs.Prelude.{Option, Some, map, slice_index_or}
 use Rattle.hyd_spec.specs.declared.TankState.{TankState}
-use Rattle.hyd_spec_certificates.specs.Spans.{levels_of}
+use Rattle.hyd_spec_certificates.specs.SpansAsIntervals.{levels_of}
 use Rattle.hyd_spec_reports.specs.Stops.{open_states}
 use Rattle.hyd_period_stocks.proofs.DecidedTankStates.{states_at}
 use Rattle.hyd_period_stocks.proofs.states.put_states.Given as goal

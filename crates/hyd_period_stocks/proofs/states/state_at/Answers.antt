@@ -1,5 +1,5 @@
 use Rattle.std.specs.Prelude.{map, slice_index_or}
-use Rattle.hyd_spec_certificates.specs.Spans.{levels_of}
+use Rattle.hyd_spec_certificates.specs.SpansAsIntervals.{levels_of}
 use Rattle.hyd_spec_certificates.specs.Decided.{nowhere}
 use Rattle.hyd_period_stocks.proofs.DecidedTankStates.{range_of, state_is}
 use Rattle.hyd_period_stocks.proofs.states.state_at.Goals as goal

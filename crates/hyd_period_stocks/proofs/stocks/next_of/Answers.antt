@@ -1,10 +1,10 @@
 use Rattle.std.proofs.Common.{◌∙◌, ap, sym, subst}
 use Rattle.hyd_spec.specs.Tank.{walls_of}
-use Rattle.hyd_spec_certificates.specs.Spans.{flows_of}
+use Rattle.hyd_spec_certificates.specs.SpansAsIntervals.{flows_of}
 use Rattle.hyd_spec_certificates.specs.Interval.{Interval}
 use Rattle.hyd_spec_certificates.specs.Stocks.{Stocks, next_stocks}
 use Rattle.hyd_tank.specs.StockIntervals.{AreHeld}
-use Rattle.hyd_watched_levels.specs.FactsBeforeEnd.{stocks_in}
+use Rattle.hyd_period_facts.specs.FactsBeforeEnd.{stocks_in}
 use Rattle.hyd_period_stocks.proofs.stocks.next_of.Goals as goal
 
 pub next_stock-requires-clause-held : goal.next_stock-requires-clause-held

@@ -2,7 +2,7 @@ use Rattle.std.proofs.Common.{◌∙◌, ◌<◌, ◌≤◌, ℕ, ap, length, ar
 use Rattle.std.specs.Prelude.{map}
 use Rattle.std.proofs.lemmas.List.{length_push}
 use Rattle.hyd_spec.specs.ProgramTypes.{Tank}
-use Rattle.hyd_spec_certificates.specs.Spans.{levels_of}
+use Rattle.hyd_spec_certificates.specs.SpansAsIntervals.{levels_of}
 use Rattle.hyd_spec_certificates.specs.Stocks.{Stocks}
 use Rattle.hyd_spec_certificates.specs.declared.LevelSpan.{LevelSpan}
 use Rattle.hyd_tank.specs.StockIntervals.{stocks_of, volumes_of}

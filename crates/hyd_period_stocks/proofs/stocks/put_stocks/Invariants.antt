@@ -2,7 +2,7 @@ use Rattle.std.proofs.Common.{◌≡◌, ℕ, ◌+◌, ◌<◌, ◌≤◌, lengt
 use Rattle.std.specs.Prelude.{Some, map, slice_get}
 use Rattle.hyd_spec.specs.ProgramTypes.{Tank}
 use Rattle.hyd_spec.specs.Tank.{walls_of}
-use Rattle.hyd_spec_certificates.specs.Spans.{levels_of}
+use Rattle.hyd_spec_certificates.specs.SpansAsIntervals.{levels_of}
 use Rattle.hyd_tank.specs.StockIntervals.{AreHeld, volumes_of}
 use Rattle.hyd_period_stocks.specs.TankStart.{next_in}
 use Rattle.hyd_period_stocks.proofs.NextStocksByFacts.{levels_in, volumes_in}

@@ -4,7 +4,7 @@ use Rattle.std.specs.Prelude.{length}
 use Rattle.std.proofs.Common.{ℕ, ◌≤◌}
 use Rattle.std.specs.Prelude.{None}
 use Rattle.hyd_sweep.specs.LeapingRounds.{AreLeapingRounds}
-use Rattle.hyd_period_vectors.specs.Vectors.{IsSought, IsAtHand, Comes}
+use Rattle.hyd_period_vectors.specs.SoughtVectors.{IsSought, IsAtHand, Comes}
 use Rattle.hyd_lemmas.proofs.ListsOptionsAndResults.{on-ok}
 use Rattle.hyd_period_vectors.proofs.SoughtVectors.{tight-sought, reached, other-comes}
 use Rattle.hyd_period_vectors.proofs.one_vector.find.Goals as goal

@@ -1,6 +1,6 @@
 use Rattle.std.proofs.Common.{◌∙◌, sym}
 use Rattle.hyd_period_network.specs.NetAsPeriodNetwork.{grid_of}
-use Rattle.hyd_period_vectors.proofs.BurningTest.{turns-begin, turns-end, turns-come}
+use Rattle.hyd_period_vectors.proofs.CertificatesBeyondProposedHeads.{turns-begin, turns-end, turns-come}
 use Rattle.hyd_period_vectors.proofs.search_start.are_reached.Goals as goal
 
 pub take_turns-requires-clause-turns : goal.take_turns-requires-clause-turns

@@ -4,7 +4,7 @@ use Rattle.hyd_spec_certificates.specs.declared.Problem.TheVariants.{Main}
 use Rattle.hyd_spec_certificates.specs.declared.Side.{Side}
 use Rattle.hyd_spec_certificates.specs.PeriodNetwork.{opposite}
 use Rattle.hyd_spec_certificates.specs.Certificate.{IsCertificate}
-use Rattle.hyd_spec_certificates.specs.SearchSteps.{IsStart}
+use Rattle.hyd_spec_certificates.specs.StartsRaisesAndLeaps.{IsStart}
 use Rattle.hyd_spec_certificates.specs.RecordAndStanding.{vector_of}
 use Rattle.hyd_cert.specs.RecordView.{row_of}
 use Rattle.hyd_period_network.specs.NetAsPeriodNetwork.{grid_of}

@@ -7,8 +7,8 @@ use Rattle.hyd_spec_certificates.specs.Certificate.{Passes}
 use Rattle.hyd_spec_certificates.specs.PeriodNetwork.{GridJunction}
 use Rattle.hyd_period_network.specs.NetAsPeriodNetwork.{grid_of}
 use Rattle.hyd_lemmas.proofs.ListsOptionsAndResults.{same_item, item_there}
-use Rattle.hyd_period_vectors.specs.TurnsTowardProposedHeads.{AreInTurn}
-use Rattle.hyd_period_vectors.proofs.BurningTest.{turns-more}
+use Rattle.hyd_period_vectors.specs.WayToProposedHeads.{AreInTurn}
+use Rattle.hyd_period_vectors.proofs.CertificatesBeyondProposedHeads.{turns-more}
 use Rattle.hyd_period_vectors.proofs.search_start.take_turn.Goals as goal
 
 pub returns : goal.returns

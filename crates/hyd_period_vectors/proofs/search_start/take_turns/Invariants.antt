@@ -1,5 +1,5 @@
 use Rattle.hyd_period_network.specs.NetAsPeriodNetwork.{grid_of}
-use Rattle.hyd_period_vectors.specs.TurnsTowardProposedHeads.{AreInTurn}
+use Rattle.hyd_period_vectors.specs.WayToProposedHeads.{AreInTurn}
 use Rattle.hyd_period_vectors.proofs.search_start.take_turns.Given as goal
 
 abbrev pub invariant-loop-i : goal.invariant-loop-i

@@ -10,7 +10,7 @@ use Rattle.hyd_period_network.specs.NetAsPeriodNetwork.{grid_of, states_of}
 use Rattle.hyd_io.specs.TextPutIn.{Puts}
 use Rattle.hyd_lemmas.proofs.ListsOptionsAndResults.{item_there}
 use Rattle.hyd_report.proofs.LineLemmas.{link_put}
-use Rattle.hyd_report.proofs.LinkLemmas.{link_word}
+use Rattle.hyd_report.proofs.StatusWordOfLink.{link_word}
 use Rattle.hyd_report.proofs.links.put_link.Goals as goal
 
 pub returns : goal.returns

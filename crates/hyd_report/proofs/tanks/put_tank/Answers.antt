@@ -1,7 +1,7 @@
 -- The line of the tank that is there.
 use Rattle.std.proofs.Common.{ℕ, List, to_z-of_z, FitsSigned, w64}
 use Rattle.std.specs.Prelude.{slice_get}
-use Rattle.hyd_spec_certificates.specs.Spans.{levels_of, flows_of}
+use Rattle.hyd_spec_certificates.specs.SpansAsIntervals.{levels_of, flows_of}
 use Rattle.hyd_spec_certificates.specs.Interval.{shifted}
 use Rattle.hyd_io.specs.TextPutIn.{Puts}
 use Rattle.hyd_report.specs.PrintedIntervals.{printed, quantity_in, ArePrinted}

@@ -1,7 +1,7 @@
 use Rattle.std.proofs.Common.{◌≡◌, ◌++◌, ◌+◌, ◌≤◌, length}
 use Rattle.std.specs.List.{All}
 use Rattle.hyd_spec_lines.specs.Lines.{LiesIn, items_of, rows_in, fault_in}
-use Rattle.hyd_rows_and_tables.specs.FirstWrongRow.{rows_at}
+use Rattle.hyd_rows_and_tables.specs.RowsOfLines.{rows_at}
 use Rattle.hyd_rows_and_tables.proofs.gathered_rows.gather.Given as goal
 
 abbrev pub invariant-loop-item : goal.invariant-loop-item

@@ -1,7 +1,7 @@
 use Rattle.std.proofs.Common.{◌≡◌, length}
 use Rattle.std.specs.Prelude.{map}
 use Rattle.hyd_spec.specs.Rules.{Readings}
-use Rattle.hyd_spec_certificates.specs.Spans.{levels_of, flows_of}
+use Rattle.hyd_spec_certificates.specs.SpansAsIntervals.{levels_of, flows_of}
 use Rattle.hyd_controls_and_rules.specs.AlikeButTankHeads.{AreAlike}
 use Rattle.hyd_controls_and_rules.specs.RuleReadings.{lower_readings, upper_readings}
 use Rattle.hyd_rule_values.proofs.RulesKnownSoFar.{KnownBefore}

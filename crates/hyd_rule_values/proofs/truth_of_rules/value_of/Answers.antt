@@ -3,7 +3,7 @@ use Rattle.std.specs.Int.{w128}
 use Rattle.std.proofs.lemmas.Int.{ints}
 use Rattle.std.specs.Prelude.{map}
 use Rattle.hyd_spec.specs.Rules.{Readings}
-use Rattle.hyd_spec_certificates.specs.Spans.{levels_of, flows_of}
+use Rattle.hyd_spec_certificates.specs.SpansAsIntervals.{levels_of, flows_of}
 use Rattle.hyd_spec_certificates.specs.declared.Truth.TheVariants.{True, False, Open}
 use Rattle.hyd_spec_certificates.specs.ThreeValuedLogic.{is_yes, is_unknown}
 use Rattle.hyd_spec_certificates.specs.Decided.{IsOpenClause}

@@ -1,5 +1,5 @@
 use Rattle.std.proofs.Common.{◌≡◌}
-use Rattle.hyd_sim.specs.View.{standing_of}
+use Rattle.hyd_sim.specs.RunView.{standing_of}
 use Rattle.hyd_run.specs.Pens.{RunMoment, moment, told, AreOpen}
 use Rattle.hyd_run.specs.Runs.{sharpness_of, IsSoFar, periods_left}
 use Rattle.hyd_run.proofs.steps.put_steps.Given as goal

@@ -1,7 +1,7 @@
 -- Both pens are emptied.
 use Rattle.hyd_run.specs.Runs.{outcome_of}
 use Rattle.hyd_run.proofs.RunLemmas.{whole-emptied, whole-cut-off}
-use Rattle.hyd_run.proofs.EndLemmas.{pen-fresh}
+use Rattle.hyd_run.proofs.WholeRunLemmas.{pen-fresh}
 use Rattle.hyd_run.proofs.whole_run.finish.Goals as goal
 
 pub returns-in-Ok-clause-puts : goal.returns-in-Ok-clause-puts

@@ -1,9 +1,9 @@
 -- The run is whole with its last lines.
 use Rattle.std.proofs.Common.{sym, subst}
 use Rattle.hyd_net.specs.Sound.{IsSound}
-use Rattle.hyd_sim.specs.View.{standing_of}
+use Rattle.hyd_sim.specs.RunView.{standing_of}
 use Rattle.hyd_run.specs.Runs.{outcome_of}
-use Rattle.hyd_run.proofs.EndLemmas.{ended, ended-cut-off}
+use Rattle.hyd_run.proofs.WholeRunLemmas.{ended, ended-cut-off}
 use Rattle.hyd_run.proofs.PeriodLemmas.{small-number}
 use Rattle.hyd_run.proofs.whole_run.put_ending.Goals as goal
 

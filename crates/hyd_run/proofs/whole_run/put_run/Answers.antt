@@ -1,8 +1,8 @@
 -- The front, the steps and the end.
 use Rattle.std.proofs.Common.{◌∙◌, ap}
 use Rattle.hyd_cert.specs.RecordView.{header_of}
-use Rattle.hyd_run.proofs.EndLemmas.{begun, begun-cut-off, ending-puts}
-use Rattle.hyd_sim.specs.View.{standing_of}
+use Rattle.hyd_run.proofs.WholeRunLemmas.{begun, begun-cut-off, ending-puts}
+use Rattle.hyd_sim.specs.RunView.{standing_of}
 use Rattle.hyd_run.specs.Runs.{outcome_of}
 use Rattle.hyd_run.proofs.whole_run.put_run.Goals as goal
 

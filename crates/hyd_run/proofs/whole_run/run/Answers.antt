@@ -1,6 +1,6 @@
 -- What was put in went out.
 use Rattle.std.specs.Prelude.{Err}
-use Rattle.hyd_run.proofs.EndLemmas.{fresh-open, gives-whole, gives-broken, gives-rose, gives-rest, gives-steady}
+use Rattle.hyd_run.proofs.WholeRunLemmas.{fresh-open, gives-whole, gives-broken, gives-rose, gives-rest, gives-steady}
 use Rattle.hyd_run.proofs.whole_run.run.Goals as goal
 
 pub put_run-requires-clause-unbroken : goal.put_run-requires-clause-unbroken

@@ -7,18 +7,18 @@ use Rattle.hyd_spec_certificates.specs.Narrow.{IsNarrow}
 use Rattle.hyd_spec_reports.specs.Stops.{Stops}
 use Rattle.hyd_spec_reports.specs.declared.StopCause.{StopCause}
 use Rattle.hyd_cert.specs.Lines.{Header}
-use Rattle.hyd_cert.specs.Vectors.{behind_two}
+use Rattle.hyd_cert.specs.VectorsOfRecord.{behind_two}
 use Rattle.hyd_cert.specs.RecordView.{row_of}
 use Rattle.hyd_cert.proofs.VectorLemmas.{problems_length}
 use Rattle.hyd_period_network.specs.NetAsPeriodNetwork.{grid_of}
-use Rattle.hyd_period_vectors.specs.OpenedSearch.{Room}
-use Rattle.hyd_period_vectors.specs.Vectors.{LacksFirst}
+use Rattle.hyd_period_vectors.specs.SizeOfSearch.{Room}
+use Rattle.hyd_period_vectors.specs.SoughtVectors.{LacksFirst}
 use Rattle.hyd_sim.specs.PeriodAttempt.{AreSought, IsFault, next_standing}
 use Rattle.hyd_sim.specs.NarrowRecordsAndStops.{stop_of}
-use Rattle.hyd_sim.specs.View.{standing_for}
+use Rattle.hyd_sim.specs.RunView.{standing_for}
 use Rattle.hyd_sim.proofs.DuePeriodLemmas.{heads-each, next-long, told-here, same-here, nothing-open, narrow-too}
 use Rattle.hyd_sim.proofs.MissingVectors.{if-err, lacks-one, none-lacking}
-use Rattle.hyd_sim.proofs.StopsAndNextStandings.{net-junctions, lack-stops}
+use Rattle.hyd_sim.proofs.StopsAndTightRecords.{net-junctions, lack-stops}
 use Rattle.hyd_sim.proofs.due_period.does.Goals as goal
 
 -- where a period isn't done nothing need hold of its record

@@ -2,13 +2,13 @@ use Rattle.std.proofs.Common.{◌≡◌, ℤ, ap, sym, subst, ◌∙◌, arith, 
 use Rattle.std.proofs.lemmas.Int.{ints}
 use Rattle.hyd_sim.specs.NarrowRecordsAndStops.{AreNarrow}
 use Rattle.std.specs.Prelude.{length, map}
-use Rattle.hyd_spec_certificates.specs.Spans.{levels_of}
+use Rattle.hyd_spec_certificates.specs.SpansAsIntervals.{levels_of}
 use Rattle.hyd_spec_certificates.specs.Narrow.{IsNarrow}
 use Rattle.hyd_cert.specs.RecordView.{row_of}
 use Rattle.hyd_sim.specs.PeriodAttempt.{last_standing, later_standing}
-use Rattle.hyd_sim.specs.View.{standing_for}
+use Rattle.hyd_sim.specs.RunView.{standing_for}
 use Rattle.hyd_sim.proofs.DuePeriodLemmas.{narrow-there, narrow-here}
-use Rattle.hyd_sim.proofs.StopsAndNextStandings.{at-last, at-later}
+use Rattle.hyd_sim.proofs.StandingAfter.{at-last, at-later}
 use Rattle.hyd_sim.proofs.due_period.is_narrow.Goals as goal
 
 pub are_narrow-requires-clause-heads : goal.are_narrow-requires-clause-heads

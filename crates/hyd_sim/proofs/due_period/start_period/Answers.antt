@@ -2,7 +2,7 @@ use Rattle.std.proofs.Common.{◌≡◌, refl, sym, ap, subst, ◌∙◌, List}
 use Rattle.std.specs.Prelude.{length, map}
 use Rattle.hyd_spec.specs.ProgramTypes.{LinkState}
 use Rattle.hyd_spec.specs.declared.TankState.{TankState}
-use Rattle.hyd_spec_certificates.specs.Spans.{levels_of}
+use Rattle.hyd_spec_certificates.specs.SpansAsIntervals.{levels_of}
 use Rattle.hyd_spec_certificates.specs.PeriodNetwork.{IsGrid}
 use Rattle.hyd_spec_certificates.specs.Valid.{IsGridAt}
 use Rattle.hyd_spec_certificates.specs.declared.LevelSpan.{LevelSpan}
@@ -11,9 +11,9 @@ use Rattle.hyd_spec_reports.specs.declared.StopCause.{StopCause}
 use Rattle.hyd_period_network.specs.NetAsPeriodNetwork.{grid_of}
 use Rattle.hyd_period_network.specs.NetsSetToPeriods.{AreLevels}
 use Rattle.hyd_period_network.specs.LawsInSettings.{AreStates}
-use Rattle.hyd_sim.specs.View.{standing_for}
-use Rattle.hyd_sim.proofs.TidyStandings.{levels-there, order-there}
-use Rattle.hyd_sim.proofs.StopsAndNextStandings.{no-demand-out}
+use Rattle.hyd_sim.specs.RunView.{standing_for}
+use Rattle.hyd_sim.proofs.LevelsInOrderAtStart.{levels-there, order-there}
+use Rattle.hyd_sim.proofs.StopsAndTightRecords.{no-demand-out}
 use Rattle.hyd_sim.proofs.due_period.start_period.Goals as goal
 
 pub set_period-requires-clause-levels : goal.set_period-requires-clause-levels

@@ -4,15 +4,15 @@ use Rattle.hyd_spec.specs.NodeNumbers.{junction_count, tank_count}
 use Rattle.hyd_spec_reports.specs.Stops.{Stops}
 use Rattle.hyd_spec_reports.specs.declared.StopCause.{StopCause}
 use Rattle.hyd_cert.specs.Lines.{Header}
-use Rattle.hyd_cert.specs.Vectors.{behind_two}
+use Rattle.hyd_cert.specs.VectorsOfRecord.{behind_two}
 use Rattle.hyd_cert.specs.RecordView.{row_of}
 use Rattle.hyd_cert.proofs.VectorLemmas.{problems_length}
 use Rattle.hyd_period_network.specs.NetAsPeriodNetwork.{grid_of}
-use Rattle.hyd_period_vectors.specs.OpenedSearch.{Room}
+use Rattle.hyd_period_vectors.specs.SizeOfSearch.{Room}
 use Rattle.hyd_sim.specs.PeriodAttempt.{AreSought, IsFault}
-use Rattle.hyd_sim.specs.View.{standing_for}
+use Rattle.hyd_sim.specs.RunView.{standing_for}
 use Rattle.hyd_sim.proofs.DuePeriodLemmas.{fault-stops}
-use Rattle.hyd_sim.proofs.StopsAndNextStandings.{net-junctions, tight-of}
+use Rattle.hyd_sim.proofs.StopsAndTightRecords.{net-junctions, tight-of}
 use Rattle.hyd_sim.proofs.due_period.tighten.Goals as goal
 
 pub returns-in-Ok-clause-tight : goal.returns-in-Ok-clause-tight

@@ -3,7 +3,7 @@ use Rattle.std.specs.Prelude.{length}
 use Rattle.hyd_spec_certificates.specs.Certificate.{IsCertificate}
 use Rattle.hyd_period_network.specs.NetAsPeriodNetwork.{grid_of}
 use Rattle.hyd_cert.specs.RecordView.{row_of}
-use Rattle.hyd_period_vectors.specs.Vectors.{EachBefore}
+use Rattle.hyd_period_vectors.specs.SoughtVectors.{EachBefore}
 use Rattle.hyd_sim.proofs.given_vectors.check_vectors.Given as goal
 
 abbrev pub invariant-loop-tank : goal.invariant-loop-tank

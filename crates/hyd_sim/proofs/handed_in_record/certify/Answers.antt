@@ -1,13 +1,13 @@
 use Rattle.std.proofs.Common.{◌≡◌, sym, ap, ◌∙◌}
 use Rattle.std.specs.Prelude.{length}
 use Rattle.hyd_cert.specs.Lines.{Header}
-use Rattle.hyd_cert.specs.Vectors.{behind_two}
+use Rattle.hyd_cert.specs.VectorsOfRecord.{behind_two}
 use Rattle.hyd_cert.specs.RecordView.{row_of}
 use Rattle.hyd_cert.proofs.VectorLemmas.{problems_length}
 use Rattle.hyd_period_network.specs.NetAsPeriodNetwork.{grid_of}
-use Rattle.hyd_sim.specs.View.{standing_for}
+use Rattle.hyd_sim.specs.RunView.{standing_for}
 use Rattle.hyd_sim.proofs.TakenAndRefusedRecords.{shares-taken, fails-refused}
-use Rattle.hyd_sim.proofs.StopsAndNextStandings.{net-junctions, certificates-of}
+use Rattle.hyd_sim.proofs.StopsAndTightRecords.{net-junctions, certificates-of}
 use Rattle.hyd_sim.proofs.handed_in_record.certify.Goals as goal
 
 pub check_vectors-requires : goal.check_vectors-requires

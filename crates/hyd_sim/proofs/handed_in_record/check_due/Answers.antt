@@ -1,6 +1,6 @@
 use Rattle.std.proofs.Common.{sym, ◌∙◌}
 use Rattle.hyd_cert.specs.RecordView.{row_of}
-use Rattle.hyd_sim.specs.View.{standing_for}
+use Rattle.hyd_sim.specs.RunView.{standing_for}
 use Rattle.hyd_sim.proofs.TakenAndRefusedRecords.{demand-refused}
 use Rattle.hyd_sim.proofs.handed_in_record.check_due.Goals as goal
 

@@ -3,9 +3,9 @@ use Rattle.hyd_cert.specs.RecordView.{row_of}
 use Rattle.hyd_cert.specs.declared.record.Record.{Record as Row}
 use Rattle.hyd_period_network.specs.NetAsPeriodNetwork.{grid_of}
 use Rattle.hyd_sim.specs.PeriodAttempt.{IsMade}
-use Rattle.hyd_sim.specs.View.{standing_for}
-use Rattle.hyd_sim.proofs.MadePeriods.{made-of}
-use Rattle.hyd_sim.proofs.Proposed.{same-record}
+use Rattle.hyd_sim.specs.RunView.{standing_for}
+use Rattle.hyd_sim.proofs.PeriodsByFoundVectors.{made-of}
+use Rattle.hyd_sim.proofs.ProposedRecordIsTaken.{same-record}
 use Rattle.hyd_sim.proofs.TakenAndRefusedRecords.{certificates-shared, shares-again, some-open-refused}
 use Rattle.hyd_sim.proofs.TakenAndRefusedRecords.{other-length-refused}
 use Rattle.hyd_sim.proofs.LinkStatesAtStart.{not-err}

@@ -6,7 +6,7 @@ use Rattle.hyd_theorems_on_definitions.proofs.OneRefusal.{one_refusal, refused_i
 use Rattle.hyd_cert.specs.RecordView.{row_of}
 use Rattle.hyd_period_network.specs.NetAsPeriodNetwork.{grid_of}
 use Rattle.hyd_sim.specs.PeriodAttempt.{next_standing}
-use Rattle.hyd_sim.specs.View.{standing_for}
+use Rattle.hyd_sim.specs.RunView.{standing_for}
 use Rattle.hyd_sim.proofs.TakenAndRefusedRecords.{taken-of}
 use Rattle.hyd_sim.proofs.handed_in_record.take.Goals as goal
 

@@ -2,10 +2,10 @@ use Rattle.std.proofs.Common.{◌≡◌, ◌≤◌, ◌+◌, ℕ, ℤ, pos, ◌+
 use Rattle.std.specs.Prelude.{slice_index_or}
 use Rattle.std.proofs.lemmas.Int.{ints}
 use Rattle.std.proofs.lemmas.List.{length-map}
-use Rattle.hyd_spec_certificates.specs.Spans.{levels_of}
+use Rattle.hyd_spec_certificates.specs.SpansAsIntervals.{levels_of}
 use Rattle.hyd_spec_certificates.specs.Interval.{width as width_of}
 use Rattle.hyd_spec_certificates.specs.Decided.{nowhere}
-use Rattle.hyd_sim.proofs.Widths.{each-within, not-each, one-more}
+use Rattle.hyd_sim.proofs.IntervalWidths.{each-within, not-each, one-more}
 use Rattle.hyd_sim.proofs.narrow_records.are_steady.Goals as goal
 
 pub returns-then-now-most-clause-grown : goal.returns-then-now-most-clause-grown

@@ -1,7 +1,7 @@
 use Rattle.std.proofs.Common.{arith, to_z, of_z}
 use Rattle.std.specs.Int.{w128}
 use Rattle.std.proofs.lemmas.Int.{ints}
-use Rattle.hyd_sim.proofs.Widths.{more-within}
+use Rattle.hyd_sim.proofs.IntervalWidths.{more-within}
 use Rattle.hyd_sim.proofs.narrow_records.are_within.Goals as goal
 
 pub loop-j-preserved : goal.loop-j-preserved

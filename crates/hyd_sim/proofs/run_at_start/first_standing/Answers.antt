@@ -1,5 +1,5 @@
 use Rattle.std.proofs.Common.{false, refl}
-use Rattle.hyd_sim.proofs.OpeningLemmas.{first-is, first-stands}
+use Rattle.hyd_sim.proofs.RunAtStartLemmas.{first-is, first-stands}
 use Rattle.hyd_sim.proofs.run_at_start.first_standing.Goals as goal
 
 pub returns-clause-initial : goal.returns-clause-initial

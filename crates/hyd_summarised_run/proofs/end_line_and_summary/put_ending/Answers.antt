@@ -1,7 +1,7 @@
 -- The END line ends the certificate, and the summary is that of what was found.
 use Rattle.std.proofs.Common.{sym, subst}
 use Rattle.hyd_net.specs.Sound.{IsSound}
-use Rattle.hyd_sim.specs.View.{standing_of}
+use Rattle.hyd_sim.specs.RunView.{standing_of}
 use Rattle.hyd_run.specs.Runs.{outcome_of}
 use Rattle.hyd_run.proofs.PenLemmas.{on_any}
 use Rattle.hyd_run.proofs.PeriodLemmas.{small-number}

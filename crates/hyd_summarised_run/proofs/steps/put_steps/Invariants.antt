@@ -1,5 +1,5 @@
 use Rattle.std.proofs.Common.{◌≡◌, ◌≤◌, ◌*◌, ◌^◌}
-use Rattle.hyd_sim.specs.View.{standing_of}
+use Rattle.hyd_sim.specs.RunView.{standing_of}
 use Rattle.hyd_run.specs.Pens.{RunMoment, told, AreOpen}
 use Rattle.hyd_run.specs.Runs.{sharpness_of, periods_left}
 use Rattle.hyd_summarised_run.specs.SummarisedRuns.{aside, SumsSoFar}

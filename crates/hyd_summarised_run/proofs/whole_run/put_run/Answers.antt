@@ -1,16 +1,16 @@
 -- The header, the steps and the end.
 use Rattle.std.proofs.Common.{◌∙◌, ap, refl}
 use Rattle.hyd_cert.specs.RecordView.{header_of}
-use Rattle.hyd_sim.specs.View.{standing_of}
+use Rattle.hyd_sim.specs.RunView.{standing_of}
 use Rattle.hyd_run.specs.Runs.{outcome_of}
-use Rattle.hyd_run.proofs.EndLemmas.{fresh-open}
+use Rattle.hyd_run.proofs.WholeRunLemmas.{fresh-open}
 use Rattle.hyd_run.proofs.PenLemmas.{on_any}
 use Rattle.hyd_summarised_run.proofs.PenLemmas.{cert-put}
 use Rattle.hyd_summarised_run.proofs.RunLemmas.{begun, begun-cut-off, ending-sums}
 use Rattle.hyd_summarised_run.proofs.whole_run.put_run.Goals as goal
 
-pub put_head-requires : goal.put_head-requires
-put_head-requires g c = on_any _ _ c.requires.ready
+pub put_header-requires : goal.put_header-requires
+put_header-requires g c = on_any _ _ c.requires.ready
 
 pub put_steps-requires : goal.put_steps-requires
 put_steps-requires g c =

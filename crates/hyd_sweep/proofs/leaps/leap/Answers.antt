@@ -1,5 +1,5 @@
 use Rattle.std.proofs.Common.{sym, subst, ◌∙◌, List, ℤ}
-use Rattle.hyd_spec_certificates.specs.SearchSteps.{IsStart}
+use Rattle.hyd_spec_certificates.specs.StartsRaisesAndLeaps.{IsStart}
 use Rattle.hyd_period_network.specs.NetAsPeriodNetwork.{grid_of}
 use Rattle.hyd_sweep.proofs.LeapsInTurn.{start-in-turn, in-turn}
 use Rattle.hyd_sweep.proofs.leaps.leap.Goals as goal

@@ -6,7 +6,7 @@ use Rattle.std.proofs.lemmas.Int.{ints}
 use Rattle.std.proofs.lemmas.Bool.{false≢true}
 use Rattle.hyd_spec.specs.Assignment.{head_at}
 use Rattle.hyd_spec_certificates.specs.Certificate.{Passes}
-use Rattle.hyd_spec_certificates.specs.SearchSteps.{Fails}
+use Rattle.hyd_spec_certificates.specs.StartsRaisesAndLeaps.{Fails}
 use Rattle.hyd_spec_certificates.specs.PeriodNetwork.{GridJunction}
 use Rattle.hyd_period_network.specs.NetAsPeriodNetwork.{grid_of}
 use Rattle.hyd_lemmas.proofs.ListsOptionsAndResults.{same_item, item_there}

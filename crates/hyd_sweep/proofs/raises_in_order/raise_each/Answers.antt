@@ -2,7 +2,7 @@ use Rattle.std.proofs.Common.{◌≡◌, ◌+◌, ◌<◌, ◌∙◌, sym, subst
 use Rattle.std.proofs.Common.{take, suc, Bool}
 use Rattle.hyd_period_network.specs.NetAsPeriodNetwork.{grid_of}
 use Rattle.hyd_sweep.specs.Sweeps.{IsFollowing, RaiseGives}
-use Rattle.hyd_sweep.specs.declared.answers.Raised.{Raised}
+use Rattle.hyd_sweep.specs.declared.answers_of_sweeps.Raised.{Raised}
 use Rattle.hyd_sweep.proofs.RaisesRoundsAndSweeps.{following-begins, following-passed, following-moved, take-more}
 use Rattle.hyd_sweep.proofs.raises_in_order.raise_each.Goals.{in-Passed, in-Moved}
 use Rattle.hyd_sweep.proofs.raises_in_order.raise_each.Goals as goal

@@ -1,5 +1,5 @@
 use Rattle.std.proofs.Common.{length}
-use Rattle.hyd_spec_certificates.specs.SearchSteps.{IsStart, HasRounds}
+use Rattle.hyd_spec_certificates.specs.StartsRaisesAndLeaps.{IsStart, HasRounds}
 use Rattle.hyd_period_network.specs.NetAsPeriodNetwork.{grid_of}
 use Rattle.hyd_sweep.specs.Sweeps.{AreRaises, in_rounds}
 use Rattle.hyd_sweep.proofs.rounds.tighten.Given as goal

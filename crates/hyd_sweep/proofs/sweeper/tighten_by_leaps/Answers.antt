@@ -1,7 +1,7 @@
 use Rattle.std.proofs.Common.{◌≡◌, ◌+◌, ◌∙◌, sym, subst, arith, ℕ, suc}
 use Rattle.std.proofs.lemmas.Bool.{false≢true}
 use Rattle.hyd_period_network.specs.NetAsPeriodNetwork.{grid_of}
-use Rattle.hyd_spec_certificates.specs.SearchSteps.{HasRounds}
+use Rattle.hyd_spec_certificates.specs.StartsRaisesAndLeaps.{HasRounds}
 use Rattle.hyd_theorems_on_raises.proofs.RaisesInAnyOrder.{has-begins, has-on}
 use Rattle.hyd_sweep.specs.Sweeps.{RoundGives}
 use Rattle.hyd_sweep.specs.LeapingRounds.{AreLeapingRounds, no_round, one_round}

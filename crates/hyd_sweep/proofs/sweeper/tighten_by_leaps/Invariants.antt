@@ -1,4 +1,4 @@
-use Rattle.hyd_spec_certificates.specs.SearchSteps.{IsStart, HasRounds}
+use Rattle.hyd_spec_certificates.specs.StartsRaisesAndLeaps.{IsStart, HasRounds}
 use Rattle.hyd_period_network.specs.NetAsPeriodNetwork.{grid_of}
 use Rattle.hyd_sweep.specs.LeapingRounds.{AreLeapingRounds}
 use Rattle.hyd_sweep.proofs.sweeper.tighten_by_leaps.Given as goal

@@ -1,7 +1,7 @@
 use Rattle.std.proofs.Common.{rules, w64, SFits}
 use Rattle.std.specs.Int.{w128}
 use Rattle.std.proofs.lemmas.Int.{to_z-of_z}
-use Rattle.hyd_spec_certificates.specs.Spans.{flows_of}
+use Rattle.hyd_spec_certificates.specs.SpansAsIntervals.{flows_of}
 use Rattle.hyd_tank.specs.StockIntervals.{cylinder, stocks_at}
 use Rattle.hyd_tank.proofs.CylinderFirstSeconds.{earliest_up, latest_up, earliest_down, latest_down}
 use Rattle.hyd_tank.proofs.cylinders.first_seconds.Goals as goal

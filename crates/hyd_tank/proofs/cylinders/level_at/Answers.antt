@@ -1,9 +1,9 @@
 use Rattle.std.proofs.Common.{◌≤ℤ◌, sym, subst}
 use Rattle.hyd_spec.specs.Tank.{level_bounds, carried_level}
-use Rattle.hyd_spec_certificates.specs.Spans.{flows_of}
+use Rattle.hyd_spec_certificates.specs.SpansAsIntervals.{flows_of}
 use Rattle.hyd_spec_certificates.specs.Interval.{Interval}
 use Rattle.hyd_spec_certificates.specs.Stocks.{carried_levels}
-use Rattle.hyd_theorems_on_definitions.specs.TermsOfTheorems.{LiesAround, IsInside, IsWithin}
+use Rattle.hyd_theorems_on_definitions.specs.LyingInIntervals.{LiesAround, IsInside, IsWithin}
 use Rattle.hyd_theorems_on_definitions.proofs.StocksInIntervals.{carried_lies, carried_inside, carried_within}
 use Rattle.hyd_theorems_on_definitions.proofs.StocksInIntervals.{carried_ordered}
 use Rattle.hyd_tank.specs.StockIntervals.{cylinder, stocks_at, with_levels, level_stock}

@@ -1,9 +1,9 @@
 use Rattle.std.proofs.Common.{◌≤ℤ◌, sym, subst}
 use Rattle.hyd_spec.specs.Tank.{level_bounds}
-use Rattle.hyd_spec_certificates.specs.Spans.{flows_of}
+use Rattle.hyd_spec_certificates.specs.SpansAsIntervals.{flows_of}
 use Rattle.hyd_spec_certificates.specs.Interval.{Interval}
 use Rattle.hyd_spec_certificates.specs.Stocks.{next_stocks}
-use Rattle.hyd_theorems_on_definitions.specs.TermsOfTheorems.{LiesIn, IsInside, IsWithin}
+use Rattle.hyd_theorems_on_definitions.specs.LyingInIntervals.{LiesIn, IsInside, IsWithin}
 use Rattle.hyd_theorems_on_definitions.proofs.StocksInIntervals.{next_lies, next_inside, next_within, next_has}
 use Rattle.hyd_tank.specs.StockIntervals.{cylinder, stocks_at, with_levels, level_stock}
 use Rattle.hyd_tank.proofs.TanksOfSoundNetworks.{cylinder_vessel}

@@ -1,4 +1,4 @@
-use Rattle.std.proofs.Common.{◌+ℤ◌, ◌-ℤ◌, sym, arith, to_z, of_z, w64, pos}
+use Rattle.std.proofs.Common.{◌+ℤ◌, ◌-ℤ◌, sym, arith, to_z, of_z, w64}
 use Rattle.std.proofs.lemmas.Int.{ints}
 use Rattle.hyd_lemmas.proofs.BooleanTests.{le-yes, le-no}
 use Rattle.hyd_spec.specs.Tank.{state_band}

@@ -1,5 +1,5 @@
 use Rattle.std.proofs.Common.{◌≡◌, Some, sym, ◌∙◌, rules}
-use Rattle.hyd_spec_certificates.specs.Spans.{levels_of}
+use Rattle.hyd_spec_certificates.specs.SpansAsIntervals.{levels_of}
 use Rattle.hyd_spec_certificates.specs.Stocks.{state_of}
 use Rattle.hyd_theorems_on_definitions.proofs.StocksInIntervals.{state_holds, state_nests}
 use Rattle.hyd_tank.proofs.states.state_of.Goals as goal

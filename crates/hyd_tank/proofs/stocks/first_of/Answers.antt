@@ -2,7 +2,7 @@ use Rattle.std.proofs.Common.{ℤ, List, sym, subst, w64}
 use Rattle.std.proofs.lemmas.Int.{to_z-of_z}
 use Rattle.hyd_spec.specs.ProgramTypes.{VolumePoint}
 use Rattle.hyd_spec.specs.Tank.{Walls, Curve}
-use Rattle.hyd_spec_certificates.specs.Spans.{flows_of}
+use Rattle.hyd_spec_certificates.specs.SpansAsIntervals.{flows_of}
 use Rattle.hyd_spec_certificates.specs.FirstSeconds.{IsEarliestSecond, IsLatestSecond}
 use Rattle.hyd_tank.specs.StockIntervals.{cylinder, stocks_at, stocks_of}
 use Rattle.hyd_tank.proofs.TanksOfSoundNetworks.{walls_without, walls_with, earliest_without, latest_without}

@@ -2,10 +2,10 @@ use Rattle.std.proofs.Common.{ℤ, subst, w64}
 use Rattle.std.proofs.lemmas.Int.{to_z-of_z}
 use Rattle.hyd_spec.specs.ProgramTypes.{Tank}
 use Rattle.hyd_spec.specs.Tank.{walls_of}
-use Rattle.hyd_spec_certificates.specs.Spans.{flows_of}
+use Rattle.hyd_spec_certificates.specs.SpansAsIntervals.{flows_of}
 use Rattle.hyd_spec_certificates.specs.FirstSeconds.{IsEarliestSecond, IsLatestSecond}
 use Rattle.hyd_theorems_on_definitions.proofs.DecidedByEnds.{seconds_hold, seconds_nest}
-use Rattle.hyd_theorems_on_definitions.proofs.Vessels.{vessels}
+use Rattle.hyd_theorems_on_definitions.proofs.SoundTankLemmas.{vessels}
 use Rattle.hyd_tank.specs.StockIntervals.{stocks_of}
 use Rattle.hyd_tank.proofs.OrderBoundsAndNesting.{seconds_ordered}
 use Rattle.hyd_tank.proofs.TanksOfSoundNetworks.{tank_of, of_each}

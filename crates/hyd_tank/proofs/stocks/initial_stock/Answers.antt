@@ -1,9 +1,9 @@
 use Rattle.std.proofs.Common.{◌≡◌, sym, subst}
 use Rattle.hyd_spec.specs.ProgramTypes.{Tank}
 use Rattle.hyd_spec.specs.Tank.{walls_of}
-use Rattle.hyd_theorems_on_definitions.proofs.Vessels.{sound_tank, vessels}
+use Rattle.hyd_theorems_on_definitions.proofs.SoundTankLemmas.{sound_tank, vessels}
 use Rattle.hyd_tank.specs.StockIntervals.{stocks_of, initial_stocks, AreHeld}
-use Rattle.hyd_tank.proofs.Initial.{initial_held}
+use Rattle.hyd_tank.proofs.InitialStocksInBounds.{initial_held}
 use Rattle.hyd_tank.proofs.TanksOfSoundNetworks.{tank_of, of_each}
 use Rattle.hyd_tank.proofs.stocks.initial_stock.Goals as goal
 

@@ -1,11 +1,11 @@
 use Rattle.std.proofs.Common.{◌≡◌, sym, subst}
 use Rattle.hyd_spec.specs.ProgramTypes.{Tank}
 use Rattle.hyd_spec.specs.Tank.{walls_of}
-use Rattle.hyd_spec_certificates.specs.Spans.{flows_of}
+use Rattle.hyd_spec_certificates.specs.SpansAsIntervals.{flows_of}
 use Rattle.hyd_spec_certificates.specs.Stocks.{Stocks, next_stocks}
-use Rattle.hyd_theorems_on_definitions.specs.TermsOfTheorems.{StockLies, AreInside, HasStock}
+use Rattle.hyd_theorems_on_definitions.specs.LyingInIntervals.{StockLies, AreInside, HasStock}
 use Rattle.hyd_theorems_on_definitions.proofs.StocksInIntervals.{next_lies, next_inside, next_has}
-use Rattle.hyd_theorems_on_definitions.proofs.Vessels.{vessels}
+use Rattle.hyd_theorems_on_definitions.proofs.SoundTankLemmas.{vessels}
 use Rattle.hyd_tank.specs.StockIntervals.{stocks_of, AreHeld}
 use Rattle.hyd_tank.proofs.TanksOfSoundNetworks.{tank_of, of_each, next_held}
 use Rattle.hyd_tank.proofs.stocks.next_stock.Goals as goal

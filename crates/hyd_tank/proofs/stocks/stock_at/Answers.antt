@@ -1,12 +1,12 @@
 use Rattle.std.proofs.Common.{◌≡◌, sym, subst, ap, ◌∙◌}
 use Rattle.hyd_spec.specs.ProgramTypes.{Tank}
 use Rattle.hyd_spec.specs.Tank.{walls_of, carried_level}
-use Rattle.hyd_spec_certificates.specs.Spans.{flows_of}
+use Rattle.hyd_spec_certificates.specs.SpansAsIntervals.{flows_of}
 use Rattle.hyd_spec_certificates.specs.Interval.{Interval}
 use Rattle.hyd_spec_certificates.specs.Stocks.{Stocks, carried_stocks}
-use Rattle.hyd_theorems_on_definitions.specs.TermsOfTheorems.{LiesAround, AreInside, HasStock}
+use Rattle.hyd_theorems_on_definitions.specs.LyingInIntervals.{LiesAround, AreInside, HasStock}
 use Rattle.hyd_theorems_on_definitions.proofs.StocksInIntervals.{carried_lies}
-use Rattle.hyd_theorems_on_definitions.proofs.Vessels.{vessels}
+use Rattle.hyd_theorems_on_definitions.proofs.SoundTankLemmas.{vessels}
 use Rattle.hyd_tank.specs.StockIntervals.{stocks_of, AreHeld}
 use Rattle.hyd_tank.proofs.OrderBoundsAndNesting.{carried_held, carried_has, carried_stocks_inside}
 use Rattle.hyd_tank.proofs.TanksOfSoundNetworks.{tank_of, of_each, carried_is}

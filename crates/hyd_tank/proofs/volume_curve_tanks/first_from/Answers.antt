@@ -2,7 +2,7 @@ use Rattle.std.proofs.Common.{ℤ, Bool, sym, subst, true, false, arith, rules, 
 use Rattle.std.specs.Int.{w128}
 use Rattle.std.proofs.lemmas.Int.{ints, to_z-of_z}
 use Rattle.hyd_spec.specs.Tank.{Bounds, Curve, has_reached}
-use Rattle.hyd_spec_certificates.specs.Spans.{flows_of}
+use Rattle.hyd_spec_certificates.specs.SpansAsIntervals.{flows_of}
 use Rattle.hyd_spec_certificates.specs.FirstSeconds.{IsFirstSecond}
 use Rattle.hyd_spec_certificates.specs.Stocks.{least_stock, greatest_stock}
 use Rattle.hyd_tank.specs.StockIntervals.{stocks_of}

@@ -1,6 +1,6 @@
 use Rattle.std.proofs.Common.{List, slice_index_or, subst, arith}
 use Rattle.hyd_spec.specs.ProgramTypes.{Link}
-use Rattle.hyd_net.specs.States.{CanHave}
+use Rattle.hyd_net.specs.LinkStates.{CanHave}
 use Rattle.hyd_test_helpers.proofs.Commands.{set_stands}
 use Rattle.hyd_test_helpers.proofs.states.command.Goals as goal
 

@@ -1,5 +1,5 @@
 use Rattle.std.proofs.Common.{IsTrue}
-use Rattle.hyd_io.specs.MemoryView.{memory}
+use Rattle.hyd_io.specs.DeskInMemoryView.{memory}
 use Rattle.hyd_io.specs.Output.{OnCert}
 use Rattle.hyd_tests_on_numbers_and_desks.proofs.desks_and_pens.put_pieces.Given as goal
 

@@ -1,4 +1,4 @@
-use Rattle.hyd_theorems_on_definitions.proofs.Comparison.{below_main, above_main}
+use Rattle.hyd_theorems_on_definitions.proofs.ComparisonPrinciple.{below_main, above_main}
 use Rattle.hyd_theorems_on_definitions.proofs.certificates.comparison.Goals as goal
 
 pub returns-clause-above : goal.returns-clause-above

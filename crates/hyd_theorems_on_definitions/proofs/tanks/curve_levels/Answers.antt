@@ -1,4 +1,5 @@
-use Rattle.hyd_theorems_on_definitions.proofs.Targets.{rising_target, falling_target, at_maximum, risen_to}
+use Rattle.hyd_theorems_on_definitions.proofs.TargetsOfVolumeCurves.{rising_target, falling_target, at_maximum}
+use Rattle.hyd_theorems_on_definitions.proofs.TargetsOfVolumeCurves.{risen_to}
 use Rattle.hyd_theorems_on_definitions.proofs.tanks.curve_levels.Goals as goal
 
 pub returns-clause-rising : goal.returns-clause-rising

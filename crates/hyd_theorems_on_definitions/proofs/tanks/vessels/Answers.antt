@@ -1,4 +1,4 @@
-use Rattle.hyd_theorems_on_definitions.proofs.Vessels.{vessels}
+use Rattle.hyd_theorems_on_definitions.proofs.SoundTankLemmas.{vessels}
 use Rattle.hyd_theorems_on_definitions.proofs.tanks.vessels.Goals as goal
 
 pub returns : goal.returns

@@ -5,10 +5,10 @@ use Rattle.std.proofs.lemmas.Int.{ints}
 use Rattle.std.proofs.lemmas.List.{at_drop_more, drop_all}
 use Rattle.hyd_spec.specs.Assignment.{head_at}
 use Rattle.hyd_spec_certificates.specs.PeriodNetwork.{all_heads}
-use Rattle.hyd_period_network.specs.declared.net_types.Tie.{Tie}
+use Rattle.hyd_period_network.specs.declared.junctions_ends_and_settings.Tie.{Tie}
 use Rattle.hyd_period_network.specs.NetAsPeriodNetwork.{grid_of}
 use Rattle.hyd_period_network.specs.LinkEnds.{ties_share}
-use Rattle.hyd_period_network.specs.NetInvariant.{is_upper}
+use Rattle.hyd_period_network.specs.SoundNets.{is_upper}
 use Rattle.hyd_vector_check.specs.NetOutflowBySide.{flow_by, is_lower, flows_out}
 use Rattle.hyd_vector_check.proofs.flows.flows_out.Goals as goal
 

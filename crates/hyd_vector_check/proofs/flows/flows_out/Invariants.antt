@@ -3,7 +3,7 @@ use Rattle.std.specs.Prelude.{slice_set, unsigned_abs}
 use Rattle.hyd_spec_certificates.specs.PeriodNetwork.{all_heads}
 use Rattle.hyd_period_network.specs.NetAsPeriodNetwork.{grid_of}
 use Rattle.hyd_period_network.specs.LinkEnds.{ties_share}
-use Rattle.hyd_period_network.specs.NetInvariant.{is_upper}
+use Rattle.hyd_period_network.specs.SoundNets.{is_upper}
 use Rattle.hyd_vector_check.specs.NetOutflowBySide.{flow_by, is_lower}
 use Rattle.hyd_vector_check.proofs.flows.flows_out.Given as goal
 

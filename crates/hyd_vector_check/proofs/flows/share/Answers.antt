@@ -5,7 +5,7 @@ use Rattle.std.proofs.lemmas.Int.{ints}
 use Rattle.hyd_spec.specs.Assignment.{head_at}
 use Rattle.hyd_spec_certificates.specs.PeriodNetwork.{all_heads}
 use Rattle.hyd_period_network.specs.NetAsPeriodNetwork.{grid_of}
-use Rattle.hyd_period_network.specs.NetInvariant.{is_upper}
+use Rattle.hyd_period_network.specs.SoundNets.{is_upper}
 use Rattle.hyd_vector_check.specs.NetOutflowBySide.{flow_by, is_lower}
 use Rattle.hyd_vector_check.proofs.FlowsOfLinkEnds.{stands-for, out-share, in-share}
 use Rattle.hyd_vector_check.proofs.flows.share.Goals as goal

@@ -1,7 +1,8 @@
 use Rattle.std.proofs.Common.{◌≡◌, ◌∙◌, subst, w64, to_z, of_z, arith, ℤ, length}
 use Rattle.std.proofs.lemmas.Int.{ints}
 use Rattle.hyd_period_network.specs.NetAsPeriodNetwork.{grid_of}
-use Rattle.hyd_vector_check.proofs.Surpluses.{IsNetOutflow, upper-passes, lower-passes, upper-surplus, lower-surplus}
+use Rattle.hyd_vector_check.proofs.NetOutflowAboveMargin.{IsNetOutflow, upper-passes, lower-passes, upper-surplus}
+use Rattle.hyd_vector_check.proofs.NetOutflowAboveMargin.{lower-surplus}
 use Rattle.hyd_vector_check.proofs.junction_test.surplus.Goals as goal
 
 pub returns-in-Upper-clause-passes : goal.returns-in-Upper-clause-passes

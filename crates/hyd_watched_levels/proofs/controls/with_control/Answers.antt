@@ -1,5 +1,5 @@
 use Rattle.std.specs.Prelude.{Some, map}
-use Rattle.hyd_spec_certificates.specs.Spans.{levels_of}
+use Rattle.hyd_spec_certificates.specs.SpansAsIntervals.{levels_of}
 use Rattle.hyd_spec_certificates.specs.Decided.{watch_of}
 use Rattle.hyd_watched_levels.specs.Watched.{watch_for}
 use Rattle.hyd_watched_levels.proofs.WatchedLevelsSoFar.{watched_so}

@@ -1,6 +1,6 @@
 use Rattle.std.proofs.Common.{◌++◌, take}
 use Rattle.std.specs.Prelude.{map}
-use Rattle.hyd_spec_certificates.specs.Spans.{levels_of}
+use Rattle.hyd_spec_certificates.specs.SpansAsIntervals.{levels_of}
 use Rattle.hyd_watched_levels.proofs.WatchedLevelsSoFar.{control_watches, no_more, control_further, all_controls}
 use Rattle.hyd_watched_levels.proofs.controls.with_controls.Goals as goal
 

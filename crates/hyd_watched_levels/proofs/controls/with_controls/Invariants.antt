@@ -1,6 +1,6 @@
 use Rattle.std.proofs.Common.{List, ◌++◌, take}
 use Rattle.std.specs.Prelude.{map}
-use Rattle.hyd_spec_certificates.specs.Spans.{levels_of}
+use Rattle.hyd_spec_certificates.specs.SpansAsIntervals.{levels_of}
 use Rattle.hyd_spec_certificates.specs.Decided.{Watch}
 use Rattle.hyd_watched_levels.specs.Watched.{AreEnds}
 use Rattle.hyd_watched_levels.proofs.WatchedLevelsSoFar.{control_watches}

@@ -4,7 +4,7 @@ use Rattle.hyd_cert.specs.ReaderView.{ReaderView, place_of, to_come}
 use Rattle.hyd_cert.specs.RecordView.{header_of}
 use Rattle.hyd_cert.proofs.HeadLemmas.{text_fault_moved}
 use Rattle.hyd_cert.proofs.RecordFaultLemmas.{none_moved}
-use Rattle.hyd_cert.specs.declared.answers.Stand.TheVariants as stand
+use Rattle.hyd_cert.specs.declared.answers_of_reader.Stand.TheVariants as stand
 use Rattle.hyd_cert.proofs.reader.CertReader.next.Goals as goal
 use Rattle.hyd_cert.proofs.reader.CertReader.next.Goals.{in-First, in-Between}
 

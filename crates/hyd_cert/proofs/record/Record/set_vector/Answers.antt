@@ -1,5 +1,5 @@
 use Rattle.std.proofs.Common.{◌≡◌, ◌*◌, length, ap, ◌∙◌}
-use Rattle.hyd_cert.specs.Vectors.{place_in}
+use Rattle.hyd_cert.specs.VectorsOfRecord.{place_in}
 use Rattle.hyd_cert.proofs.VectorLemmas.{written, vector_set, vector_kept}
 use Rattle.hyd_cert.proofs.record.Record.set_vector.Goals as goal
 

@@ -1,6 +1,6 @@
 use Rattle.std.proofs.Common.{◌∙◌}
-use Rattle.hyd_curves.proofs.NamedLemmas.{with_is}
-use Rattle.hyd_curves.proofs.StraightLineCurveRowLemmas.{list_more}
+use Rattle.hyd_curves.proofs.NamesOnceLemmas.{with_is}
+use Rattle.hyd_curves.proofs.StraightLineCurveLemmas.{list_more}
 use Rattle.hyd_curves.proofs.straight_line_curves.Bends.add.Goals as goal
 
 pub returns-then-not-new-clause-names : goal.returns-then-not-new-clause-names

@@ -5,14 +5,14 @@ use Rattle.hyd_spec_lines.specs.declared.line.Line.{Line}
 use Rattle.hyd_spec_lines.specs.declared.section.Section.TheVariants.{Junctions}
 use Rattle.hyd_spec_input.specs.Curves.{head_points}
 use Rattle.hyd_spec_input.specs.Project.{bend_points}
-use Rattle.hyd_spec_input.specs.Tables.{curve_named}
-use Rattle.hyd_rows_and_tables.specs.FirstWrongRow.{rows_at}
-use Rattle.hyd_rows_and_tables.proofs.FoundLemmas.{row_at}
+use Rattle.hyd_spec_input.specs.SectionsAndTables.{curve_named}
+use Rattle.hyd_rows_and_tables.specs.RowsOfLines.{rows_at}
+use Rattle.hyd_rows_and_tables.proofs.FirstWrongRowLemmas.{row_at}
 use Rattle.hyd_curves.specs.NamedStraightLineCurves.{IsSmallHead, pump_names}
 use Rattle.hyd_curves.specs.Points.{points_in}
-use Rattle.hyd_curves.proofs.StraightLineCurveRowLemmas.{other_pump, next_pump, as_before, with_one, pump_small}
-use Rattle.hyd_curves.proofs.StraightLineCurveRowLemmas.{pump_is_right}
-use Rattle.hyd_curves.proofs.StraightLineCurveRowLemmas.{many_points, few}
+use Rattle.hyd_curves.proofs.StraightLineCurveLemmas.{other_pump, next_pump, as_before, with_one, pump_small}
+use Rattle.hyd_curves.proofs.StraightLineCurveLemmas.{pump_is_right}
+use Rattle.hyd_curves.proofs.StraightLineCurveLemmas.{many_points, few}
 use Rattle.hyd_curves.proofs.straight_line_curves.Bends.add_pump.Goals as goal
 
 nothing : Line

@@ -7,12 +7,12 @@ use Rattle.hyd_spec_lines.specs.declared.section.Section.TheVariants.{Junctions}
 use Rattle.hyd_spec_input.specs.Curves.{head_points}
 use Rattle.hyd_spec_input.specs.MeaningsAcrossRows.{as_list}
 use Rattle.hyd_spec_input.specs.Project.{bend_points}
-use Rattle.hyd_rows_and_tables.specs.FirstWrongRow.{rows_at}
-use Rattle.hyd_rows_and_tables.proofs.FoundLemmas.{row_at}
+use Rattle.hyd_rows_and_tables.specs.RowsOfLines.{rows_at}
+use Rattle.hyd_rows_and_tables.proofs.FirstWrongRowLemmas.{row_at}
 use Rattle.hyd_curves.specs.NamedStraightLineCurves.{IsSmallHead, valve_names}
 use Rattle.hyd_curves.specs.Points.{points_in}
-use Rattle.hyd_curves.proofs.StraightLineCurveRowLemmas.{other_valve, next_valve, valve_as_before, valve_with_one}
-use Rattle.hyd_curves.proofs.StraightLineCurveRowLemmas.{valve_small}
+use Rattle.hyd_curves.proofs.StraightLineCurveLemmas.{other_valve, next_valve, valve_as_before, valve_with_one}
+use Rattle.hyd_curves.proofs.StraightLineCurveLemmas.{valve_small}
 use Rattle.hyd_curves.proofs.straight_line_curves.Bends.add_valve.Goals as goal
 
 nothing : Line

@@ -1,6 +1,6 @@
 use Rattle.std.proofs.Common.{◌∙◌}
-use Rattle.hyd_curves.proofs.NamedLemmas.{with_is}
-use Rattle.hyd_curves.proofs.TankRowLemmas.{list_more}
+use Rattle.hyd_curves.proofs.NamesOnceLemmas.{with_is}
+use Rattle.hyd_curves.proofs.VolumeCurveLemmas.{list_more}
 use Rattle.hyd_curves.proofs.volume_curves.Shapes.add.Goals as goal
 
 pub returns-then-not-new-clause-names : goal.returns-then-not-new-clause-names

@@ -5,11 +5,11 @@ use Rattle.hyd_spec_lines.specs.declared.line.Line.{Line}
 use Rattle.hyd_spec_lines.specs.declared.section.Section.TheVariants.{Junctions}
 use Rattle.hyd_spec_input.specs.Curves.{volume_points}
 use Rattle.hyd_spec_input.specs.Project.{shape_points}
-use Rattle.hyd_rows_and_tables.specs.FirstWrongRow.{rows_at}
-use Rattle.hyd_rows_and_tables.proofs.FoundLemmas.{row_at}
+use Rattle.hyd_rows_and_tables.specs.RowsOfLines.{rows_at}
+use Rattle.hyd_rows_and_tables.proofs.FirstWrongRowLemmas.{row_at}
 use Rattle.hyd_curves.specs.NamedVolumeCurves.{IsSmallVolume}
 use Rattle.hyd_curves.specs.Points.{points_in}
-use Rattle.hyd_curves.proofs.TankRowLemmas.{skip_row, none_row, named_row, named_small, tank_is_right}
+use Rattle.hyd_curves.proofs.VolumeCurveLemmas.{skip_row, none_row, named_row, named_small, tank_is_right}
 use Rattle.hyd_curves.proofs.volume_curves.Shapes.add_row.Goals as goal
 
 nothing : Line

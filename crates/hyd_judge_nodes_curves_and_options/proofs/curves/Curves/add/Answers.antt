@@ -2,10 +2,10 @@ use Rattle.std.proofs.Common.{◌+◌, List, [], ◌∷◌, length, take, sym, a
 use Rattle.hyd_spec_lines.specs.declared.line.Line.{Line}
 use Rattle.hyd_spec_lines.specs.declared.section.Section.TheVariants.{Junctions, Curves as InCurves}
 use Rattle.hyd_spec_input.specs.Columns.{first}
-use Rattle.hyd_spec_input.specs.Tables.{rows_of}
-use Rattle.hyd_spec_input.specs.RowsTogether.{passes}
-use Rattle.hyd_rows_and_tables.specs.FirstWrongRow.{rows_at}
-use Rattle.hyd_rows_and_tables.proofs.FoundLemmas.{row_at}
+use Rattle.hyd_spec_input.specs.SectionsAndTables.{rows_of}
+use Rattle.hyd_spec_input.specs.FaultsWithOtherRows.{passes}
+use Rattle.hyd_rows_and_tables.specs.RowsOfLines.{rows_at}
+use Rattle.hyd_rows_and_tables.proofs.FirstWrongRowLemmas.{row_at}
 use Rattle.hyd_judge_nodes_curves_and_options.proofs.CurveLemmas.{skip_row, add_row}
 use Rattle.hyd_judge_nodes_curves_and_options.proofs.curves.Curves.add.Goals as goal
 

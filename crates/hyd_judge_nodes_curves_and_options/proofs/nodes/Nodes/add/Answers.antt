@@ -1,9 +1,9 @@
 use Rattle.std.proofs.Common.{take, sym, ◌∙◌, arith}
 use Rattle.hyd_spec_lines.specs.declared.line.Line.{Line}
 use Rattle.hyd_spec_lines.specs.declared.section.Section.TheVariants.{Junctions, Curves, Patterns}
-use Rattle.hyd_spec_input.specs.Tables.{node_rows, rows_of}
-use Rattle.hyd_rows_and_tables.specs.FirstWrongRow.{rows_at}
-use Rattle.hyd_rows_and_tables.proofs.FoundLemmas.{row_at}
+use Rattle.hyd_spec_input.specs.SectionsAndTables.{node_rows, rows_of}
+use Rattle.hyd_rows_and_tables.specs.RowsOfLines.{rows_at}
+use Rattle.hyd_rows_and_tables.proofs.FirstWrongRowLemmas.{row_at}
 use Rattle.hyd_rows_and_tables.proofs.TableLemmas.{even}
 use Rattle.hyd_judge_nodes_curves_and_options.proofs.NodeLemmas.{node_is_right, skip_row, add_row}
 use Rattle.hyd_judge_nodes_curves_and_options.proofs.nodes.Nodes.add.Goals as goal

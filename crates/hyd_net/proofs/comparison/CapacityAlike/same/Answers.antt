@@ -1,5 +1,5 @@
 use Rattle.std.proofs.Common.{true}
-use Rattle.hyd_net.proofs.Equal.{compared_capacity-decides, compared_capacity-apart}
+use Rattle.hyd_net.proofs.EqualValues.{compared_capacity-decides, compared_capacity-apart}
 use Rattle.hyd_net.proofs.comparison.CapacityAlike.same.Goals as goal
 
 pub returns-then-same_end : goal.returns-then-same_end

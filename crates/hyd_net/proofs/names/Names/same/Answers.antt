@@ -1,4 +1,4 @@
-use Rattle.hyd_net.proofs.Equal.{ids-decide}
+use Rattle.hyd_net.proofs.EqualValues.{ids-decide}
 use Rattle.hyd_net.proofs.names.Names.same.Goals as goal
 
 pub returns : goal.returns

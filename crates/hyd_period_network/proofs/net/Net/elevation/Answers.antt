@@ -2,7 +2,7 @@ use Rattle.std.proofs.Common.{◌≡◌, length, Some, slice_get, to_z, of_z, w6
 use Rattle.std.proofs.lemmas.Int.{ints}
 use Rattle.std.proofs.lemmas.Option.{slice_get_read}
 use Rattle.hyd_period_network.specs.NetView.{NetView}
-use Rattle.hyd_period_network.specs.NetInvariant.{IsSoundJunction}
+use Rattle.hyd_period_network.specs.SoundNets.{IsSoundJunction}
 use Rattle.hyd_period_network.proofs.NetItemsInGrid.{all_at, elevation_at}
 use Rattle.hyd_period_network.proofs.net.Net.elevation.Goals as goal
 

@@ -3,7 +3,7 @@ use Rattle.std.proofs.lemmas.Int.{ints}
 use Rattle.std.proofs.lemmas.Option.{slice_get_read}
 use Rattle.hyd_spec_certificates.specs.PeriodNetwork.{tank_side}
 use Rattle.hyd_period_network.specs.NetView.{NetView}
-use Rattle.hyd_period_network.specs.NetInvariant.{AreHeads}
+use Rattle.hyd_period_network.specs.SoundNets.{AreHeads}
 use Rattle.hyd_period_network.proofs.HeadsOfReservoirsAndTanks.{fixed_tank, upper_end, lower_end}
 use Rattle.hyd_period_network.proofs.NetItemsInGrid.{all_at}
 use Rattle.hyd_period_network.proofs.net.Net.fixed.Goals as goal

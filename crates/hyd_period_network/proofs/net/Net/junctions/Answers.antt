@@ -1,5 +1,5 @@
 use Rattle.std.proofs.Common.{◌≡◌, length, subst}
-use Rattle.hyd_theorems_on_definitions.specs.TermsOfTheorems.{IsSteady}
+use Rattle.hyd_theorems_on_definitions.specs.SoundLawsAndGrids.{IsSteady}
 use Rattle.hyd_period_network.specs.NetView.{NetView}
 use Rattle.hyd_period_network.specs.NetAsPeriodNetwork.{grid_of}
 use Rattle.hyd_period_network.proofs.GridJunctionsAndLinks.{junctions_count}

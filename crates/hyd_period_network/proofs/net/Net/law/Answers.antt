@@ -1,7 +1,7 @@
 use Rattle.std.proofs.Common.{◌≡◌, length, Some, slice_get, refl, ap, subst, arith}
 use Rattle.std.proofs.lemmas.Option.{slice_get_read}
 use Rattle.hyd_period_network.specs.NetView.{NetView}
-use Rattle.hyd_period_network.specs.NetInvariant.{IsSoundNet}
+use Rattle.hyd_period_network.specs.SoundNets.{IsSoundNet}
 use Rattle.hyd_period_network.proofs.NetItemsInGrid.{law_at, law_stands}
 use Rattle.hyd_period_network.proofs.net.Net.law.Goals as goal
 

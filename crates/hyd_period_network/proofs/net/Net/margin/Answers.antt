@@ -2,9 +2,9 @@ use Rattle.std.proofs.Common.{◌≡◌, ◌≤◌, ◌*◌, ◌^◌, ◌+◌, l
 use Rattle.std.proofs.lemmas.Int.{ints}
 use Rattle.hyd_spec.specs.Scale.{missed_flow_ticks}
 use Rattle.hyd_period_network.specs.NetView.{NetView}
-use Rattle.hyd_period_network.specs.NetInvariant.{IsSoundNet}
+use Rattle.hyd_period_network.specs.SoundNets.{IsSoundNet}
 use Rattle.hyd_period_network.specs.LinkEnds.{ties_from}
-use Rattle.hyd_period_network.proofs.TieLemmas.{few}
+use Rattle.hyd_period_network.proofs.LinkEndLemmas.{few}
 use Rattle.hyd_period_network.proofs.NetItemsInGrid.{row_at, margin_is}
 use Rattle.hyd_period_network.proofs.net.Net.margin.Goals as goal
 

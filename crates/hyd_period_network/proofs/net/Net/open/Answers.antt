@@ -4,14 +4,14 @@ use Rattle.std.proofs.lemmas.Int.{ints}
 use Rattle.hyd_net.specs.NumberRanges.{IsHead}
 use Rattle.hyd_spec.specs.ProgramTypes.{Junction}
 use Rattle.std.specs.Prelude.{List}
-use Rattle.hyd_law.specs.declared.demand_kinds.OutLaw.{OutLaw}
-use Rattle.hyd_law.specs.declared.demand_kinds.OutLaw.TheVariants.{Fixed}
+use Rattle.hyd_law.specs.declared.demand_law_kinds.OutLaw.{OutLaw}
+use Rattle.hyd_law.specs.declared.demand_law_kinds.OutLaw.TheVariants.{Fixed}
 use Rattle.hyd_spec_certificates.specs.declared.LevelSpan.{LevelSpan}
-use Rattle.hyd_period_network.specs.declared.net_types.Ends.{Ends}
+use Rattle.hyd_period_network.specs.declared.junctions_ends_and_settings.Ends.{Ends}
 use Rattle.hyd_period_network.specs.NetView.{NetView}
 use Rattle.hyd_period_network.specs.Demands.{IsNetJunction, IsHeld}
 use Rattle.hyd_period_network.specs.LawsInSettings.{closed_setting}
-use Rattle.hyd_period_network.specs.NetInvariant.{AreHeads}
+use Rattle.hyd_period_network.specs.SoundNets.{AreHeads}
 use Rattle.hyd_period_network.specs.NetsSetToPeriods.{ends_of, IsNetOf, IsFresh}
 use Rattle.hyd_period_network.specs.LinkEnds.{AreRows}
 use Rattle.hyd_period_network.proofs.ClosedLaws.{closed_stand}

@@ -1,12 +1,12 @@
 use Rattle.std.proofs.Common.{◌≡◌, length, ◌∙◌, All, ap, subst, arith}
 use Rattle.hyd_spec.specs.Assignment.{head_at}
 use Rattle.hyd_period_network.specs.NetView.{NetView}
-use Rattle.hyd_period_network.specs.NetInvariant.{IsSoundNet}
+use Rattle.hyd_period_network.specs.SoundNets.{IsSoundNet}
 use Rattle.hyd_period_network.specs.NetAsPeriodNetwork.{grid_of, node_count}
 use Rattle.hyd_period_network.specs.LinkEnds.{ties_from, ties_share, IsTie}
 use Rattle.hyd_period_network.proofs.NetItemsInGrid.{row_at}
 use Rattle.hyd_period_network.proofs.SumsOverLinkEnds.{sum_over_ties, count_of_ties}
-use Rattle.hyd_period_network.proofs.TieLemmas.{few, are_ties}
+use Rattle.hyd_period_network.proofs.LinkEndLemmas.{few, are_ties}
 use Rattle.hyd_period_network.proofs.net.Net.row.Goals as goal
 
 row_is : (c : goal.After-as_slice) → c.as_slice.result.now ≡ ties_from c.args.node 0 c.self.inside.ends.items

@@ -3,7 +3,7 @@ use Rattle.std.specs.List.{AllZip}
 use Rattle.hyd_period_network.specs.NetView.{NetView}
 use Rattle.hyd_period_network.specs.Demands.{IsNetJunction}
 use Rattle.hyd_period_network.specs.LawsInSettings.{AreLaws}
-use Rattle.hyd_period_network.specs.NetInvariant.{IsSoundNet}
+use Rattle.hyd_period_network.specs.SoundNets.{IsSoundNet}
 use Rattle.hyd_period_network.specs.LinkEnds.{AreRowsOf}
 use Rattle.hyd_period_network.proofs.SetNetIsGrid.{IsPut, grid_is, states_set, own_set, shut_set}
 use Rattle.hyd_period_network.proofs.OverwrittenLists.{refilled}

@@ -3,7 +3,7 @@ use Rattle.std.specs.Prelude.{Option}
 use Rattle.hyd_cert.specs.Lines.{Header}
 use Rattle.hyd_cert.specs.RecordView.{row_of}
 use Rattle.hyd_period_network.specs.NetAsPeriodNetwork.{grid_of}
-use Rattle.hyd_period_vectors.specs.Vectors.{IsSought, EachBefore, Fits}
+use Rattle.hyd_period_vectors.specs.SoughtVectors.{IsSought, EachBefore, Fits}
 use Rattle.hyd_period_vectors.proofs.SearchGoesOn.{before-same}
 use Rattle.hyd_period_vectors.proofs.search.Search.find.Goals as goal
 

@@ -2,7 +2,7 @@ use Rattle.std.proofs.Common.{◌≡◌, ◌+◌, ◌*◌}
 use Rattle.std.specs.Prelude.{length}
 use Rattle.hyd_period_network.specs.NetAsPeriodNetwork.{grid_of}
 use Rattle.hyd_cert.specs.RecordView.{header_of, row_of}
-use Rattle.hyd_period_vectors.specs.Vectors.{IsSought, Comes, EachBefore, Stays, Fits}
+use Rattle.hyd_period_vectors.specs.SoughtVectors.{IsSought, Comes, EachBefore, Stays, Fits}
 use Rattle.hyd_period_vectors.proofs.search.Search.find.Given as goal
 
 abbrev pub invariant-loop-tank : goal.invariant-loop-tank

@@ -1,9 +1,9 @@
 use Rattle.std.proofs.Common.{◌+◌, length}
 use Rattle.hyd_spec_certificates.specs.declared.Side.TheVariants.{Upper, Lower}
-use Rattle.hyd_spec_reports.specs.Stops.{turn}
+use Rattle.hyd_spec_reports.specs.TurnsOfProblems.{turn}
 use Rattle.hyd_cert.specs.RecordView.{row_of}
 use Rattle.hyd_period_network.specs.NetAsPeriodNetwork.{grid_of}
-use Rattle.hyd_period_vectors.specs.Vectors.{Comes, EachBefore}
+use Rattle.hyd_period_vectors.specs.SoughtVectors.{Comes, EachBefore}
 use Rattle.hyd_lemmas.proofs.ListsOptionsAndResults.{on-ok}
 use Rattle.hyd_period_vectors.proofs.SearchGoesOn.{next-turn, before-same}
 use Rattle.hyd_period_vectors.proofs.search.Search.find_both.Goals as goal

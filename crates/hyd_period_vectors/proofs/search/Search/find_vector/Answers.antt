@@ -6,8 +6,8 @@ use Rattle.hyd_cert.specs.RecordView.{row_of, IsProblemOf}
 use Rattle.hyd_spec_certificates.specs.declared.Problem.TheVariants.{Main}
 use Rattle.hyd_spec_certificates.specs.PeriodNetwork.{opposite}
 use Rattle.hyd_spec_certificates.specs.RecordAndStanding.{vector_of}
-use Rattle.hyd_period_vectors.specs.OpenedSearch.{Room}
-use Rattle.hyd_period_vectors.specs.Vectors.{IsSought, Comes}
+use Rattle.hyd_period_vectors.specs.SizeOfSearch.{Room}
+use Rattle.hyd_period_vectors.specs.SoughtVectors.{IsSought, Comes}
 use Rattle.hyd_period_vectors.proofs.SoughtVectors.{sought-certificate}
 use Rattle.hyd_period_vectors.proofs.VectorsInTurn.{before-more}
 use Rattle.hyd_period_vectors.proofs.search.Search.find_vector.Goals as goal

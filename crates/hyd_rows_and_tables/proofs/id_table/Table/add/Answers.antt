@@ -1,5 +1,5 @@
 use Rattle.std.proofs.Common.{refl, sym, ◌∙◌}
-use Rattle.hyd_rows_and_tables.specs.FirstWrongRow.{rows_at}
+use Rattle.hyd_rows_and_tables.specs.RowsOfLines.{rows_at}
 use Rattle.hyd_rows_and_tables.proofs.TableLemmas.{new_is, firsts_push, firsts_keep, not_false}
 use Rattle.hyd_rows_and_tables.proofs.id_table.Table.add.Goals as goal
 

@@ -3,9 +3,9 @@ use Rattle.std.specs.Prelude.{IsOk}
 use Rattle.hyd_spec.specs.NodeNumbers.{tank_count}
 use Rattle.hyd_spec_certificates.specs.RecordAndStanding.{Record as Row}
 use Rattle.hyd_cert.specs.RecordView.{row_of}
-use Rattle.hyd_period_vectors.specs.Vectors.{HaveSame}
+use Rattle.hyd_period_vectors.specs.SoughtVectors.{HaveSame}
 use Rattle.hyd_sim.specs.Steps.{IsProposal}
-use Rattle.hyd_sim.specs.View.{SimView, standing_of}
+use Rattle.hyd_sim.specs.RunView.{SimView, standing_of}
 use Rattle.hyd_sim.proofs.sim.Sim.period.Goals as goal
 
 pub returns-clause-proposal : goal.returns-clause-proposal

@@ -1,8 +1,8 @@
 use Rattle.std.proofs.Common.{sym, subst, ◌∙◌, arith}
-use Rattle.hyd_sim.specs.View.{IsStanding}
+use Rattle.hyd_sim.specs.RunView.{IsStanding}
 use Rattle.hyd_sim.proofs.StandingAfter.{small-number, finished-standing, in-time, same-later, standing-later}
 use Rattle.hyd_sim.proofs.StandingAfter.{room-later}
-use Rattle.hyd_sim.proofs.StopsAndNextStandings.{at-later}
+use Rattle.hyd_sim.proofs.StandingAfter.{at-later}
 use Rattle.hyd_sim.proofs.standing_between_periods.Standing.move_on.Goals as goal
 
 pub finish-requires : goal.finish-requires

@@ -1,0 +1,2 @@
+pub mod LinesInForce
+pub mod PatternsSoFar

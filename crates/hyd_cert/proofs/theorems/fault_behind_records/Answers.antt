@@ -1,5 +1,0 @@
-use Rattle.hyd_cert.proofs.CertificatesLineByLine.{fault_behind}
-use Rattle.hyd_cert.proofs.theorems.fault_behind_records.Goals as goal
-
-pub returns : goal.returns
-returns c = fault_behind

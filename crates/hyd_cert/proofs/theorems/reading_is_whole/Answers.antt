@@ -1,5 +1,0 @@
-use Rattle.hyd_cert.proofs.CertificatesLineByLine.{whole_reading}
-use Rattle.hyd_cert.proofs.theorems.reading_is_whole.Goals as goal
-
-pub returns : goal.returns
-returns c = whole_reading

@@ -1,0 +1,3 @@
+pub mod NamesOfLinksAndNodes
+pub mod Controls
+pub mod Rules

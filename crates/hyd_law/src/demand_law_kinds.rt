@@ -1,0 +1,34 @@
+//! The laws that a demand can have.
+#![tactic(auto)]
+
+use hyd_num::{Capacity, Decimal, Span};
+
+/// A demand that doesn't depend on the pressure, in flow ticks.
+#[derive(Debug, Clone, Copy, PartialEq, Eq, Drop)]
+pub struct Fixed {
+    pub demand: i64,
+}
+
+/// A demand that depends on the pressure: nothing up to a minimum one, all from a required one on, and by the square
+/// root law between (EPANET 2.2 User Manual, pressure-driven demand). `p0` and `pf` are the floors and ceilings of the
+/// two pressures in head ticks.
+#[derive(Debug, Clone, Copy, PartialEq, Eq, Drop)]
+pub struct Pda {
+    pub demand: i64,
+    pub cap: Capacity,
+    pub p0: Span,
+    pub pf: Span,
+    /// The file's minimum pressure.
+    pub minimum: Decimal,
+    /// The file's required pressure.
+    pub required: Decimal,
+    /// Whether the file's pressures are in pounds a square inch.
+    pub us: bool,
+}
+
+/// The law of a junction's demand, by its head above the elevation.
+#[derive(Debug, Clone, Copy, PartialEq, Eq, Drop)]
+pub enum OutLaw {
+    Fixed(Fixed),
+    Pda(Pda),
+}

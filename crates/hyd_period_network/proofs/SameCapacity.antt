@@ -1,1 +1,0 @@
--- Two capacities of which the bounds and the numbers behind are the same are the same.

@@ -1,6 +1,0 @@
--- What a search is opened for.
-use Rattle.std.specs.Prelude.{ℕ}
-
-pub record Room : Type 0 where
-  pub junctions : ℕ
-  pub rounds : ℕ

@@ -1,0 +1,2 @@
+pub mod TriedRules
+pub mod Readings
