@@ -70,8 +70,8 @@ pub pipe_alone : (text : List ℕ) (from : RowsForLinks) (line : Line) → IsRow
     → line.section ≡ Pipes → alone.pipe (row_of text line).words ≡ None
 pipe_alone text from line at e =
     let of : is_of Pipes (row_of text line) ≡ true = rw e refl in
-    right_alone (rows_from text from) Pipes at.among.place (row_of text line) (rows_for_links_are_right text from at.right)
-    at.among.is of
+    right_alone (rows_from text from) Pipes at.among.place (row_of text line)
+    (rows_for_links_are_right text from at.right) at.among.is of
 
 -- ---- valves
 

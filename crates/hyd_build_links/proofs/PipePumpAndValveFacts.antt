@@ -48,7 +48,8 @@ pub pipe_facts : (text : List ℕ) (from : RowsForLinks) (line : Line) → IsRow
 pipe_facts text from line at =
     let rows = rows_from text from in
     let row = row_of text line in
-    let own = right_alone rows Pipes at.among.place row (rows_for_links_are_right text from at.right) at.among.is at.of in
+    let own = right_alone rows Pipes at.among.place row (rows_for_links_are_right text from at.right) at.among.is
+    at.of in
     record {
       own = own;
       numbers = pipe_numbers row.words own;
@@ -77,7 +78,8 @@ pub valve_facts : (text : List ℕ) (from : RowsForLinks) (line : Line) → IsRo
 valve_facts text from line at =
     let rows = rows_from text from in
     let row = row_of text line in
-    let own = right_alone rows Valves at.among.place row (rows_for_links_are_right text from at.right) at.among.is at.of in
+    let own = right_alone rows Valves at.among.place row (rows_for_links_are_right text from at.right) at.among.is
+    at.of in
     let free = free_row text from at.among.place row Valves at.right at.among.is at.of in
     record {
       own = own;

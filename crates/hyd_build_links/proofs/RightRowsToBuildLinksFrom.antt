@@ -14,7 +14,8 @@ use Rattle.hyd_build_links.specs.RowsToBuildLinksFrom.{AreRightRowsForLinks, row
 use Rattle.hyd_build_links.specs.declared.rows_to_build_links_from.RowsForLinks.{RowsForLinks}
 use Rattle.hyd_theorems_on_input.proofs.NoEmptyWords.{no_empty_word}
 
-pub rows_for_links_are_right : (text : List ℕ) (from : RowsForLinks) → AreRightRowsForLinks text from → AreRight (rows_from text from)
+pub rows_for_links_are_right : (text : List ℕ) (from : RowsForLinks) → AreRightRowsForLinks text from
+    → AreRight (rows_from text from)
 rows_for_links_are_right text from right =
     let rows = rows_from text from in
     record {
@@ -29,8 +30,8 @@ rows_for_links_are_right text from right =
     }
 
 -- no capacity of a row is out of range
-pub free_row : (text : List ℕ) (from : RowsForLinks) (k : ℕ) (row : Row) (section : Section) → AreRightRowsForLinks text from
-    → slice_get (rows_from text from) k ≡ Some row → is_of section row ≡ true
+pub free_row : (text : List ℕ) (from : RowsForLinks) (k : ℕ) (row : Row) (section : Section)
+    → AreRightRowsForLinks text from → slice_get (rows_from text from) k ≡ Some row → is_of section row ≡ true
     → IsRefusedIn section (rows_from text from) (others.holds_action (take k (rows_from text from)) row) row → ⊥
 free_row text from k row section right is of refused =
     let rows = rows_from text from in

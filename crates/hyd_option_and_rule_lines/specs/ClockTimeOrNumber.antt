@@ -9,5 +9,6 @@ use Rattle.hyd_option_and_rule_lines.specs.declared.words_of_times_and_clock_tim
 
 -- what a word says: hours, minutes and seconds where it has a colon, else a number
 abbrev pub SaysClockTimeOrNumber : List ℕ → ClockTimeOrNumber → Type 0
-SaysClockTimeOrNumber word (Clock seconds) = (has_colon word ≡ true) × (seconds ≡ seconds_of_parts (slice_split is_colon word))
+SaysClockTimeOrNumber word (Clock seconds) =
+    (has_colon word ≡ true) × (seconds ≡ seconds_of_parts (slice_split is_colon word))
 SaysClockTimeOrNumber word (Number number) = (has_colon word ≡ false) × (number.nano ≡ nano_of word)

@@ -37,7 +37,8 @@ levels-there project standing levels are kept tidy = record {
       let there = item_there project.tanks.list k (omega (arith, less, long)) in
       let own = item_is project.tanks.list k there.0 tank there.1 in
       let at : level_of_tank standing k ≡ levels_of (slice_index_or levels k span) =
-      ap (λ (xs : List Interval). slice_index_or xs k nowhere) (sym are) ∙ mapped levels_of levels k nowhere span less in
+      ap (λ (xs : List Interval). slice_index_or xs k nowhere) (sym are) ∙ mapped levels_of levels k nowhere span
+      less in
       subst (λ (t : Tank). IsSpanOf t (slice_index_or levels k span)) (sym own)
       (span-of there.0 (slice_index_or levels k span) (level_of_tank standing k) at (kept.levels k there.0 there.1)
       (tidy.ordered k).level);

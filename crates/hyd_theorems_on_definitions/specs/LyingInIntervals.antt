@@ -1,5 +1,5 @@
--- Where levels, heads and stocks lie: in intervals, between others, inside others, and the assignments of a period whose
--- levels lie so.
+-- Where levels, heads and stocks lie: in intervals, between others, inside others, and the assignments of a period
+-- whose levels lie so.
 use Rattle.std.specs.Prelude.{Some, ℕ, ◌<◌, ◌≤◌, ℤ, ◌≤ℤ◌, List}
 use Rattle.std.specs.Prelude.{◌*ℤ◌, pos}
 use Rattle.std.specs.List.{AllZip}

@@ -16,7 +16,8 @@ number-requires c =
     let row = row_of text c.args.line.now in
     let k = c.requires.row.among.place in
     let each = all_none (others.ends_faults rows k row)
-    (ends_right rows k row (rows_for_links_are_right text from c.requires.row.right) c.requires.row.among.is c.requires.row.of) in
+    (ends_right rows k row (rows_for_links_are_right text from c.requires.row.right) c.requires.row.among.is
+    c.requires.row.of) in
     rw (c.requires.row.right.nodes, c.or_empty.ensures) (node_numbered rows (word 1 row.words) each.1.1.0)
 
 pub number-requires-2 : goal.number-requires-2
@@ -27,5 +28,6 @@ number-requires-2 c =
     let row = row_of text c.args.line.now in
     let k = c.requires.row.among.place in
     let each = all_none (others.ends_faults rows k row)
-    (ends_right rows k row (rows_for_links_are_right text from c.requires.row.right) c.requires.row.among.is c.requires.row.of) in
+    (ends_right rows k row (rows_for_links_are_right text from c.requires.row.right) c.requires.row.among.is
+    c.requires.row.of) in
     rw (c.requires.row.right.nodes, c.or_empty-2.ensures) (node_numbered rows (word 2 row.words) each.1.1.1.0)

@@ -22,8 +22,8 @@ returns-in-Some-Run-clause-runs g c order asked =
     subst (λ (o : RunOrder). DoesRun o c.run_files.result before now (g.D.Desk.openings c.args.desk.now)
     (g.D.Desk.openings c.run_files.new.desk)) (sym (same_run words c.args.found order found asked)) (record {
       refused = c.run_files.ensures.refused;
-      runs = λ text told none. subst (λ (s : Settings). AnswersText text s (run_seen words).files.cert c.run_files.result
-          before now) c.settings_of.ensures (c.run_files.ensures.run text told none);
+      runs = λ text told none. subst (λ (s : Settings). AnswersText text s (run_seen words).files.cert
+          c.run_files.result before now) c.settings_of.ensures (c.run_files.ensures.run text told none);
       holds = c.run_files.ensures.holds;
       others = c.run_files.ensures.others;
       once = c.run_files.ensures.once;
