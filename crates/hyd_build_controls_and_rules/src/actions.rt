@@ -17,11 +17,11 @@ ghost use Rattle.hyd_build_controls_and_rules.specs.RightRowsOfCommands.{IsRight
 use crate::name_numbers_and_ticks::number_of;
 use hyd_asked_link_states::link_state;
 use hyd_lex::{Line, Lines};
-use hyd_net::{Action, LinkState, Names};
+use hyd_net::{Action, LinkState};
 use hyd_num::FlowUnit;
 use hyd_option_and_rule_lines::asked_at;
 use hyd_row_words::or_empty;
-use hyd_rows_and_tables::Table;
+use hyd_rows_and_tables::{NumberedIds, Table};
 
 // What stands for an action of a file with a fault.
 const NO_ACTION: Action = Action {
@@ -34,7 +34,7 @@ pub(crate) fn action_of(
     text: &Lines<'_>,
     lines: &[Line],
     place: usize,
-    links: &Names,
+    links: &NumberedIds,
     table: &Table,
     unit: FlowUnit,
 ) -> Action

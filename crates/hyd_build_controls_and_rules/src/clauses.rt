@@ -20,13 +20,20 @@ ghost use Rattle.hyd_build_controls_and_rules.specs.Clauses.{HasNumber, IsOfAttr
 use crate::compared_values::{quantity_value, time_value};
 use crate::name_numbers_and_ticks::number_of;
 use hyd_lex::{Line, Lines};
-use hyd_net::{Clause, Joined, Names, RuleClause, Value, What};
+use hyd_net::{Clause, Joined, RuleClause, Value, What};
 use hyd_num::FlowUnit;
 use hyd_option_and_rule_lines::{Attribute, ClauseLine};
 use hyd_row_words::or_empty;
+use hyd_rows_and_tables::NumberedIds;
 
 // What a clause speaks of.
-fn what_of(attribute: Attribute, name: &[u8], nodes: &Names, tanks: &Names, links: &Names) -> What
+fn what_of(
+    attribute: Attribute,
+    name: &[u8],
+    nodes: &NumberedIds,
+    tanks: &NumberedIds,
+    links: &NumberedIds,
+) -> What
     requires { HasNumber nodes.now tanks.now links.now attribute name.now }
     ensures kind { IsOfAttribute attribute result }
     ensures what { (rows : List Row) (words : List (List ℕ)) → nodes.now ≡ node_ids rows → tanks.now ≡ tank_ids rows
@@ -105,9 +112,9 @@ pub(crate) fn clause_of(
     line: &Line,
     clause: &ClauseLine,
     joined: Joined,
-    nodes: &Names,
-    tanks: &Names,
-    links: &Names,
+    nodes: &NumberedIds,
+    tanks: &NumberedIds,
+    links: &NumberedIds,
     unit: FlowUnit,
 ) -> RuleClause
     requires lies { LiesIn text.now.text line.now }

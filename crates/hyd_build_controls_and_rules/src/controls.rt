@@ -20,11 +20,11 @@ ghost use Rattle.hyd_build_controls_and_rules.specs.Controls.{IsRightWhen, AreCo
 use crate::name_numbers_and_ticks::{level_ticks, number_of};
 use hyd_asked_link_states::link_state;
 use hyd_lex::{Line, Lines};
-use hyd_net::{Control, LinkState, List, Names, OutOfMemory, When};
+use hyd_net::{Control, LinkState, List, OutOfMemory, When};
 use hyd_num::FlowUnit;
 use hyd_option_and_rule_lines::{WhenLine, read_control};
 use hyd_row_words::or_empty;
-use hyd_rows_and_tables::{Table, is_controls};
+use hyd_rows_and_tables::{NumberedIds, Table, is_controls};
 use std::alloc::Global;
 
 // What stands for a control of a file with a fault.
@@ -35,7 +35,13 @@ const NO_CONTROL: Control = Control {
 };
 
 // When a control acts.
-fn when_of(text: &Lines<'_>, line: &Line, tanks: &Names, when: WhenLine, unit: FlowUnit) -> When
+fn when_of(
+    text: &Lines<'_>,
+    line: &Line,
+    tanks: &NumberedIds,
+    when: WhenLine,
+    unit: FlowUnit,
+) -> When
     requires lies { LiesIn text.now.text line.now }
     requires says { meaning.IsWhen (words_at text.now line.now) when }
     requires right { IsRightWhen tanks.now unit (words_at text.now line.now) }
@@ -63,8 +69,8 @@ fn control_of(
     text: &Lines<'_>,
     lines: &[Line],
     place: usize,
-    tanks: &Names,
-    links: &Names,
+    tanks: &NumberedIds,
+    links: &NumberedIds,
     table: &Table,
     unit: FlowUnit,
 ) -> Control
@@ -102,8 +108,8 @@ fn add_control(
     text: &Lines<'_>,
     lines: &[Line],
     place: usize,
-    tanks: &Names,
-    links: &Names,
+    tanks: &NumberedIds,
+    links: &NumberedIds,
     table: &Table,
     unit: FlowUnit,
 ) -> Result<(), OutOfMemory>
@@ -130,8 +136,8 @@ pub fn build_controls(
     alloc: Global,
     text: &Lines<'_>,
     lines: &[Line],
-    tanks: &Names,
-    links: &Names,
+    tanks: &NumberedIds,
+    links: &NumberedIds,
     table: &Table,
     unit: FlowUnit,
 ) -> Result<List<Control>, OutOfMemory>

@@ -7,12 +7,12 @@ ghost use Rattle.hyd_num.specs.FileQuantity as quantity;
 ghost use Rattle.hyd_num.specs.FileQuantity.{is_us_unit};
 ghost use Rattle.hyd_spec_input.specs.MeaningsAcrossRows.{number_in};
 
-use hyd_net::Names;
 use hyd_num::{Decimal, FlowUnit};
+use hyd_rows_and_tables::NumberedIds;
 use hyd_units::head_ticks;
 
 /// The number of an ID that is there.
-pub(crate) fn number_of(ids: &Names, name: &[u8]) -> u32
+pub(crate) fn number_of(ids: &NumberedIds, name: &[u8]) -> u32
     requires { ¬ (number_in ids.now name.now ≡ None) }
     ensures { number_in ids.now name.now ≡ Some result }
 {

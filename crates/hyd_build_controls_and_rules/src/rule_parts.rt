@@ -28,13 +28,11 @@ use crate::actions::action_of;
 use crate::clauses::clause_of;
 use hyd_judge_single_rows::{first_word, is_rule, is_rules, stage_by};
 use hyd_lex::{Line, Lines};
-use hyd_net::{
-    Action, Clause, Joined, List, Names, OutOfMemory, Relation, RuleClause, Value, What,
-};
+use hyd_net::{Action, Clause, Joined, List, OutOfMemory, Relation, RuleClause, Value, What};
 use hyd_num::FlowUnit;
 use hyd_option_and_rule_lines::{ClauseLine, RuleLine, read_rule_line};
 use hyd_row_words::number;
-use hyd_rows_and_tables::Table;
+use hyd_rows_and_tables::{NumberedIds, Table};
 use hyd_spec_input::{RuleWord, Stage};
 use std::alloc::Global;
 
@@ -102,9 +100,9 @@ fn clause_at(
     text: &Lines<'_>,
     lines: &[Line],
     place: usize,
-    nodes: &Names,
-    tanks: &Names,
-    links: &Names,
+    nodes: &NumberedIds,
+    tanks: &NumberedIds,
+    links: &NumberedIds,
     unit: FlowUnit,
 ) -> RuleClause
     requires within { place < length lines.now }
@@ -134,9 +132,9 @@ pub(crate) fn clauses_of(
     text: &Lines<'_>,
     lines: &[Line],
     from: usize,
-    nodes: &Names,
-    tanks: &Names,
-    links: &Names,
+    nodes: &NumberedIds,
+    tanks: &NumberedIds,
+    links: &NumberedIds,
     unit: FlowUnit,
 ) -> Result<List<RuleClause>, OutOfMemory>
     requires lie { All (LiesIn text.now.text) lines.now }
@@ -177,7 +175,7 @@ pub(crate) fn actions_of(
     lines: &[Line],
     from: usize,
     branch: Branch,
-    links: &Names,
+    links: &NumberedIds,
     table: &Table,
     unit: FlowUnit,
 ) -> Result<List<Action>, OutOfMemory>

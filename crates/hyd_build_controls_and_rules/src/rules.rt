@@ -18,10 +18,10 @@ ghost use Rattle.hyd_build_controls_and_rules.specs.Rules.{NamesRule, AreRules, 
 use crate::rule_parts::{Branch, actions_of, clauses_of, priority_of};
 use hyd_judge_single_rows::{first_word, is_rule, is_rules};
 use hyd_lex::{Line, Lines};
-use hyd_net::{List, Names, OutOfMemory, Rule};
+use hyd_net::{List, OutOfMemory, Rule};
 use hyd_num::FlowUnit;
 use hyd_row_words::or_empty;
-use hyd_rows_and_tables::Table;
+use hyd_rows_and_tables::{NumberedIds, Table};
 use std::alloc::Global;
 
 fn bytes_of(alloc: Global, word: &[u8]) -> Result<List<u8>, OutOfMemory>
@@ -41,9 +41,9 @@ fn rule_of(
     text: &Lines<'_>,
     lines: &[Line],
     place: usize,
-    nodes: &Names,
-    tanks: &Names,
-    links: &Names,
+    nodes: &NumberedIds,
+    tanks: &NumberedIds,
+    links: &NumberedIds,
     table: &Table,
     unit: FlowUnit,
 ) -> Result<Rule, OutOfMemory>
@@ -82,9 +82,9 @@ fn add_rule(
     text: &Lines<'_>,
     lines: &[Line],
     place: usize,
-    nodes: &Names,
-    tanks: &Names,
-    links: &Names,
+    nodes: &NumberedIds,
+    tanks: &NumberedIds,
+    links: &NumberedIds,
     table: &Table,
     unit: FlowUnit,
 ) -> Result<(), OutOfMemory>
@@ -118,9 +118,9 @@ pub fn build_rules(
     alloc: Global,
     text: &Lines<'_>,
     lines: &[Line],
-    nodes: &Names,
-    tanks: &Names,
-    links: &Names,
+    nodes: &NumberedIds,
+    tanks: &NumberedIds,
+    links: &NumberedIds,
     table: &Table,
     unit: FlowUnit,
 ) -> Result<List<Rule>, OutOfMemory>

@@ -13,8 +13,8 @@ ghost use Rattle.hyd_spec_input.specs.SectionsAndTables.{rows_of};
 ghost use Rattle.hyd_rows_and_tables.specs.RowsOfLines.{rows_at};
 
 use hyd_lex::{Line, Lines, Section};
-use hyd_net::{Names, OutOfMemory};
-use hyd_rows_and_tables::own_id;
+use hyd_net::OutOfMemory;
+use hyd_rows_and_tables::{NumberedIds, own_id};
 use std::alloc::Global;
 
 // The place of a section in the list of them all.
@@ -33,7 +33,7 @@ pub(crate) fn is_of(text: &Lines<'_>, line: &Line, section: Section) -> bool
 
 // Adds the IDs of the rows of a section, each where it isn't there yet.
 fn add_section(
-    names: &mut Names,
+    names: &mut NumberedIds,
     text: &Lines<'_>,
     lines: &[Line],
     section: Section,
@@ -54,14 +54,14 @@ fn add_section(
 }
 
 /// The IDs of junctions, then reservoirs, then tanks, of a file without a fault.
-pub fn node_ids(alloc: Global, text: &Lines<'_>, lines: &[Line]) -> Result<Names, OutOfMemory>
+pub fn node_ids(alloc: Global, text: &Lines<'_>, lines: &[Line]) -> Result<NumberedIds, OutOfMemory>
     requires few { length lines.now ≤ 2 ^ 26 }
     requires lie { All (LiesIn text.now.text) lines.now }
     requires by_itself { NoneIs (IsWrongByItself (rows_at text.now.text lines.now)) }
     requires with_others { NoneIs (IsWrongWithOthers (rows_at text.now.text lines.now)) }
     ensures { IfOk result (λ names. names ≡ across.node_ids (rows_at text.now.text lines.now)) }
 {
-    let mut names = Names::new(alloc);
+    let mut names = NumberedIds::new(alloc);
     add_section(&mut names, text, lines, Section::Junctions)?;
     add_section(&mut names, text, lines, Section::Reservoirs)?;
     add_section(&mut names, text, lines, Section::Tanks)?;
@@ -69,27 +69,27 @@ pub fn node_ids(alloc: Global, text: &Lines<'_>, lines: &[Line]) -> Result<Names
 }
 
 /// The IDs of tanks, of a file without a fault.
-pub fn tank_ids(alloc: Global, text: &Lines<'_>, lines: &[Line]) -> Result<Names, OutOfMemory>
+pub fn tank_ids(alloc: Global, text: &Lines<'_>, lines: &[Line]) -> Result<NumberedIds, OutOfMemory>
     requires few { length lines.now ≤ 2 ^ 26 }
     requires lie { All (LiesIn text.now.text) lines.now }
     requires by_itself { NoneIs (IsWrongByItself (rows_at text.now.text lines.now)) }
     requires with_others { NoneIs (IsWrongWithOthers (rows_at text.now.text lines.now)) }
     ensures { IfOk result (λ names. names ≡ across.tank_ids (rows_at text.now.text lines.now)) }
 {
-    let mut names = Names::new(alloc);
+    let mut names = NumberedIds::new(alloc);
     add_section(&mut names, text, lines, Section::Tanks)?;
     Ok(names)
 }
 
 /// The IDs of pipes, then pumps, then valves, of a file without a fault.
-pub fn link_ids(alloc: Global, text: &Lines<'_>, lines: &[Line]) -> Result<Names, OutOfMemory>
+pub fn link_ids(alloc: Global, text: &Lines<'_>, lines: &[Line]) -> Result<NumberedIds, OutOfMemory>
     requires few { length lines.now ≤ 2 ^ 26 }
     requires lie { All (LiesIn text.now.text) lines.now }
     requires by_itself { NoneIs (IsWrongByItself (rows_at text.now.text lines.now)) }
     requires with_others { NoneIs (IsWrongWithOthers (rows_at text.now.text lines.now)) }
     ensures { IfOk result (λ names. names ≡ across.link_ids (rows_at text.now.text lines.now)) }
 {
-    let mut names = Names::new(alloc);
+    let mut names = NumberedIds::new(alloc);
     add_section(&mut names, text, lines, Section::Pipes)?;
     add_section(&mut names, text, lines, Section::Pumps)?;
     add_section(&mut names, text, lines, Section::Valves)?;
@@ -97,12 +97,16 @@ pub fn link_ids(alloc: Global, text: &Lines<'_>, lines: &[Line]) -> Result<Names
 }
 
 /// The IDs of patterns, each where a row first has it.
-pub fn pattern_ids(alloc: Global, text: &Lines<'_>, lines: &[Line]) -> Result<Names, OutOfMemory>
+pub fn pattern_ids(
+    alloc: Global,
+    text: &Lines<'_>,
+    lines: &[Line],
+) -> Result<NumberedIds, OutOfMemory>
     requires few { length lines.now ≤ 2 ^ 26 }
     requires lie { All (LiesIn text.now.text) lines.now }
     ensures { IfOk result (λ names. names ≡ across.pattern_ids (rows_at text.now.text lines.now)) }
 {
-    let mut names = Names::new(alloc);
+    let mut names = NumberedIds::new(alloc);
     add_section(&mut names, text, lines, Section::Patterns)?;
     Ok(names)
 }

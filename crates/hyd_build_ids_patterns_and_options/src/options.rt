@@ -15,10 +15,11 @@ ghost use Rattle.hyd_rows_and_tables.specs.RowsOfLines.{rows_at, row_in};
 
 use crate::last_lines::last_line;
 use hyd_lex::{Line, Lines, Section};
+use hyd_net::Options;
 use hyd_net::ranges::TENTH;
-use hyd_net::{Names, Options};
 use hyd_num::{Decimal, FlowUnit};
 use hyd_row_words::{number, or_empty, word_is};
+use hyd_rows_and_tables::NumberedIds;
 
 const ZERO: i128 = 0;
 
@@ -105,7 +106,7 @@ pub fn options_in_force(
     text: &Lines<'_>,
     lines: &[Line],
     unit: FlowUnit,
-    patterns: &Names,
+    patterns: &NumberedIds,
 ) -> Options
     requires lie { All (LiesIn text.now.text) lines.now }
     requires by_itself { NoneIs (IsWrongByItself (rows_at text.now.text lines.now)) }

@@ -18,9 +18,10 @@ ghost use Rattle.hyd_build_ids_patterns_and_options.specs.PatternsSoFar.{each, o
 
 use crate::ids::is_of;
 use hyd_lex::{Line, Lines, Section, split_word};
-use hyd_net::{List, Names, OutOfMemory, Pattern};
+use hyd_net::{List, OutOfMemory, Pattern};
 use hyd_network_rows::read_pattern;
 use hyd_row_words::number_of;
+use hyd_rows_and_tables::NumberedIds;
 use std::alloc::Global;
 
 // A multiplier in billionths.
@@ -78,7 +79,7 @@ fn add_row(
     text: &Lines<'_>,
     lines: &[Line],
     place: usize,
-    ids: &Names,
+    ids: &NumberedIds,
 ) -> Result<(), OutOfMemory>
     requires within { place < length lines.now }
     requires lie { All (LiesIn text.now.text) lines.now }
@@ -118,7 +119,7 @@ pub fn build_patterns(
     alloc: Global,
     text: &Lines<'_>,
     lines: &[Line],
-    ids: &Names,
+    ids: &NumberedIds,
 ) -> Result<List<Pattern>, OutOfMemory>
     requires lie { All (LiesIn text.now.text) lines.now }
     requires by_itself { NoneIs (IsWrongByItself (rows_at text.now.text lines.now)) }

@@ -7,10 +7,10 @@ ghost use Rattle.hyd_spec_lines.specs.Lines.{Row};
 ghost use Rattle.hyd_spec_input.specs.MeaningsAcrossRows.{number_in, pattern_ids, pattern_number as number_of_pattern};
 ghost use Rattle.hyd_build_links.specs.RowsToBuildLinksFrom.{HasNumber};
 
-use hyd_net::Names;
+use hyd_rows_and_tables::NumberedIds;
 
 /// The number of a name that is there.
-pub(crate) fn number(names: &Names, name: &[u8]) -> u32
+pub(crate) fn number(names: &NumberedIds, name: &[u8]) -> u32
     requires { HasNumber names.now name.now }
     ensures { number_in names.now name.now ≡ Some result }
 {
@@ -21,7 +21,7 @@ pub(crate) fn number(names: &Names, name: &[u8]) -> u32
 }
 
 /// The number of a pattern that may be named.
-pub(crate) fn pattern_number(patterns: &Names, name: Option<&[u8]>) -> Option<u32>
+pub(crate) fn pattern_number(patterns: &NumberedIds, name: Option<&[u8]>) -> Option<u32>
     ensures { (rows : List Row) → patterns.now ≡ pattern_ids rows
         → result ≡ number_of_pattern rows (text_of name.entry) }
 {

@@ -19,10 +19,10 @@ ghost use Rattle.hyd_spec_lines.specs.WordsOfLines.{text_of};
 
 use crate::name_numbers_and_ticks::{flow_of, number_named};
 use hyd_lex::{Line, Lines};
-use hyd_net::{Demand, List, Names, OutOfMemory};
+use hyd_net::{Demand, List, OutOfMemory};
 use hyd_network_rows::read_demand;
 use hyd_num::{Decimal, FlowUnit};
-use hyd_rows_and_tables::{Table, is_demands};
+use hyd_rows_and_tables::{NumberedIds, Table, is_demands};
 use std::alloc::Global;
 
 // So many empty lists.
@@ -51,7 +51,7 @@ fn push_at(lists: &mut Vec<List<Demand>>, number: usize, demand: Demand) -> Resu
 pub(crate) fn demand_by(
     base: Decimal,
     pattern: Option<&[u8]>,
-    patterns: &Names,
+    patterns: &NumberedIds,
     unit: FlowUnit,
 ) -> Demand
     requires { unsigned_abs (quantity.flow_ticks unit base.nano) ≤ flow_limit }
@@ -70,7 +70,7 @@ fn add_row(
     lines: &[Line],
     place: usize,
     nodes: &Table,
-    patterns: &Names,
+    patterns: &NumberedIds,
     unit: FlowUnit,
 ) -> Result<(), OutOfMemory>
     requires within { place < length lines.now }
@@ -106,7 +106,7 @@ pub(crate) fn gather_demands(
     text: &Lines<'_>,
     lines: &[Line],
     nodes: &Table,
-    patterns: &Names,
+    patterns: &NumberedIds,
     unit: FlowUnit,
 ) -> Result<Vec<List<Demand>>, OutOfMemory>
     requires lie { All (LiesIn text.now.text) lines.now }

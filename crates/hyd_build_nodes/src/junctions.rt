@@ -24,10 +24,10 @@ use crate::demands::{demand_by, gather_demands};
 use crate::emitters::gather_emitters;
 use crate::name_numbers_and_ticks::head_of;
 use hyd_lex::{Line, Lines};
-use hyd_net::{Demand, Junction, List, Names, OutOfMemory};
+use hyd_net::{Demand, Junction, List, OutOfMemory};
 use hyd_network_rows::{JunctionRow, read_junction};
 use hyd_num::{Capacity, FlowUnit};
-use hyd_rows_and_tables::{Table, is_junctions};
+use hyd_rows_and_tables::{NumberedIds, Table, is_junctions};
 use std::alloc::Global;
 
 /// What junctions are made of besides their rows: the table of nodes and, by the numbers of their IDs, demands and
@@ -37,7 +37,7 @@ pub(crate) struct Parts<'a> {
     nodes: &'a Table,
     demands: &'a [List<Demand>],
     emitters: &'a [Option<Capacity>],
-    patterns: &'a Names,
+    patterns: &'a NumberedIds,
     unit: FlowUnit,
 }
 
@@ -76,7 +76,7 @@ fn junction_by(
     row: &JunctionRow<'_>,
     demands: &List<Demand>,
     emitter: Option<Capacity>,
-    patterns: &Names,
+    patterns: &NumberedIds,
     unit: FlowUnit,
 ) -> Result<Junction, OutOfMemory>
     requires elevation { IsSmall unit row.now.elevation.nano }
@@ -157,7 +157,7 @@ pub fn build_junctions(
     text: &Lines<'_>,
     lines: &[Line],
     nodes: &Table,
-    patterns: &Names,
+    patterns: &NumberedIds,
     unit: FlowUnit,
 ) -> Result<List<Junction>, OutOfMemory>
     requires lie { All (LiesIn text.now.text) lines.now }

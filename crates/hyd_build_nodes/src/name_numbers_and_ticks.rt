@@ -8,8 +8,8 @@ ghost use Rattle.hyd_net.specs.NumberRanges.{head_limit, flow_limit};
 ghost use Rattle.hyd_spec_lines.specs.WordsOfLines.{text_of};
 ghost use Rattle.hyd_build_nodes.specs.ReservoirsAndTanks.{number_of};
 
-use hyd_net::Names;
 use hyd_num::{Decimal, FlowUnit};
+use hyd_rows_and_tables::NumberedIds;
 use hyd_units::{flow_ticks, head_ticks};
 
 /// A head or a level in head ticks.
@@ -21,7 +21,7 @@ pub(crate) fn head_of(head: Decimal, unit: FlowUnit) -> i64
 }
 
 /// The number that a name has, where one is given.
-pub(crate) fn number_named(names: &Names, name: Option<&[u8]>) -> Option<u32>
+pub(crate) fn number_named(names: &NumberedIds, name: Option<&[u8]>) -> Option<u32>
     ensures { result ≡ number_of names.now (text_of name.entry) }
 {
     match name {

@@ -22,9 +22,10 @@ ghost use Rattle.hyd_build_nodes.specs.ReservoirsAndTanks.{IsReservoirOf};
 
 use crate::name_numbers_and_ticks::{head_of, number_named};
 use hyd_lex::{Line, Lines, Section};
-use hyd_net::{List, Names, OutOfMemory, Reservoir};
+use hyd_net::{List, OutOfMemory, Reservoir};
 use hyd_network_rows::read_reservoir;
 use hyd_num::FlowUnit;
+use hyd_rows_and_tables::NumberedIds;
 use std::alloc::Global;
 
 fn is_reservoirs(section: Section) -> bool
@@ -37,7 +38,7 @@ fn is_reservoirs(section: Section) -> bool
 }
 
 // The reservoir of a row.
-fn reservoir_of(text: &Lines<'_>, line: &Line, patterns: &Names, unit: FlowUnit) -> Reservoir
+fn reservoir_of(text: &Lines<'_>, line: &Line, patterns: &NumberedIds, unit: FlowUnit) -> Reservoir
     requires lies { LiesIn text.now.text line.now }
     requires right { row.reservoir (words_at text.now line.now) ≡ None }
     requires head { unsigned_abs (quantity.head_ticks (is_us_unit unit) (amount 1 (words_at text.now line.now)))
@@ -59,7 +60,7 @@ fn add_row(
     text: &Lines<'_>,
     lines: &[Line],
     place: usize,
-    patterns: &Names,
+    patterns: &NumberedIds,
     unit: FlowUnit,
 ) -> Result<(), OutOfMemory>
     requires within { place < length lines.now }
@@ -86,7 +87,7 @@ pub fn build_reservoirs(
     alloc: Global,
     text: &Lines<'_>,
     lines: &[Line],
-    patterns: &Names,
+    patterns: &NumberedIds,
     unit: FlowUnit,
 ) -> Result<List<Reservoir>, OutOfMemory>
     requires lie { All (LiesIn text.now.text) lines.now }

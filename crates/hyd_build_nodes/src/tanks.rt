@@ -21,10 +21,10 @@ ghost use Rattle.hyd_build_nodes.specs.ReservoirsAndTanks.{AreSmall, HasTankMore
 
 use crate::name_numbers_and_ticks::{head_of, number_named};
 use hyd_lex::{Line, Lines};
-use hyd_net::{List, Names, OutOfMemory, Tank};
+use hyd_net::{List, OutOfMemory, Tank};
 use hyd_network_rows::{TankRow, read_tank};
 use hyd_num::{Decimal, FlowUnit};
-use hyd_rows_and_tables::is_tanks;
+use hyd_rows_and_tables::{NumberedIds, is_tanks};
 use std::alloc::Global;
 
 // The square of a diameter's billionths, times and over a number, cut.
@@ -66,7 +66,7 @@ fn area_of(diameter: Decimal, unit: FlowUnit) -> i64
 }
 
 // The tank of what a row says.
-fn tank_by(row: &TankRow<'_>, shapes: &Names, unit: FlowUnit) -> Tank
+fn tank_by(row: &TankRow<'_>, shapes: &NumberedIds, unit: FlowUnit) -> Tank
     requires bottom { IsSmall unit row.now.bottom.nano }
     requires initial { IsSmall unit row.now.initial.nano }
     requires minimum { IsSmall unit row.now.minimum.nano }
@@ -92,7 +92,7 @@ fn push_tank(
     list: &mut List<Tank>,
     text: &Lines<'_>,
     line: &Line,
-    shapes: &Names,
+    shapes: &NumberedIds,
     unit: FlowUnit,
 ) -> Result<(), OutOfMemory>
     requires lies { LiesIn text.now.text line.now }
@@ -113,7 +113,7 @@ fn add_row(
     text: &Lines<'_>,
     lines: &[Line],
     place: usize,
-    shapes: &Names,
+    shapes: &NumberedIds,
     unit: FlowUnit,
 ) -> Result<(), OutOfMemory>
     requires within { place < length lines.now }
@@ -141,7 +141,7 @@ pub fn build_tanks(
     alloc: Global,
     text: &Lines<'_>,
     lines: &[Line],
-    shapes: &Names,
+    shapes: &NumberedIds,
     unit: FlowUnit,
 ) -> Result<List<Tank>, OutOfMemory>
     requires lie { All (LiesIn text.now.text) lines.now }

@@ -22,11 +22,11 @@ ghost use Rattle.hyd_curves.specs.Points.{ArePoints, points_in, point_in};
 use crate::points::{CurvePoint, Points};
 use crate::points_in_ticks::head_point;
 use hyd_lex::{Line, Lines, Section};
-use hyd_net::{HeadPoint, Names, OutOfMemory};
+use hyd_net::{HeadPoint, OutOfMemory};
 use hyd_network_rows::read_pump;
 use hyd_num::FlowUnit;
 use hyd_row_words::word_is;
-use hyd_rows_and_tables::Table;
+use hyd_rows_and_tables::{NumberedIds, Table};
 use std::alloc::Global;
 
 /// The curves by straight lines that pumps name, then those that general purpose valves name, each once, in the order
@@ -34,7 +34,7 @@ use std::alloc::Global;
 #[derive(Drop)]
 pub struct Bends {
     /// Their names.
-    pub names: Names,
+    pub names: NumberedIds,
     /// The points of each in ticks, in the order of `names`.
     pub lists: hyd_net::List<hyd_net::List<HeadPoint>>,
 }
@@ -235,7 +235,7 @@ fn pump_bends(
     ensures { IfOk result (AreOfValves (rows_at text.now.text lines.now) 0) }
 {
     let mut bends = Bends {
-        names: Names::new(alloc),
+        names: NumberedIds::new(alloc),
         lists: hyd_net::List::new(alloc),
     };
     for place in 0..lines.len() {

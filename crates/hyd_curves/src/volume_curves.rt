@@ -16,17 +16,17 @@ ghost use Rattle.hyd_curves.specs.Points.{ArePoints, points_in, point_in};
 use crate::points::{CurvePoint, Points};
 use crate::points_in_ticks::volume_point;
 use hyd_lex::{Line, Lines};
-use hyd_net::{Names, OutOfMemory, VolumePoint};
+use hyd_net::{OutOfMemory, VolumePoint};
 use hyd_network_rows::read_tank;
 use hyd_num::FlowUnit;
-use hyd_rows_and_tables::{Table, is_tanks};
+use hyd_rows_and_tables::{NumberedIds, Table, is_tanks};
 use std::alloc::Global;
 
 /// The volume curves that tanks name, each once, in the order in which they are first named.
 #[derive(Drop)]
 pub struct Shapes {
     /// Their names.
-    pub names: Names,
+    pub names: NumberedIds,
     /// The points of each in ticks, in the order of `names`.
     pub lists: hyd_net::List<hyd_net::List<VolumePoint>>,
 }
@@ -141,7 +141,7 @@ pub fn gather_shapes(
         (shape_names (rows_at text.now.text lines.now)) shapes.lists.list) }
 {
     let mut shapes = Shapes {
-        names: Names::new(alloc),
+        names: NumberedIds::new(alloc),
         lists: hyd_net::List::new(alloc),
     };
     for place in 0..lines.len() {

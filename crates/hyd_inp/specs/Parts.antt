@@ -11,6 +11,7 @@ use Rattle.hyd_spec_input.specs.Project.{Match, IsJunction, IsReservoir, IsTank,
 use Rattle.hyd_spec_input.specs.Project.{IsOptions, IsTimes, IsProject, numbered_links, shape_points, bend_points}
 use Rattle.hyd_spec_input.specs.SectionsAndTables.{rows_of, words_of}
 use Rattle.hyd_inp.specs.declared.numbered_names.Numbers.{Numbers}
+use Rattle.hyd_inp.specs.declared.numbered_names.Ids.{Ids}
 use Rattle.hyd_inp.specs.declared.network_parts.Nodes.{Nodes}
 use Rattle.hyd_inp.specs.declared.network_parts.Links.{Links}
 use Rattle.hyd_inp.specs.declared.network_parts.PatternsControlsAndRules.{PatternsControlsAndRules}
@@ -22,6 +23,11 @@ pub record AreNumbers (rows : List Row) (numbers : Numbers) : Type 0 where
   pub tanks : numbers.tanks ≡ tank_ids rows
   pub links : numbers.links ≡ link_ids rows
   pub patterns : numbers.patterns ≡ pattern_ids rows
+
+-- the IDs that a network keeps are those of the numbers
+pub record AreIds (numbers : Numbers) (ids : Ids) : Type 0 where
+  pub nodes : ids.nodes ≡ numbers.nodes
+  pub links : ids.links ≡ numbers.links
 
 pub record AreNodes (rows : List Row) (nodes : Nodes) : Type 0 where
   pub junctions : Match (IsJunction rows) (rows_of Junctions rows) nodes.junctions.list
@@ -44,7 +50,7 @@ pub record AreParts (rows : List Row) (parts : Parts) : Type 0 where
   pub patterns_controls_and_rules : ArePatternsControlsAndRules rows parts.patterns_controls_and_rules
 
 -- what has all parts of a file's network is its network
-abbrev pub AreAll : Numbers → Parts → Options → Times → Project → Type 0
-AreAll numbers parts options times project =
-    (rows : List Row) → AreNumbers rows numbers → AreParts rows parts → IsOptions rows options → IsTimes rows times
+abbrev pub AreAll : Ids → Parts → Options → Times → Project → Type 0
+AreAll ids parts options times project =
+    (rows : List Row) → ids.nodes ≡ node_ids rows → ids.links ≡ link_ids rows → AreParts rows parts → IsOptions rows options → IsTimes rows times
     → IsProject rows project

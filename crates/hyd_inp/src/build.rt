@@ -13,7 +13,7 @@ ghost use Rattle.hyd_inp.specs.Parts.{AreNumbers, AreNodes, AreLinks, ArePattern
 ghost use Rattle.hyd_inp.specs.RowsToBuildFrom.{AreRowsForNetwork, rows_from};
 
 use crate::network_parts::{Links, Nodes, Parts, PatternsControlsAndRules, assemble};
-use crate::numbered_names::{Numbers, number};
+use crate::numbered_names::{Numbers, ids_of, number};
 use crate::rows_to_build_from::RowsForNetwork;
 use crate::tables::gather_tables;
 use hyd_build_controls_and_rules::{build_controls, build_rules};
@@ -181,8 +181,9 @@ pub(crate) fn build(alloc: Global, text: &Lines<'_>, lines: &[Line]) -> Result<P
 {
     let unit = unit_in_force(text, lines);
     let numbers = number(alloc, text, lines)?;
+    let ids = ids_of(&numbers)?;
     let parts = build_parts(alloc, text, lines, &numbers, unit)?;
     let options = options_in_force(text, lines, unit, &numbers.patterns);
     let times = times_in_force(text, lines);
-    Ok(assemble(numbers, parts, options, times))
+    Ok(assemble(ids, parts, options, times))
 }

@@ -3,7 +3,7 @@
 
 ghost use Rattle.hyd_inp.specs.Parts.{AreAll};
 
-use crate::numbered_names::Numbers;
+use crate::numbered_names::Ids;
 use hyd_net::{
     Control, HeadPoint, Junction, Link, List, Options, Pattern, Project, Reservoir, Rule, Tank,
     Times, VolumePoint,
@@ -42,14 +42,13 @@ pub(crate) struct Parts {
 }
 
 /// The network of its parts.
-pub(crate) fn assemble(numbers: Numbers, parts: Parts, options: Options, times: Times) -> Project
-    ensures { AreAll numbers parts options times result }
+pub(crate) fn assemble(ids: Ids, parts: Parts, options: Options, times: Times) -> Project
+    ensures { AreAll ids parts options times result }
 {
-    let Numbers {
+    let Ids {
         nodes: node_ids,
         links: link_ids,
-        ..
-    } = numbers;
+    } = ids;
     let Parts {
         nodes,
         links,

@@ -23,10 +23,10 @@ ghost use Rattle.hyd_judge_statuses_controls_and_rules.specs.Rules.{AreCounted, 
 use crate::rule_parts::{Part, action_fault, clause_fault, read_part};
 use hyd_judge_single_rows::{is_acting, is_rules, next_stage};
 use hyd_lex::{Line, Lines};
-use hyd_net::{Cause, Names, OutOfMemory};
+use hyd_net::{Cause, OutOfMemory};
 use hyd_num::FlowUnit;
 use hyd_row_words::or_empty;
-use hyd_rows_and_tables::{Found, Table, kept, limit};
+use hyd_rows_and_tables::{Found, NumberedIds, Table, kept, limit};
 use hyd_spec_input::Stage;
 use std::alloc::Global;
 
@@ -37,7 +37,7 @@ const MOST_PARTS: usize = 100_000;
 /// The IDs of rules, how many there are, and how many clauses and actions.
 #[derive(Drop)]
 pub struct RuleCounts {
-    pub names: Names,
+    pub names: NumberedIds,
     pub rules: usize,
     pub parts: usize,
 }
@@ -222,7 +222,7 @@ pub fn judge_rules(
 {
     let mut rules = Rules {
         counts: RuleCounts {
-            names: Names::new(alloc),
+            names: NumberedIds::new(alloc),
             rules: 0,
             parts: 0,
         },

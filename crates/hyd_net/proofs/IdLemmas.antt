@@ -1,14 +1,15 @@
 -- Look-ups in a table of IDs, by the list of the IDs' bytes.
 use Rattle.std.proofs.Common.{◌≡◌, ◌+◌, ◌^◌, ◌<◌, ◌≤◌, ◌++◌, ℕ, Bool, true, false, cond, not, ◌||◌, List, [], ◌∷◌, map}
 use Rattle.std.proofs.Common.{length, slice_get, position, Option, Some, Contains, refl, sym, ap, ap₂, ◌∙◌, true≢false}
-use Rattle.std.proofs.Common.{arith, if◌then◌else◌, length-append}
-use Rattle.std.specs.Prelude.{◌↔◌}
+use Rattle.std.proofs.Common.{arith, if◌then◌else◌, length-append, subst, nat_lt, is_some, None, suc}
+use Rattle.std.specs.Prelude.{◌↔◌, ◌≢◌}
 use Rattle.std.specs.List.{list_any, position_or_len, AllByRecursion, IsDistinct}
 use Rattle.std.specs.Str.{bytes_eq}
 use Rattle.std.specs.Cmp.Lexicographic.{bytes_decides, nat_list_eq_equiv}
 use Rattle.std.proofs.lemmas.List.{length-map, map-append}
 use Rattle.std.proofs.lemmas.Option.{slice_get-get_or}
-use Rattle.std.proofs.lemmas.List.Quantifiers.{position-Some}
+use Rattle.std.proofs.lemmas.List.Quantifiers.{position-Some, all_pairs_push}
+use Rattle.std.proofs.lemmas.List.Elements.{Contains-get_or}
 use Rattle.std.proofs.lemmas.Map.Keys.{apart_from_distinct}
 use Rattle.std.proofs.lemmas.Map.Views.{Contains-from_any, list_any-from_Contains}
 use Rattle.hyd_net.specs.Ids.{AreDistinct}
@@ -61,34 +62,48 @@ place_of_id id ids n h =
 
 -- ---- what a look-up among the keys says of their IDs
 
+module _ {X : Type 0} (test : X → Bool) where
+  some_iff : (b : Bool) (n : ℕ) → is_some (if b then Some n else None) ≡ b
+  some_iff true n = refl
+  some_iff false n = refl
+
+  step : (b : Bool) (place count : ℕ) (rest : Bool) → nat_lt place count ≡ rest
+      → nat_lt (cond (not b) (1 + place) 0) (suc count) ≡ (b || rest)
+  step true place count rest h = grind arith
+  step false place count rest h = sym (sym h ∙ grind arith)
+
+  first_within : (items : List X) → nat_lt (position_or_len test items) (length items) ≡ list_any test items
+  first_within [] = refl
+  first_within (x ∷ xs) = step (test x) (position_or_len test xs) (length xs) (list_any test xs) (first_within xs)
+
+  -- a first place is found exactly where an item passes
+  pub found_is : (items : List X) → is_some (position test items) ≡ list_any test items
+  found_is items = some_iff _ _ ∙ first_within items
+
+module _ {K : Type 0} (f : K → List ℕ) (keys seen : List K) (ids : List (List ℕ)) (seen_is : seen ≡ keys)
+    (view_is : map f keys ≡ ids) (id : List ℕ) where
+  pub number_is : (r : Option ℕ) → r ≡ position (λ k. bytes_eq id (f k)) seen → r ≡ position (bytes_eq id) ids
+  number_is r h = h ∙ ap (position (λ k. bytes_eq id (f k))) seen_is ∙ position-map f (bytes_eq id) keys
+      ∙ ap (position (bytes_eq id)) view_is
+
+-- a number is found exactly where the ID is there
+pub found_iff : (id : List ℕ) (ids : List (List ℕ)) (r : Option ℕ) → r ≡ position (bytes_eq id) ids
+    → (is_some r ≡ true) ↔ Contains ids id
+found_iff id ids r h =
+    let any : is_some r ≡ list_any (bytes_eq id) ids = ap is_some h ∙ found_is (bytes_eq id) ids in
+    (λ t. Contains-from_found id ids (sym any ∙ t), λ m. any ∙ found-from_Contains id ids m)
+
+-- the IDs after a key is put last
 module _ {K : Type 0} (f : K → List ℕ) (keys : List K) (ids : List (List ℕ)) (view_is : map f keys ≡ ids)
-    (id : List ℕ) where
-  pub number_is : (r : Option ℕ) → r ≡ position (λ k. bytes_eq id (f k)) keys → r ≡ position (bytes_eq id) ids
-  number_is r h = h ∙ position-map f (bytes_eq id) keys ∙ ap (position (bytes_eq id)) view_is
+    (owned : K) (id : List ℕ) (is : f owned ≡ id) (new : List K) (e : new ≡ keys ++ owned ∷ []) where
+  pub names_after_push : map f new ≡ ids ++ id ∷ []
+  names_after_push = ap (map f) e ∙ map-append f keys (owned ∷ []) ∙ ap₂ (λ xs i. xs ++ i ∷ []) view_is is
 
-  any_is : (b : Bool) → b ≡ list_any (λ k. bytes_eq id (f k)) keys → list_any (bytes_eq id) ids ≡ b
-  any_is b h = sym (h ∙ list_any-map f (bytes_eq id) keys ∙ ap (list_any (bytes_eq id)) view_is)
-
-  -- the look-up finds a key exactly where the ID is there
-  pub found_iff : (b : Bool) → b ≡ list_any (λ k. bytes_eq id (f k)) keys → (b ≡ true) ↔ Contains ids id
-  found_iff b h = (
-    λ t. Contains-from_found id ids (any_is b h ∙ t),
-    λ m. sym (any_is b h) ∙ found-from_Contains id
-        ids m,
-  )
-
-  -- it finds none only where the ID isn't there
-  pub absent_from : list_any (λ k. bytes_eq id (f k)) keys ≡ false → ¬ Contains ids id
-  absent_from h m = true≢false (sym ((found_iff false (sym h)).1 m))
-
-  -- the IDs after a key with a new ID is put last
-  pub map-insert_key : (owned : K) (new : List K) → f owned ≡ id → list_any (λ k. bytes_eq id (f k)) keys ≡ false
-      → new ≡ (if list_any (λ k. bytes_eq (f owned) (f k)) keys then keys else keys ++ owned ∷ [])
-      → map f new ≡ ids ++ id ∷ []
-  map-insert_key owned new is absent e =
-      let last : new ≡ keys ++ owned ∷ [] = e ∙ ap (λ i. if list_any (λ k. bytes_eq i (f k)) keys then keys else keys
-      ++ owned ∷ []) is ∙ ap (λ b. if b then keys else keys ++ owned ∷ []) absent in
-      ap (map f) last ∙ map-append f keys (owned ∷ []) ∙ ap₂ (λ xs i. xs ++ i ∷ []) view_is is
+  -- they stay distinct where the ID wasn't there
+  pub distinct_after_push : AreDistinct ids → ¬ Contains ids id → AreDistinct (map f new)
+  distinct_after_push h absent =
+      rw names_after_push (all_pairs_push (λ (first later : List ℕ). first ≢ later) ids id h (λ k d within same.
+      absent (subst (Contains ids) same (Contains-get_or ids k d within))))
 
 -- one more ID keeps the table small enough
 pub few_after_push : (ids new : List (List ℕ)) (id : List ℕ) → length ids < 2 ^ 31 → new ≡ ids ++ id ∷ []

@@ -1,19 +1,21 @@
-//! `Names`, a table of IDs: of nodes or of links, and where a file is read of what else it numbers by name.
-ghost use Rattle.std.specs.Prelude.{◌≡◌, ◌+◌, ◌^◌, ◌<◌, ◌↔◌, [], ◌∷◌, ◌++◌, length, position, slice_get, if◌then◌else◌};
-ghost use Rattle.std.specs.Prelude.{Contains, IsSome, IfSome, IfOk, OnErr, IsTrue, false};
+//! `Names`, the IDs of a network's nodes or links.
+ghost use Rattle.std.specs.Prelude.{◌≡◌, ◌+◌, ◌^◌, ◌<◌, ◌≤◌, ◌↔◌, [], ◌∷◌, ◌++◌, length, map, position, slice_get, if◌then◌else◌};
+ghost use Rattle.std.specs.Prelude.{Contains, IsSome, IfSome, IfOk, OnErr, IsTrue, true, false};
 ghost use Rattle.std.specs.Str.{bytes_eq};
 ghost use Rattle.hyd_net.specs.Ids.{AreDistinct};
 
-use indexmap::IndexSet;
 use std::alloc::{AllocError as OutOfMemory, Global};
 use std::marker::Model;
 
 /// The IDs of nodes or of links in the order of their numbers, each only once. Contracts see the
 /// list of the IDs' bytes: the ID of number i stands at position i.
+///
+/// A search goes through the list, as `add` does, too: whoever has many IDs to find keeps a table of its own and makes
+/// the list of it (`from_distinct`).
 #[derive(Drop)]
 pub struct Names {
     alloc: Global,
-    ids: IndexSet<Vec<u8>>,
+    ids: Vec<Vec<u8>>,
 }
 
 impl Model for Names {
@@ -22,20 +24,36 @@ impl Model for Names {
 
     ghost Value = { List (List ℕ) };
 
-    ghost view = { λ n. map (λ id. id.items) n.ids.keys };
+    ghost view = { λ n. map (λ id. id.items) n.ids.items };
 
-    ghost invariant = { λ n. IsTable (map (λ id. id.items) n.ids.keys) };
+    ghost invariant = { λ n. IsTable (map (λ id. id.items) n.ids.items) };
+}
+
+// The place of the first ID that is equal to this one.
+fn first_equal(ids: &[Vec<u8>], id: &[u8]) -> Option<usize>
+    ensures { result ≡ position (λ known. bytes_eq id.now known.items) ids.now }
+{
+    ids.iter().position(|known| id == known.as_slice())
 }
 
 impl Names {
-    /// The empty table. It takes no memory.
+    /// The empty list. It takes no memory.
     pub fn new(alloc: Global) -> Names
         ensures empty { result ≡ [] }
     {
         Names {
             alloc,
-            ids: IndexSet::new(alloc),
+            ids: Vec::new(alloc),
         }
+    }
+
+    /// The list of IDs of which no two are equal. It takes no memory.
+    pub fn from_distinct(alloc: Global, ids: Vec<Vec<u8>>) -> Names
+        requires distinct { AreDistinct (map (λ id. id.items) ids.items) }
+        requires few { length ids.items ≤ 2 ^ 31 }
+        ensures { result ≡ map (λ id. id.items) ids.items }
+    {
+        Names { alloc, ids }
     }
 
     /// Gives an ID that isn't there the next number, and answers whether it wasn't there.
@@ -48,12 +66,18 @@ impl Names {
         ensures err { OnErr result (self.new ≡ self.old) }
         ensures distinct { AreDistinct self.new }
     {
-        if self.ids.contains(id) {
+        if self.contains(id) {
             return Ok(false);
         }
         let owned = Vec::from_slice(self.alloc, id)?;
-        self.ids.insert(owned)?;
+        self.ids.push(owned)?;
         Ok(true)
+    }
+
+    fn contains(&self, id: &[u8]) -> bool
+        ensures { (result ≡ true) ↔ Contains self.now id.now }
+    {
+        self.number(id).is_some()
     }
 
     /// The number of an ID, if it is there.
@@ -62,7 +86,7 @@ impl Names {
         ensures place { IfSome result (λ number. slice_get self.now number ≡ Some id.now) }
         ensures value { result ≡ position (bytes_eq id.now) self.now }
     {
-        let number = self.ids.get_index_of(id)?;
+        let number = first_equal(self.ids.as_slice(), id)?;
         Some(number as u32)
     }
 
@@ -71,10 +95,10 @@ impl Names {
         requires { number < length self.now }
         ensures { slice_get self.now number ≡ Some result.now }
     {
-        self.ids.as_slice()[number as usize].as_slice()
+        self.ids[number as usize].as_slice()
     }
 
-    /// Whether two tables have the same IDs in the same order.
+    /// Whether two lists have the same IDs in the same order.
     pub(crate) fn same(&self, other: &Names) -> bool
         ensures { IsTrue result ↔ (self.now ≡ other.now) }
     {

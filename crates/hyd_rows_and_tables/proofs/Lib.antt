@@ -4,3 +4,4 @@ pub mod TableLemmas
 pub mod WrongInSectionLemmas
 pub mod RowsSoFar
 pub mod LastLines
+pub mod LookUpsByHash

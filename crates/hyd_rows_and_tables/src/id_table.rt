@@ -8,15 +8,16 @@ ghost use Rattle.hyd_spec_input.specs.SectionsAndTables as table;
 ghost use Rattle.hyd_spec_input.specs.SectionsAndTables.{row_with, has_id};
 ghost use Rattle.hyd_rows_and_tables.specs.IdTables.{IsTable, IsEven};
 
+use crate::numbered_ids::NumberedIds;
 use hyd_lex::{Line, Lines};
-use hyd_net::{Names, OutOfMemory};
+use hyd_net::OutOfMemory;
 use std::alloc::Global;
 
 /// The IDs of rows, each with the line of the first row that has it.
 #[derive(Drop)]
 pub struct Table {
     /// Each ID once, in the order of the rows.
-    pub names: Names,
+    pub names: NumberedIds,
     /// For each ID the line of the first row that has it, in the order of `names`.
     pub firsts: Vec<Line>,
 }
@@ -37,7 +38,7 @@ impl Table {
         ensures even { IsEven result }
     {
         Table {
-            names: Names::new(alloc),
+            names: NumberedIds::new(alloc),
             firsts: Vec::new(alloc),
         }
     }

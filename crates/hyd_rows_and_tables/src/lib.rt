@@ -7,6 +7,7 @@ mod count_limits;
 mod first_wrong;
 mod gathered_rows;
 mod id_table;
+mod numbered_ids;
 mod quantity_ranges;
 mod sections;
 mod unknown_names;
@@ -15,6 +16,7 @@ pub use count_limits::{count_words, limit};
 pub use first_wrong::{Found, kept, least};
 pub use gathered_rows::{Gathered, gather};
 pub use id_table::{Table, own_id};
+pub use numbered_ids::NumberedIds;
 pub use quantity_ranges::{flow_fault, head_fault};
 pub use sections::{
     is_controls, is_curves, is_demands, is_emitters, is_junctions, is_status, is_tanks,

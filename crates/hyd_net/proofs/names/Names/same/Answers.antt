@@ -3,5 +3,5 @@ use Rattle.hyd_net.proofs.names.Names.same.Goals as goal
 
 pub returns : goal.returns
 returns c =
-    rw (← c.self.view_is, ← c.other.view_is) (ids-decide _ _ _ _ _ _ c.as_slice.ensures.keys c.as_slice-2.ensures.keys
+    rw (← c.self.view_is, ← c.other.view_is) (ids-decide _ _ _ _ _ _ c.as_slice.ensures.value c.as_slice-2.ensures.value
     c.eq.ensures)
