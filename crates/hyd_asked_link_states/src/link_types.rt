@@ -12,7 +12,7 @@ use hyd_network_rows::{PipeStatus, read_pipe};
 use hyd_row_words::word_is;
 
 /// What a link is, as far as its state depends on it.
-#[derive(Debug, Clone, Copy, PartialEq, Eq, Drop)]
+#[derive(Clone, Copy, Drop)]
 pub enum LinkType {
     Pipe,
     /// A pipe with a check valve.

@@ -37,7 +37,7 @@ use hyd_spec_input::{RuleWord, Stage};
 use std::alloc::Global;
 
 /// The actions of a rule where its clauses hold, or where they don't.
-#[derive(Debug, Clone, Copy, PartialEq, Eq, Drop)]
+#[derive(Clone, Copy, Drop)]
 pub(crate) enum Branch {
     Then,
     Else,

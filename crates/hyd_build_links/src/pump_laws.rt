@@ -18,7 +18,7 @@ use hyd_num::{Capacity, Decimal, FlowUnit, Span, mul_div_ceil, mul_div_floor};
 use hyd_units::head_ticks;
 
 /// What a pump with a curve of one point or three is made of.
-#[derive(Debug, Clone, Copy, PartialEq, Eq, Drop)]
+#[derive(Clone, Copy, Drop)]
 pub(crate) struct PumpLaw {
     pub(crate) cap: Capacity,
     pub(crate) shutoff: Span,

@@ -23,7 +23,7 @@ pub enum CertFault {
 }
 
 /// What an END line says.
-#[derive(Clone, Copy, Debug, PartialEq, Eq)]
+#[derive(Clone, Copy)]
 pub struct EndLine {
     /// The number of records.
     pub periods: u32,
@@ -32,7 +32,7 @@ pub struct EndLine {
 }
 
 /// What a reader found.
-#[derive(Clone, Copy, Debug, PartialEq, Eq)]
+#[derive(Clone, Copy)]
 pub enum CertNext {
     /// A record.
     Record,
@@ -46,7 +46,7 @@ pub enum CertNext {
 }
 
 /// Where a reader stands.
-#[derive(Clone, Copy, Debug, PartialEq, Eq)]
+#[derive(Clone, Copy)]
 pub enum Stand {
     /// Before the header line.
     First,

@@ -5,7 +5,7 @@ use hyd_spec_reports::CertRefused;
 use thiserror::Error;
 
 /// How a check ended.
-#[derive(Debug, Clone, Copy, PartialEq, Eq, Drop)]
+#[derive(Clone, Copy, Drop)]
 pub enum CheckEnd {
     /// The certificate was accepted.
     Accepted,

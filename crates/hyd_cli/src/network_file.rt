@@ -19,7 +19,7 @@ use hyd_net::Project;
 use std::alloc::Global;
 
 /// Why there is no network.
-#[derive(Debug, Clone, Copy, PartialEq, Eq, Drop)]
+#[derive(Clone, Copy, Drop)]
 pub(crate) enum Unread {
     /// The text has a fault.
     Fault(InpFault),

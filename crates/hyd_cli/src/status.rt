@@ -9,7 +9,7 @@ use hyd_io::OutFault;
 use std::process::{ExitCode, Termination};
 
 /// The answer of a command. Its number is the exit status of the program.
-#[derive(Debug, Clone, Copy, PartialEq, Eq, Drop)]
+#[derive(Clone, Copy, Drop)]
 pub enum Status {
     /// The run finished, or the certificate was accepted.
     Done = 0,

@@ -33,7 +33,7 @@ const USUAL: Settings = Settings {
 };
 
 /// What is to be done with a network.
-#[derive(Clone, Copy, Debug)]
+#[derive(Clone, Copy)]
 pub(crate) enum Task<'a> {
     /// It is run: the certificate goes to CERT, and the report is printed.
     Run { cert: &'a str, settings: Settings },

@@ -1,7 +1,7 @@
 //! The commands, as their words give them.
 
 /// The two files of a command. Their names differ.
-#[derive(Clone, Copy, Debug, PartialEq, Eq)]
+#[derive(Clone, Copy)]
 pub struct Files<'a> {
     /// NET: the network's input file.
     pub net: &'a str,
@@ -10,7 +10,7 @@ pub struct Files<'a> {
 }
 
 /// What `run NET CERT [--sweeps N] [--width W] [--tight]` asks for.
-#[derive(Clone, Copy, Debug, PartialEq, Eq)]
+#[derive(Clone, Copy)]
 pub struct RunWords<'a> {
     /// The network, which is read, and the certificate, which is written.
     pub files: Files<'a>,
@@ -23,7 +23,7 @@ pub struct RunWords<'a> {
 }
 
 /// What `gen SEED JUNCTIONS NET CERT` asks for.
-#[derive(Clone, Copy, Debug, PartialEq, Eq)]
+#[derive(Clone, Copy)]
 pub struct GenWords<'a> {
     /// SEED: below 2^31.
     pub seed: u32,
@@ -34,7 +34,7 @@ pub struct GenWords<'a> {
 }
 
 /// A command of the program.
-#[derive(Clone, Copy, Debug, PartialEq, Eq)]
+#[derive(Clone, Copy)]
 pub enum Command<'a> {
     /// `run NET CERT [--sweeps N] [--width W] [--tight]`.
     Run(RunWords<'a>),

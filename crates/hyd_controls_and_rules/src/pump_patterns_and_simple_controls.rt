@@ -29,7 +29,7 @@ use hyd_spec::{Change, Source};
 use hyd_spec_certificates::{LevelSpan, Verdict};
 
 /// The first level control that both ends of its tank's level interval disagree on. Controls are counted from 0.
-#[derive(Debug, Clone, Copy, PartialEq, Eq, Drop)]
+#[derive(Clone, Copy, Drop)]
 pub struct LevelOpen {
     /// Its number among the controls.
     pub control: u32,

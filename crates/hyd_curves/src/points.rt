@@ -20,7 +20,7 @@ use hyd_rows_and_tables::{Table, is_curves};
 use std::alloc::Global;
 
 /// A point of a curve, as the numbers of its row.
-#[derive(Debug, Clone, Copy, PartialEq, Eq, Drop)]
+#[derive(Clone, Copy, Drop)]
 pub struct CurvePoint {
     /// A flow, or a tank's level above its bottom, in the file's unit.
     pub x: Decimal,

@@ -26,7 +26,7 @@ use hyd_rows_and_tables::Table;
 use std::alloc::Global;
 
 /// What is wrong with a curve as a pump's, and as a general purpose valve's.
-#[derive(Debug, Clone, Copy, PartialEq, Eq, Drop)]
+#[derive(Clone, Copy, Drop)]
 pub struct CurveVerdict {
     /// What is wrong with it as a pump's.
     pub pump: Option<Cause>,

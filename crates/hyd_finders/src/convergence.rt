@@ -12,7 +12,7 @@ const NEAR: f64 = 64.0;
 const PATIENCE: u32 = 3;
 
 /// How near the heads came so far.
-#[derive(Debug, Clone, Copy, Drop)]
+#[derive(Clone, Copy, Drop)]
 pub(crate) struct Progress {
     best: f64,
     mark: f64,

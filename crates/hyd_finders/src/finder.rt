@@ -43,7 +43,7 @@ pub trait Finder {
 }
 
 /// Proposes nothing: it leaves the heads as they are.
-#[derive(Debug, Clone, Copy, PartialEq, Eq, Drop)]
+#[derive(Clone, Copy, Drop)]
 pub struct Null;
 
 impl Finder for Null {

@@ -26,7 +26,7 @@ const PASSES: u32 = 40;
 const DOUBLINGS: u32 = 60;
 
 /// A junction falls short however far out it stands: raises at others, which stand farther out then, don't help it.
-#[derive(Debug, Clone, Copy, PartialEq, Eq, Drop)]
+#[derive(Clone, Copy, Drop)]
 pub(crate) struct NoValue;
 
 // What flows out of a junction on balance at a head: at most for UPPER, at least for LOWER.

@@ -15,7 +15,7 @@ use hyd_rows_and_tables::Table;
 use std::alloc::Global;
 
 // The rows that share a table of IDs.
-#[derive(Debug, Clone, Copy, PartialEq, Eq, Drop)]
+#[derive(Clone, Copy, Drop)]
 enum Kind {
     Nodes,
     Links,

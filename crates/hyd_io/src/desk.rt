@@ -20,7 +20,7 @@ pub struct Failed;
 
 /// How many calls of a desk failed, by kind, and how many took nothing of a nonempty piece. Each
 /// count stays at 2^64 - 1 once it is there.
-#[derive(Clone, Copy, Debug, PartialEq, Eq)]
+#[derive(Clone, Copy)]
 pub struct Faults {
     /// Calls of `open` and `read` that failed.
     pub read: u64,
@@ -34,7 +34,7 @@ pub struct Faults {
 
 /// How often a desk was asked to open and to create a file, calls that failed among them. Each count
 /// stays at 2^64 - 1 once it is there.
-#[derive(Clone, Copy, Debug, PartialEq, Eq)]
+#[derive(Clone, Copy)]
 pub struct Openings {
     /// Calls of `open`.
     pub opened: u64,

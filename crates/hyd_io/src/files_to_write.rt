@@ -43,7 +43,7 @@ const HEADINGS: [&[u8]; 27] = [
 ];
 
 /// What is to be written.
-#[derive(Clone, Copy, Debug, PartialEq, Eq)]
+#[derive(Clone, Copy)]
 pub(crate) enum Content {
     Network,
     Certificate,

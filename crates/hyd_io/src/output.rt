@@ -17,7 +17,7 @@ use thiserror::Error;
 pub const BUFFER_BYTES: usize = 8192;
 
 /// Where a pen writes.
-#[derive(Clone, Copy, Debug, PartialEq, Eq)]
+#[derive(Clone, Copy)]
 pub enum Channel {
     /// The file created last, by `Desk::write`.
     Cert,

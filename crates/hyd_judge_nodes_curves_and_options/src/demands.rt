@@ -28,7 +28,7 @@ use hyd_rows_and_tables::{
 const MOST_DEMANDS: usize = 100_000;
 
 /// The first row of [DEMANDS] that is wrong with the others.
-#[derive(Debug, Clone, Copy, PartialEq, Eq, Drop)]
+#[derive(Clone, Copy, Drop)]
 pub struct Demands {
     // How many rows there are.
     count: usize,

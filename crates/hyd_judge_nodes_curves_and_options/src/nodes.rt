@@ -24,7 +24,7 @@ use hyd_rows_and_tables::{Found, Table, kept};
 use std::alloc::Global;
 
 // How many nodes there are of each kind.
-#[derive(Debug, Clone, Copy, PartialEq, Eq, Drop)]
+#[derive(Clone, Copy, Drop)]
 struct Counts {
     junctions: usize,
     reservoirs: usize,

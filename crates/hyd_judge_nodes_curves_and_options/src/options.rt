@@ -30,7 +30,7 @@ use hyd_row_words::{number, word_is};
 use hyd_rows_and_tables::{Found, kept};
 
 /// The pressures between which demands depend on pressure, in force; and whether they do.
-#[derive(Debug, Clone, Copy, PartialEq, Eq, Drop)]
+#[derive(Clone, Copy, Drop)]
 pub struct Pressures {
     pub depends: bool,
     pub minimum: Decimal,

@@ -27,7 +27,7 @@ use hyd_rows_and_tables::{Table, own_id};
 use std::alloc::Global;
 
 /// The least and the greatest of the multipliers of a pattern.
-#[derive(Debug, Clone, Copy, PartialEq, Eq, Drop)]
+#[derive(Clone, Copy, Drop)]
 pub struct Extremes {
     pub least: Decimal,
     pub greatest: Decimal,

@@ -35,7 +35,7 @@ use hyd_rows_and_tables::{Found, Table, head_fault, is_controls, kept, limit};
 const MOST_CONTROLS: usize = 10_000;
 
 /// The controls of the first rows of a file: how many there are, and the first one that is wrong with the others.
-#[derive(Debug, Clone, Copy, PartialEq, Eq, Drop)]
+#[derive(Clone, Copy, Drop)]
 pub struct Controls {
     pub count: usize,
     pub found: Option<Found>,

@@ -34,7 +34,7 @@ use hyd_row_words::or_empty;
 use hyd_rows_and_tables::Table;
 
 /// What a line of a rule is.
-#[derive(Debug, Clone, Copy, PartialEq, Eq, Drop)]
+#[derive(Clone, Copy, Drop)]
 pub(crate) enum Part {
     /// A RULE line.
     Name,

@@ -4,7 +4,7 @@
 use hyd_num::{Capacity, Decimal, Span};
 
 /// A demand that doesn't depend on the pressure, in flow ticks.
-#[derive(Debug, Clone, Copy, PartialEq, Eq, Drop)]
+#[derive(Clone, Copy, Drop)]
 pub struct Fixed {
     pub demand: i64,
 }
@@ -12,7 +12,7 @@ pub struct Fixed {
 /// A demand that depends on the pressure: nothing up to a minimum one, all from a required one on, and by the square
 /// root law between (EPANET 2.2 User Manual, pressure-driven demand). `p0` and `pf` are the floors and ceilings of the
 /// two pressures in head ticks.
-#[derive(Debug, Clone, Copy, PartialEq, Eq, Drop)]
+#[derive(Clone, Copy, Drop)]
 pub struct Pda {
     pub demand: i64,
     pub cap: Capacity,
@@ -27,7 +27,7 @@ pub struct Pda {
 }
 
 /// The law of a junction's demand, by its head above the elevation.
-#[derive(Debug, Clone, Copy, PartialEq, Eq, Drop)]
+#[derive(Clone, Copy, Drop)]
 pub enum OutLaw {
     Fixed(Fixed),
     Pda(Pda),

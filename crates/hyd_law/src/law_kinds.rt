@@ -5,23 +5,23 @@ use hyd_net::{List, ShutoffHead};
 use hyd_num::{Capacity, Span};
 
 /// A closed link: nothing flows.
-#[derive(Debug, Clone, Copy, PartialEq, Eq, Drop)]
+#[derive(Clone, Copy, Drop)]
 pub struct Shut;
 
 /// A loss that grows with the square of the flow (EPANET 2.2 User Manual, Analysis Algorithms). An emitter follows it
 /// too.
-#[derive(Debug, Clone, Copy, PartialEq, Eq, Drop)]
+#[derive(Clone, Copy, Drop)]
 pub struct Quad {
     pub cap: Capacity,
 }
 
 /// A valve without loss coefficient, which passes 8026.822656 flow ticks for a head tick (this program's own).
-#[derive(Debug, Clone, Copy, PartialEq, Eq, Drop)]
+#[derive(Clone, Copy, Drop)]
 pub struct Linear;
 
 /// A law at a head difference that a pump lifts: by the squared speed times its shutoff head, of which `lift` has the
 /// floor and the ceiling in head ticks.
-#[derive(Debug, Clone, Copy, PartialEq, Eq, Drop)]
+#[derive(Clone, Copy, Drop)]
 pub struct Lifted<L> {
     pub lift: Span,
     /// The file's number from which the shutoff head is made.
@@ -34,21 +34,21 @@ pub struct Lifted<L> {
 }
 
 /// A law that passes one way only, from the first node to the second where it is `forward`.
-#[derive(Debug, Clone, Copy, PartialEq, Eq, Drop)]
+#[derive(Clone, Copy, Drop)]
 pub struct OneWay<L> {
     pub forward: bool,
     pub inner: L,
 }
 
 /// A law held at or below `cap` flow ticks.
-#[derive(Debug, Clone, Copy, PartialEq, Eq, Drop)]
+#[derive(Clone, Copy, Drop)]
 pub struct Capped<L> {
     pub cap: i64,
     pub inner: L,
 }
 
 /// A law held from `least` to `most` flow ticks.
-#[derive(Debug, Clone, Copy, PartialEq, Eq, Drop)]
+#[derive(Clone, Copy, Drop)]
 pub struct Held<L> {
     pub least: i64,
     pub most: i64,
@@ -56,7 +56,7 @@ pub struct Held<L> {
 }
 
 /// A knot of straight lines: the flow in flow ticks at a head difference in head ticks.
-#[derive(Debug, Clone, Copy, PartialEq, Eq, Drop)]
+#[derive(Clone, Copy, Drop)]
 pub struct Knot {
     pub head: i64,
     pub flow: i64,

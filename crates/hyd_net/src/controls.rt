@@ -17,7 +17,7 @@ pub enum When {
 }
 
 /// A simple control: it sets one link to a state.
-#[derive(Debug, Clone, Copy, PartialEq, Eq, Drop)]
+#[derive(Debug, Clone, Copy, Drop)]
 pub struct Control {
     pub link: u32,
     pub to: LinkState,

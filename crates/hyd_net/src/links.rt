@@ -5,14 +5,14 @@ use hyd_num::{Capacity, Decimal, Span};
 
 /// The law of a valve that is fully open: quadratic with a minor loss coefficient above 0, else
 /// linear.
-#[derive(Debug, Clone, Copy, PartialEq, Eq, Drop)]
+#[derive(Debug, Clone, Copy, Drop)]
 pub enum OpenValve {
     Quadratic(Capacity),
     Linear,
 }
 
 /// The number of the file from which a pump's shutoff head is made, in feet or metres.
-#[derive(Debug, Clone, Copy, PartialEq, Eq, Drop)]
+#[derive(Debug, Clone, Copy, Drop)]
 pub enum ShutoffHead {
     /// The head of a curve of one point. The shutoff head is four thirds of it.
     FourThirds(Decimal),
@@ -21,7 +21,7 @@ pub enum ShutoffHead {
 }
 
 /// What a link is, with what its law is made of.
-#[derive(Debug, Clone, Copy, PartialEq, Eq, Drop)]
+#[derive(Debug, Clone, Copy, Drop)]
 pub enum LinkKind {
     Pipe(Capacity),
     /// A pipe with a check valve, which passes no flow from its second node to its first.
@@ -57,7 +57,7 @@ pub enum LinkKind {
 }
 
 /// The state in which a link is set. `nano` is a setting of the file in billionths.
-#[derive(Debug, Clone, Copy, PartialEq, Eq, Drop)]
+#[derive(Debug, Clone, Copy, Drop)]
 pub enum LinkState {
     Open,
     Closed,
@@ -71,7 +71,7 @@ pub enum LinkState {
 
 /// A link from its first node to its second one, by their numbers: junctions first, then
 /// reservoirs, then tanks.
-#[derive(Debug, Clone, Copy, PartialEq, Eq, Drop)]
+#[derive(Debug, Clone, Copy, Drop)]
 pub struct Link {
     pub from: u32,
     pub to: u32,

@@ -29,7 +29,7 @@ pub struct Reservoir {
 }
 
 /// A tank: levels are above its bottom. It is cylindrical where it has no volume curve.
-#[derive(Debug, Clone, Copy, PartialEq, Eq, Drop)]
+#[derive(Debug, Clone, Copy, Drop)]
 pub struct Tank {
     pub bottom: i64,
     pub initial: i64,

@@ -4,7 +4,7 @@
 use hyd_num::{Decimal, FlowUnit};
 
 /// The options of a network (EPANET 2.2 User Manual, [OPTIONS]).
-#[derive(Debug, Clone, Copy, PartialEq, Eq, Drop)]
+#[derive(Debug, Clone, Copy, Drop)]
 pub struct Options {
     /// The unit of flows. It says also whether lengths, heads and pressures are US customary.
     pub unit: FlowUnit,

@@ -6,7 +6,7 @@ use crate::list::List;
 use hyd_num::{Decimal, Span};
 
 /// How a clause is joined to those before it. OR binds tighter than AND.
-#[derive(Debug, Clone, Copy, PartialEq, Eq, Drop)]
+#[derive(Debug, Clone, Copy, Drop)]
 pub enum Joined {
     And,
     Or,
@@ -35,7 +35,7 @@ pub enum What {
 }
 
 /// How a clause compares.
-#[derive(Debug, Clone, Copy, PartialEq, Eq, Drop)]
+#[derive(Debug, Clone, Copy, Drop)]
 pub enum Relation {
     Less,
     AtMost,
@@ -58,7 +58,7 @@ pub enum Value {
 }
 
 /// One comparison.
-#[derive(Debug, Clone, Copy, PartialEq, Eq, Drop)]
+#[derive(Debug, Clone, Copy, Drop)]
 pub struct Clause {
     pub what: What,
     pub relation: Relation,
@@ -66,14 +66,14 @@ pub struct Clause {
 }
 
 /// A clause of a rule. How the first one is joined means nothing.
-#[derive(Debug, Clone, Copy, PartialEq, Eq, Drop)]
+#[derive(Debug, Clone, Copy, Drop)]
 pub struct RuleClause {
     pub joined: Joined,
     pub clause: Clause,
 }
 
 /// A state in which a rule sets a link.
-#[derive(Debug, Clone, Copy, PartialEq, Eq, Drop)]
+#[derive(Debug, Clone, Copy, Drop)]
 pub struct Action {
     pub link: u32,
     pub to: LinkState,

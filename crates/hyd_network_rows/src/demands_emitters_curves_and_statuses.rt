@@ -15,7 +15,7 @@ use hyd_option_and_rule_lines::{Asked, asked_at};
 use hyd_row_words::{ends, id, number, number_within};
 
 /// A row of [DEMANDS], in the file's units. Its category isn't used.
-#[derive(Debug, Clone, Copy, PartialEq, Eq, Drop)]
+#[derive(Clone, Copy, Drop)]
 pub struct DemandRow<'a> {
     pub junction: &'a [u8],
     pub base: Decimal,
@@ -23,14 +23,14 @@ pub struct DemandRow<'a> {
 }
 
 /// A row of [EMITTERS], in the file's units.
-#[derive(Debug, Clone, Copy, PartialEq, Eq, Drop)]
+#[derive(Clone, Copy, Drop)]
 pub struct EmitterRow<'a> {
     pub junction: &'a [u8],
     pub coefficient: Decimal,
 }
 
 /// A row of [CURVES]: a point of a curve.
-#[derive(Debug, Clone, Copy, PartialEq, Eq, Drop)]
+#[derive(Clone, Copy, Drop)]
 pub struct CurveRow<'a> {
     pub id: &'a [u8],
     pub x: Decimal,
@@ -38,7 +38,7 @@ pub struct CurveRow<'a> {
 }
 
 /// A row of [STATUS].
-#[derive(Debug, Clone, Copy, PartialEq, Eq, Drop)]
+#[derive(Clone, Copy, Drop)]
 pub struct StatusRow<'a> {
     pub link: &'a [u8],
     pub to: Asked,

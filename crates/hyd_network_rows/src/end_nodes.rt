@@ -13,7 +13,7 @@ use hyd_net::Cause;
 use hyd_row_words::{id, or_empty};
 
 /// A link's ID and its two nodes, which differ.
-#[derive(Debug, Clone, Copy, PartialEq, Eq, Drop)]
+#[derive(Clone, Copy, Drop)]
 pub struct LinkEnds<'a> {
     pub id: &'a [u8],
     pub from: &'a [u8],

@@ -13,7 +13,7 @@ use hyd_num::Decimal;
 use hyd_row_words::{ends, id, number};
 
 /// A row of [JUNCTIONS], in the file's units.
-#[derive(Debug, Clone, Copy, PartialEq, Eq, Drop)]
+#[derive(Clone, Copy, Drop)]
 pub struct JunctionRow<'a> {
     pub id: &'a [u8],
     pub elevation: Decimal,
@@ -24,7 +24,7 @@ pub struct JunctionRow<'a> {
 }
 
 /// A row of [RESERVOIRS], in the file's units.
-#[derive(Debug, Clone, Copy, PartialEq, Eq, Drop)]
+#[derive(Clone, Copy, Drop)]
 pub struct ReservoirRow<'a> {
     pub id: &'a [u8],
     pub head: Decimal,

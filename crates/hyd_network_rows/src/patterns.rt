@@ -16,7 +16,7 @@ use hyd_net::ranges::GREATEST_MULTIPLIER;
 use hyd_row_words::{id, needed};
 
 /// A row of [PATTERNS].
-#[derive(Debug, Clone, Copy, PartialEq, Eq, Drop)]
+#[derive(Clone, Copy, Drop)]
 pub struct PatternRow<'a> {
     pub id: &'a [u8],
     /// Its multipliers, parted by spaces and tabs, to be taken one by one by `split_word`.

@@ -22,7 +22,7 @@ const GREATEST_LENGTH: i128 = 1_000_000 * 1_000_000_000;
 const GREATEST_ROUGHNESS: i128 = 10 * 1_000_000_000;
 
 /// Whether a pipe is open, closed, or has a check valve.
-#[derive(Debug, Clone, Copy, PartialEq, Eq, Drop)]
+#[derive(Clone, Copy, Drop)]
 pub enum PipeStatus {
     Open,
     Closed,
@@ -30,7 +30,7 @@ pub enum PipeStatus {
 }
 
 /// A row of [PIPES], in the file's units.
-#[derive(Debug, Clone, Copy, PartialEq, Eq, Drop)]
+#[derive(Clone, Copy, Drop)]
 pub struct PipeRow<'a> {
     pub ends: LinkEnds<'a>,
     pub length: Decimal,

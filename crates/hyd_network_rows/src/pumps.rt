@@ -21,7 +21,7 @@ use hyd_spec_input::EarlierKeys;
 const ONE: i128 = 1_000_000_000;
 
 /// A row of [PUMPS].
-#[derive(Debug, Clone, Copy, PartialEq, Eq, Drop)]
+#[derive(Clone, Copy, Drop)]
 pub struct PumpRow<'a> {
     pub ends: LinkEnds<'a>,
     /// The curve of its heads.

@@ -23,7 +23,7 @@ const LEAST_TANK_DIAMETER: i128 = 100_000_000;
 const GREATEST_TANK_DIAMETER: i128 = 1_000 * 1_000_000_000;
 
 /// A row of [TANKS], in the file's units. Levels stand above the bottom.
-#[derive(Debug, Clone, Copy, PartialEq, Eq, Drop)]
+#[derive(Clone, Copy, Drop)]
 pub struct TankRow<'a> {
     pub id: &'a [u8],
     /// The elevation of its bottom.

@@ -18,7 +18,7 @@ use hyd_num::Decimal;
 use hyd_row_words::{ends, id, needed, not_negative, number_within, word_is};
 
 /// The setting of a valve, by its type.
-#[derive(Debug, Clone, Copy, PartialEq, Eq, Drop)]
+#[derive(Clone, Copy, Drop)]
 pub enum ValveSetting<'a> {
     /// The loss coefficient of a throttle control valve.
     Throttle(Decimal),
@@ -29,7 +29,7 @@ pub enum ValveSetting<'a> {
 }
 
 /// A row of [VALVES], in the file's units.
-#[derive(Debug, Clone, Copy, PartialEq, Eq, Drop)]
+#[derive(Clone, Copy, Drop)]
 pub struct ValveRow<'a> {
     pub ends: LinkEnds<'a>,
     pub diameter: Decimal,

@@ -18,7 +18,7 @@ use hyd_row_words::{either_keyword, ends, id, needed, number, number_of, word_is
 use hyd_spec_input::{LinkWord, NodeWord};
 
 /// The state that a line asks of a link.
-#[derive(Debug, Clone, Copy, PartialEq, Eq, Drop)]
+#[derive(Clone, Copy, Drop)]
 pub enum Asked {
     Open,
     Closed,
@@ -27,7 +27,7 @@ pub enum Asked {
 }
 
 /// When a control acts. An ID is the number of its word, counted from 0.
-#[derive(Debug, Clone, Copy, PartialEq, Eq, Drop)]
+#[derive(Clone, Copy, Drop)]
 pub enum WhenLine {
     /// Where the level of a tank is at least a number (ABOVE), or at most it (BELOW), in the file's units.
     Level {
@@ -43,7 +43,7 @@ pub enum WhenLine {
 }
 
 /// The parts of a line of a simple control. An ID is the number of its word, counted from 0.
-#[derive(Debug, Clone, Copy, PartialEq, Eq, Drop)]
+#[derive(Clone, Copy, Drop)]
 pub struct ControlLine {
     pub object: LinkWord,
     pub link: u32,

@@ -27,7 +27,7 @@ const ONE: i128 = 1_000_000_000;
 const HALF: i128 = 500_000_000;
 
 /// What a line of options sets. An ID is the number of its word, counted from 0.
-#[derive(Debug, Clone, Copy, PartialEq, Eq, Drop)]
+#[derive(Clone, Copy, Drop)]
 pub enum OptionSet {
     /// The unit of flows.
     Unit(FlowUnit),

@@ -25,7 +25,7 @@ use hyd_row_words::{either_keyword, ends, id, needed, number, or_empty};
 use hyd_spec_input::{Attribute, LinkWord, NodeWord, ObjectWord, RuleWord};
 
 /// What a clause speaks of. An ID is the number of its word, counted from 0.
-#[derive(Debug, Clone, Copy, PartialEq, Eq, Drop)]
+#[derive(Clone, Copy, Drop)]
 pub enum Object {
     System,
     Node(NodeWord, u32),
@@ -45,7 +45,7 @@ pub enum Value {
 }
 
 /// The parts of a clause.
-#[derive(Debug, Clone, Copy, PartialEq, Eq, Drop)]
+#[derive(Clone, Copy, Drop)]
 pub struct ClauseLine {
     pub object: Object,
     pub what: Attribute,
@@ -55,7 +55,7 @@ pub struct ClauseLine {
 
 /// The parts of an action: a link, whose ID is the number of its word, counted from 0, and the state that is asked of
 /// it.
-#[derive(Debug, Clone, Copy, PartialEq, Eq, Drop)]
+#[derive(Clone, Copy, Drop)]
 pub struct ActionLine {
     pub object: LinkWord,
     pub link: u32,
@@ -63,7 +63,7 @@ pub struct ActionLine {
 }
 
 /// A line of a rule.
-#[derive(Debug, Clone, Copy, PartialEq, Eq, Drop)]
+#[derive(Clone, Copy, Drop)]
 pub enum RuleLine {
     /// The rule's ID, as the number of its word.
     Rule(u32),

@@ -17,7 +17,7 @@ use hyd_row_words::{either_keyword, keyword, or_empty};
 use hyd_spec_input::TimeWord;
 
 /// What a line of times sets, in seconds.
-#[derive(Debug, Clone, Copy, PartialEq, Eq, Drop)]
+#[derive(Clone, Copy, Drop)]
 pub enum TimeSet {
     /// How long the simulation runs.
     Duration(u32),

@@ -25,7 +25,7 @@ const HOUR: i128 = 3_600 * BILLION;
 const DAY: i128 = 86_400 * BILLION;
 
 /// The first word of a time.
-#[derive(Debug, Clone, Copy, PartialEq, Eq, Drop)]
+#[derive(Clone, Copy, Drop)]
 pub(crate) enum ClockTimeOrNumber {
     /// Hours, minutes and maybe seconds, in seconds.
     Clock(u32),

@@ -7,7 +7,7 @@ use hyd_rule_values::RuleOpen;
 
 /// The first matter that the vectors of a period leave open: rules and the end of the period in order of time, then
 /// tanks, then level controls.
-#[derive(Debug, Clone, Copy, PartialEq, Eq, Drop)]
+#[derive(Clone, Copy, Drop)]
 pub enum Open {
     /// A rule at an instant of the period.
     Rule(RuleOpen),

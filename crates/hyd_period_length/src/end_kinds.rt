@@ -4,7 +4,7 @@
 use hyd_rule_values::RuleOpen;
 
 /// How a period ends that doesn't begin at the end of the run. Seconds count from its start.
-#[derive(Debug, Clone, Copy, PartialEq, Eq, Drop)]
+#[derive(Clone, Copy, Drop)]
 pub enum Ending {
     /// By the rules, after so many seconds: they change the state of a link there.
     ByRules(u32),

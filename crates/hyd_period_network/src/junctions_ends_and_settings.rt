@@ -12,14 +12,14 @@ pub struct NetJunction {
 }
 
 /// The two nodes of a link.
-#[derive(Debug, Clone, Copy, PartialEq, Eq, Drop)]
+#[derive(Clone, Copy, Drop)]
 pub struct Ends {
     pub from: u32,
     pub to: u32,
 }
 
 /// A link end at a junction: the link, its other node, and whether it leaves the junction.
-#[derive(Debug, Clone, Copy, PartialEq, Eq, Default, Drop)]
+#[derive(Clone, Copy, Default, Drop)]
 pub struct Tie {
     pub link: u32,
     pub other: u32,

@@ -19,7 +19,7 @@ use hyd_spec_certificates::LevelSpan;
 use hyd_tank::{state_of, tank_at};
 
 /// The first tank whose two ends of its level interval differ in state. Tanks are counted from 0.
-#[derive(Debug, Clone, Copy, PartialEq, Eq, Drop)]
+#[derive(Clone, Copy, Drop)]
 pub struct TankOpen {
     /// Its number among the tanks.
     pub tank: u32,

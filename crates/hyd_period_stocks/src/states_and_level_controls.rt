@@ -15,7 +15,7 @@ use hyd_spec::TankState;
 use hyd_spec_certificates::LevelSpan;
 
 /// The first matter of tanks that is open at their levels.
-#[derive(Debug, Clone, Copy, PartialEq, Eq, Drop)]
+#[derive(Clone, Copy, Drop)]
 pub enum Unsettled {
     /// The state of a tank.
     Tank(TankOpen),

@@ -14,7 +14,7 @@ use hyd_spec_certificates::LevelSpan;
 use hyd_units::{BUFFER_SIZE, Way, print_flow, print_head, print_pressure};
 
 /// What a printed number is.
-#[derive(Debug, Clone, Copy, PartialEq, Eq, Drop)]
+#[derive(Clone, Copy, Drop)]
 pub(crate) enum Quantity {
     Head,
     Pressure,

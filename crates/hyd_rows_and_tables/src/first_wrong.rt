@@ -7,7 +7,7 @@ ghost use Rattle.hyd_rows_and_tables.specs.FirstWrongRow as faults;
 use hyd_net::Cause;
 
 /// A wrong row.
-#[derive(Debug, Clone, Copy, PartialEq, Eq, Drop)]
+#[derive(Clone, Copy, Drop)]
 pub struct Found {
     /// Its place among the rows, counted from 0.
     pub place: usize,

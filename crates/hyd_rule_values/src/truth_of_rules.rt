@@ -20,7 +20,7 @@ use hyd_spec_certificates::{LevelSpan, Truth};
 
 /// The first rule that is open at an instant, the first of its clauses that is open by itself, and the ends of what
 /// that clause measures. Rules and clauses are counted from 0.
-#[derive(Debug, Clone, Copy, PartialEq, Eq, Drop)]
+#[derive(Clone, Copy, Drop)]
 pub struct RuleOpen {
     /// Its number among the rules.
     pub rule: u32,

@@ -8,7 +8,7 @@ ghost use Rattle.hyd_run.specs.Runs.{outcome_of};
 use hyd_spec_reports::StopCause;
 
 /// How a run ended.
-#[derive(Debug, Clone, Copy, PartialEq, Eq, Drop)]
+#[derive(Clone, Copy, Drop)]
 pub enum RunEnd {
     /// The period at the end of the run was done.
     Finished,

@@ -17,7 +17,7 @@ use hyd_spec_certificates::{Problem, Side};
 use hyd_vector_check::check;
 
 /// The first vector of a record that isn't a certificate.
-#[derive(Debug, Clone, Copy, PartialEq, Eq, Drop)]
+#[derive(Clone, Copy, Drop)]
 pub(crate) struct Failing {
     pub(crate) problem: Problem,
     pub(crate) side: Side,

@@ -23,7 +23,7 @@ use hyd_period_network::Net;
 use hyd_period_vectors::{Lack, Search};
 
 /// Why an attempt failed.
-#[derive(Debug, Clone, Copy, PartialEq, Eq, Drop)]
+#[derive(Clone, Copy, Drop)]
 pub(crate) enum Fault {
     /// A vector is lacking.
     Lack(Lack),

@@ -2,7 +2,7 @@
 #![tactic(auto)]
 
 /// How far a run searches, and how sharp its records are to be.
-#[derive(Debug, Clone, Copy, PartialEq, Eq, Drop)]
+#[derive(Clone, Copy, Drop)]
 pub struct Settings {
     /// The most rounds of raises toward one vector.
     pub rounds: u32,

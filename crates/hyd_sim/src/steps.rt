@@ -17,7 +17,7 @@ use hyd_finders::Finder;
 use hyd_spec_reports::StopCause;
 
 /// What a step did.
-#[derive(Debug, Clone, Copy, PartialEq, Eq, Drop)]
+#[derive(Clone, Copy, Drop)]
 pub enum Step {
     /// A period was done.
     Period,

@@ -16,7 +16,7 @@ pub const MISSED_STOCK_TICKS: i64 = 10;
 pub const STATE_BAND: i64 = 1_524_000_000;
 
 /// How full a tank is at the start of a period (EPANET 2.2 User Manual, chapter 3, tanks).
-#[derive(Debug, Clone, Copy, PartialEq, Eq, Drop)]
+#[derive(Clone, Copy, Drop)]
 pub enum TankState {
     /// At or near its minimum level: nothing flows out.
     Empty,
@@ -27,7 +27,7 @@ pub enum TankState {
 }
 
 /// What changed the state of a link (EPANET 2.2 User Manual, chapter 3, controls). Numbers count from 0.
-#[derive(Debug, Clone, Copy, PartialEq, Eq, Drop)]
+#[derive(Clone, Copy, Drop)]
 pub enum Source {
     /// The simple control of this number.
     Control(u32),
@@ -36,7 +36,7 @@ pub enum Source {
 }
 
 /// A change of the state of a link.
-#[derive(Debug, Clone, Copy, PartialEq, Eq, Drop)]
+#[derive(Clone, Copy, Drop)]
 pub struct Change {
     /// What changed it.
     pub source: Source,

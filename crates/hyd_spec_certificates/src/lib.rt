@@ -6,7 +6,7 @@
 pub const BOX_LIMIT: i64 = 1_000_000_000_000_000_000;
 
 /// Which heads the tanks have in a comparison.
-#[derive(Debug, Clone, Copy, PartialEq, Eq, Drop)]
+#[derive(Clone, Copy, Drop)]
 pub enum Problem {
     /// Each tank at the end of its level interval that lies on the side of the vector.
     Main,
@@ -16,7 +16,7 @@ pub enum Problem {
 
 /// On which side of the heads of every assignment a vector lies (supersolutions and subsolutions of
 /// Ortega and Rheinboldt 1970).
-#[derive(Debug, Clone, Copy, PartialEq, Eq, Drop)]
+#[derive(Clone, Copy, Drop)]
 pub enum Side {
     /// Above: on balance water flows out of every junction.
     Upper,
@@ -26,7 +26,7 @@ pub enum Side {
 
 /// A junction, by its number, that is held at a head: of it is asked that it stands at that head, and not that its
 /// balance passes (Dirichlet condition at one node of the network).
-#[derive(Debug, Clone, Copy, PartialEq, Eq, Drop)]
+#[derive(Clone, Copy, Drop)]
 pub struct HeldJunction {
     /// Its number among the junctions, counted from 0.
     pub junction: u32,
@@ -36,7 +36,7 @@ pub struct HeldJunction {
 
 /// All heads or levels from one to another, both in head ticks of 10^-13 m: heads above the datum, levels above the
 /// bottom of their tank.
-#[derive(Debug, Clone, Copy, PartialEq, Eq, Drop)]
+#[derive(Clone, Copy, Drop)]
 pub struct LevelSpan {
     /// The least of them.
     pub lo: i64,
@@ -45,7 +45,7 @@ pub struct LevelSpan {
 }
 
 /// What holds of all points of the intervals, of none, or is open (Kleene 1952, strong three-valued logic).
-#[derive(Debug, Clone, Copy, PartialEq, Eq, Drop)]
+#[derive(Clone, Copy, Drop)]
 pub enum Verdict {
     /// It holds.
     Yes,
@@ -56,7 +56,7 @@ pub enum Verdict {
 }
 
 /// What a period's intervals leave of a rule at an instant.
-#[derive(Debug, Clone, Copy, PartialEq, Eq, Drop)]
+#[derive(Clone, Copy, Drop)]
 pub enum Truth {
     /// It is true, whatever the exact values are.
     True,

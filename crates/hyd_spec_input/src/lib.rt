@@ -3,7 +3,7 @@
 #![tactic(auto)]
 
 /// The first word of a line of [OPTIONS].
-#[derive(Debug, Clone, Copy, PartialEq, Eq, Drop)]
+#[derive(Clone, Copy, Drop)]
 pub enum OptionWord {
     Units,
     HeadLoss,
@@ -19,7 +19,7 @@ pub enum OptionWord {
 }
 
 /// The first word of a line of [TIMES].
-#[derive(Debug, Clone, Copy, PartialEq, Eq, Drop)]
+#[derive(Clone, Copy, Drop)]
 pub enum TimeWord {
     Duration,
     Hydraulic,
@@ -32,7 +32,7 @@ pub enum TimeWord {
 }
 
 /// The word before a link's ID in a control or a rule.
-#[derive(Debug, Clone, Copy, PartialEq, Eq, Drop)]
+#[derive(Clone, Copy, Drop)]
 pub enum LinkWord {
     /// A link of any kind.
     Link,
@@ -42,7 +42,7 @@ pub enum LinkWord {
 }
 
 /// The word before a node's ID in a control or a rule.
-#[derive(Debug, Clone, Copy, PartialEq, Eq, Drop)]
+#[derive(Clone, Copy, Drop)]
 pub enum NodeWord {
     /// A node of any kind.
     Node,
@@ -52,7 +52,7 @@ pub enum NodeWord {
 }
 
 /// The second word of a rule's clause.
-#[derive(Debug, Clone, Copy, PartialEq, Eq, Drop)]
+#[derive(Clone, Copy, Drop)]
 pub enum ObjectWord {
     System,
     Node(NodeWord),
@@ -60,7 +60,7 @@ pub enum ObjectWord {
 }
 
 /// What a rule's clause asks of its object.
-#[derive(Debug, Clone, Copy, PartialEq, Eq, Drop)]
+#[derive(Clone, Copy, Drop)]
 pub enum Attribute {
     Head,
     Pressure,
@@ -73,7 +73,7 @@ pub enum Attribute {
 }
 
 /// The first word of a line of a rule.
-#[derive(Debug, Clone, Copy, PartialEq, Eq, Drop)]
+#[derive(Clone, Copy, Drop)]
 pub enum RuleWord {
     Rule,
     If,
@@ -85,7 +85,7 @@ pub enum RuleWord {
 }
 
 /// What stands before a line of a rule.
-#[derive(Debug, Clone, Copy, PartialEq, Eq, Drop)]
+#[derive(Clone, Copy, Drop)]
 pub enum Stage {
     /// No rule.
     Outside,
@@ -102,7 +102,7 @@ pub enum Stage {
 }
 
 /// The keywords of the earlier pairs of a pump's row.
-#[derive(Debug, Clone, Copy, PartialEq, Eq, Drop)]
+#[derive(Clone, Copy, Drop)]
 pub struct EarlierKeys {
     pub head: bool,
     pub speed: bool,

@@ -3,7 +3,7 @@
 
 /// The rule of lines that a line breaks. Of several, a line that is too long comes first, then a byte that isn't
 /// plain, then what the heading is.
-#[derive(Debug, Clone, Copy, PartialEq, Eq, Drop)]
+#[derive(Clone, Copy, Drop)]
 pub enum LexCause {
     /// The line has more than 1,024 bytes, its end aside (this program's own limit).
     LongLine,
@@ -17,7 +17,7 @@ pub enum LexCause {
 }
 
 /// The first line that breaks a rule of lines.
-#[derive(Debug, Clone, Copy, PartialEq, Eq, Drop)]
+#[derive(Clone, Copy, Drop)]
 pub struct LexFault {
     /// The line's number, counted from 1.
     pub line: u32,

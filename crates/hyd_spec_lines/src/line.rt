@@ -5,7 +5,7 @@ use crate::section::Section;
 
 /// A line with a word in a section that is read: its number, counted from 1, its section, and where it lies in the
 /// text, from its first byte up to its comment or its end.
-#[derive(Debug, Clone, Copy, PartialEq, Eq, Drop)]
+#[derive(Clone, Copy, Drop)]
 pub struct Line {
     pub number: u32,
     pub section: Section,

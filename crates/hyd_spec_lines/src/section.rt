@@ -4,7 +4,7 @@
 use crate::fault::LexCause;
 
 /// A section that is read, by its heading.
-#[derive(Debug, Clone, Copy, PartialEq, Eq, Drop)]
+#[derive(Clone, Copy, Drop)]
 pub enum Section {
     Junctions,
     Reservoirs,
@@ -24,7 +24,7 @@ pub enum Section {
 }
 
 /// What a line stands under.
-#[derive(Debug, Clone, Copy, PartialEq, Eq, Drop)]
+#[derive(Clone, Copy, Drop)]
 pub enum Region {
     /// No heading yet.
     BeforeHeadings,
@@ -36,7 +36,7 @@ pub enum Region {
 }
 
 /// What a line is.
-#[derive(Debug, Clone, Copy, PartialEq, Eq, Drop)]
+#[derive(Clone, Copy, Drop)]
 pub enum Kind {
     /// A blank line, or one that isn't read.
     Nothing,

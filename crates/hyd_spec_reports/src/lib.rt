@@ -5,7 +5,7 @@
 use hyd_spec_certificates::{Problem, Side};
 
 /// The status of a link as the report prints it.
-#[derive(Debug, Clone, Copy, PartialEq, Eq, Drop)]
+#[derive(Clone, Copy, Drop)]
 pub enum StatusWord {
     Open,
     Closed,
@@ -16,7 +16,7 @@ pub enum StatusWord {
 }
 
 /// What a tank reaches at the end of a period (EPANET 2.2 User Manual, chapter 3, tanks and controls).
-#[derive(Debug, Clone, Copy, PartialEq, Eq, Drop)]
+#[derive(Clone, Copy, Drop)]
 pub enum EventKind {
     /// Its maximum level, at which it is full.
     Full,
@@ -27,7 +27,7 @@ pub enum EventKind {
 }
 
 /// An event: a tank reaches a level at the end of a period.
-#[derive(Debug, Clone, Copy, PartialEq, Eq, Drop)]
+#[derive(Clone, Copy, Drop)]
 pub struct Event {
     /// The number of the tank among the tanks, counted from 0.
     pub tank: u32,
@@ -37,7 +37,7 @@ pub struct Event {
 
 /// Why a run stops at a period (this program's own). Periods, junctions, tanks, rules, clauses and controls count from
 /// 0.
-#[derive(Debug, Clone, Copy, PartialEq, Eq, Drop)]
+#[derive(Clone, Copy, Drop)]
 pub enum StopCause {
     /// No vector is a certificate of the problem and side; a junction is named.
     NoCertificate {
@@ -92,7 +92,7 @@ pub enum StopCause {
 }
 
 /// Why a record of a certificate is refused (this program's own). The period is the number of the record that was due.
-#[derive(Debug, Clone, Copy, PartialEq, Eq, Drop)]
+#[derive(Clone, Copy, Drop)]
 pub enum CertRefused {
     /// Its number or its time isn't the one that was due.
     Place {

@@ -11,7 +11,7 @@ use hyd_run::RunEnd;
 use hyd_sim::{Sim, Step};
 
 /// What a step did.
-#[derive(Debug, Clone, Copy, PartialEq, Eq, Drop)]
+#[derive(Clone, Copy, Drop)]
 pub(crate) enum Turn {
     /// It did the period that was due, which had so many events.
     Period(usize),
@@ -20,7 +20,7 @@ pub(crate) enum Turn {
 }
 
 /// How a run ended, and how many events it had.
-#[derive(Debug, Clone, Copy, PartialEq, Eq, Drop)]
+#[derive(Clone, Copy, Drop)]
 pub(crate) struct Ended {
     pub(crate) end: RunEnd,
     /// Wide enough for any number of events a period.

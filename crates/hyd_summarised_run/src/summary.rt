@@ -72,7 +72,7 @@ fn put_run_counts<D: Desk>(
 }
 
 /// What the first line of a summary counts.
-#[derive(Clone, Copy, Debug, PartialEq, Eq)]
+#[derive(Clone, Copy)]
 pub(crate) struct Counts {
     pub(crate) junctions: usize,
     pub(crate) links: usize,

@@ -2,7 +2,7 @@
 #![tactic(auto)]
 
 /// What a raise, or raises in an order, did.
-#[derive(Debug, Clone, Copy, PartialEq, Eq, Drop)]
+#[derive(Clone, Copy, Drop)]
 pub enum Raised {
     /// No head moved.
     Passed,
@@ -14,7 +14,7 @@ pub enum Raised {
 }
 
 /// What a sweep found.
-#[derive(Debug, Clone, Copy, PartialEq, Eq, Drop)]
+#[derive(Clone, Copy, Drop)]
 pub enum Swept {
     /// The heads are the tight vector.
     Least,

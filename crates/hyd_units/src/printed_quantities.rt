@@ -14,7 +14,7 @@ const TICKS_PER_METRE: u64 = 1_000_000_000 * HEAD_TICKS_IN_BILLIONTH_OF_METRE;
 const TICKS_PER_FOOT: u64 = 1_000_000_000 * TEN_THOUSANDTHS_OF_METRE_IN_FOOT;
 
 /// The direction in which a decimal is rounded.
-#[derive(Debug, Clone, Copy, PartialEq, Eq, Drop)]
+#[derive(Clone, Copy, Drop)]
 pub enum Way {
     /// To the greatest decimal at most the quantity, as for a lower end.
     Down,

@@ -21,7 +21,7 @@ pub(crate) struct Watch {
 }
 
 /// The earliest and the latest second after the start of a period at which it may end.
-#[derive(Debug, Clone, Copy, PartialEq, Eq, Drop)]
+#[derive(Clone, Copy, Drop)]
 pub struct Ends {
     pub earliest: u32,
     pub latest: u32,
