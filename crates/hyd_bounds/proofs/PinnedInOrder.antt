@@ -14,7 +14,7 @@ use Rattle.hyd_spec_certificates.specs.PeriodNetwork.{Grid, end_on, opposite, ta
 use Rattle.hyd_spec_certificates.specs.Certificate.{IsCertificate}
 use Rattle.hyd_theorems_on_definitions.specs.SoundLawsAndGrids.{IsSteady, TanksInOrder}
 use Rattle.hyd_num.proofs.Integers.{one_times}
-use Rattle.hyd_theorems_on_nesting.proofs.TwoSides.{heads_below_plus}
+use Rattle.hyd_theorems_on_definitions.proofs.TwoSides.{heads_below_plus}
 use Rattle.hyd_vector_check.specs.ComparisonPrinciple.{FixedWithin}
 use Rattle.hyd_bounds.specs.VectorsInOrder.{AreInOrder, tank_width}
 

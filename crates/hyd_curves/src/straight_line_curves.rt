@@ -5,7 +5,7 @@ ghost use Rattle.std.specs.Prelude.{◌≡◌, ◌==◌, ◌<◌, ◌+◌, ◌^�
 ghost use Rattle.hyd_num.specs.FileQuantity.{is_us_unit};
 ghost use Rattle.hyd_spec_lines.specs.WordsOfLines.{text_of};
 ghost use Rattle.hyd_spec_lines.specs.Lines.{LiesIn, Row};
-ghost use Rattle.hyd_row_words.specs.FaultOrValue.{words_at};
+ghost use Rattle.hyd_option_and_rule_lines.specs.FaultOrValue.{words_at};
 ghost use Rattle.hyd_spec_input.specs.SingleRows.{IsWrongByItself};
 ghost use Rattle.hyd_spec_input.specs.Curves as curve;
 ghost use Rattle.hyd_spec_input.specs.Faults.{NoneIs, IsWrongWithOthers};
@@ -25,7 +25,7 @@ use hyd_lex::{Line, Lines, Section};
 use hyd_net::{HeadPoint, OutOfMemory};
 use hyd_network_rows::read_pump;
 use hyd_num::FlowUnit;
-use hyd_row_words::word_is;
+use hyd_option_and_rule_lines::word_is;
 use hyd_rows_and_tables::{NumberedIds, Table};
 use std::alloc::Global;
 

@@ -16,10 +16,11 @@ use crate::network_parts::{Links, Nodes, Parts, PatternsControlsAndRules, assemb
 use crate::numbered_names::{Numbers, ids_of, number};
 use crate::rows_to_build_from::RowsForNetwork;
 use crate::tables::gather_tables;
-use hyd_build_controls_and_rules::{build_controls, build_rules};
-use hyd_build_ids_patterns_and_options::{build_patterns, options_in_force, times_in_force};
-use hyd_build_links::RowsForLinks;
-use hyd_build_nodes::{build_junctions, build_reservoirs, build_tanks};
+use hyd_build_links_controls_and_rules::{RowsForLinks, build_controls, build_rules};
+use hyd_build_nodes_patterns_and_options::{
+    build_junctions, build_patterns, build_reservoirs, build_tanks, options_in_force,
+    times_in_force,
+};
 use hyd_curves::{gather_bends, gather_points, gather_shapes};
 use hyd_judge_nodes_curves_and_options::unit_in_force;
 use hyd_lex::{Line, Lines};
@@ -84,7 +85,7 @@ fn build_links(
         bends: &bends.names,
         unit: given.unit,
     };
-    let links = hyd_build_links::build_links(alloc, text, &of_links)?;
+    let links = hyd_build_links_controls_and_rules::build_links(alloc, text, &of_links)?;
     Ok(Links {
         links,
         bends: bends.lists,

@@ -10,9 +10,9 @@ ghost use Rattle.hyd_rows_and_tables.specs.RowsOfLines.{rows_at};
 use crate::fault::{InpFault, TEXT_TOO_LONG, line_cause};
 use crate::first_wrong_with_others::first_with_others;
 use crate::missing_from_file::lack;
-use hyd_judge_single_rows::first_by_itself;
 use hyd_lex::{LexFault, Line, Lines};
 use hyd_net::OutOfMemory;
+use hyd_network_rows::first_by_itself;
 use hyd_rows_and_tables::gather;
 use std::alloc::Global;
 

@@ -15,17 +15,18 @@ ghost use Rattle.hyd_rows_and_tables.specs.RowsOfLines.{rows_at};
 ghost use Rattle.hyd_rows_and_tables.specs.IdTables.{IsTable};
 ghost use Rattle.hyd_judge_nodes_curves_and_options.specs.JudgedNodes as nodes_form;
 ghost use Rattle.hyd_judge_nodes_curves_and_options.specs.Patterns.{ArePatterns};
-ghost use Rattle.hyd_judge_links.specs.LinkFaults as links_form;
+ghost use Rattle.hyd_judge_links_controls_and_rules.specs.LinkFaults as links_form;
 ghost use Rattle.hyd_inp.specs.SectionsInJudgingOrder as family;
 ghost use Rattle.hyd_inp.specs.SectionsInJudgingOrder.{IsWrongOf};
 
 use hyd_curves::gather_points;
-use hyd_judge_links::{LinkTables, judge_links};
+use hyd_judge_links_controls_and_rules::{
+    LinkTables, judge_controls, judge_links, judge_rules, judge_status,
+};
 use hyd_judge_nodes_curves_and_options::{
     NodeTables, Patterns, judge_curves, judge_demands, judge_emitters, judge_nodes, judge_options,
     judge_patterns, unit_in_force,
 };
-use hyd_judge_statuses_controls_and_rules::{judge_controls, judge_rules, judge_status};
 use hyd_lex::{Line, Lines};
 use hyd_net::OutOfMemory;
 use hyd_num::FlowUnit;

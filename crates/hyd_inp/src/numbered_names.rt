@@ -9,7 +9,7 @@ ghost use Rattle.hyd_spec_input.specs.Faults.{NoneIs, IsWrongWithOthers};
 ghost use Rattle.hyd_rows_and_tables.specs.RowsOfLines.{rows_at};
 ghost use Rattle.hyd_inp.specs.Parts.{AreNumbers, AreIds};
 
-use hyd_build_ids_patterns_and_options::{link_ids, node_ids, pattern_ids, tank_ids};
+use hyd_build_nodes_patterns_and_options::{link_ids, node_ids, pattern_ids, tank_ids};
 use hyd_lex::{Line, Lines};
 use hyd_net::{Names, OutOfMemory};
 use hyd_rows_and_tables::NumberedIds;

@@ -6,7 +6,7 @@ use Rattle.hyd_num.specs.FileQuantity.{is_us_unit, pressure_numerator, pressure_
 use Rattle.hyd_num.specs.declared.flow_units.FlowUnit.{FlowUnit}
 use Rattle.hyd_spec_lines.specs.Lines.{Row, Reading}
 use Rattle.hyd_spec_lines.specs.declared.line.Line.{Line}
-use Rattle.hyd_row_words.specs.FaultOrValue.{words_at}
+use Rattle.hyd_option_and_rule_lines.specs.FaultOrValue.{words_at}
 use Rattle.hyd_spec_input.specs.Columns.{or_else, unless, needed, number, amount, word_is_of}
 use Rattle.hyd_spec_input.specs.OptionsAndTimesInForce as force
 use Rattle.hyd_net.specs.NumberRanges.{head_limit}

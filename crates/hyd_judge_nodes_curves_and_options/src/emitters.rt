@@ -5,7 +5,7 @@ ghost use Rattle.std.specs.Prelude.{◌≡◌, ◌<◌, ◌^◌, ◌+◌, ◌*�
 ghost use Rattle.std.specs.List.{All};
 ghost use Rattle.hyd_spec_lines.specs.Lines.{LiesIn, Row};
 ghost use Rattle.hyd_spec_lines.specs.declared.section.Section.TheVariants.{Emitters};
-ghost use Rattle.hyd_row_words.specs.FaultOrValue.{words_at};
+ghost use Rattle.hyd_option_and_rule_lines.specs.FaultOrValue.{words_at};
 ghost use Rattle.hyd_spec_input.specs.SingleRows.{IsWrongByItself};
 ghost use Rattle.hyd_spec_input.specs.CapacitiesOutOfRange.{IsRefusedEmitter};
 ghost use Rattle.hyd_spec_input.specs.Columns.{word, amount};

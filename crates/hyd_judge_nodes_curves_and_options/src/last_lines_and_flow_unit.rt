@@ -10,8 +10,7 @@ ghost use Rattle.hyd_rows_and_tables.specs.RowsOfLines.{rows_at, row_in};
 
 use hyd_lex::{Line, Lines, Section};
 use hyd_num::FlowUnit;
-use hyd_option_and_rule_lines::flow_unit;
-use hyd_row_words::{or_empty, word_is};
+use hyd_option_and_rule_lines::{flow_unit, or_empty, word_is};
 
 pub(crate) fn is_options(section: Section) -> bool
     ensures { result ≡ (section_place section == 13) }

@@ -7,7 +7,7 @@ ghost use Rattle.hyd_num.specs.Numeral.{nano_of};
 ghost use Rattle.hyd_spec_lines.specs.WordsOfLines.{words_in};
 ghost use Rattle.hyd_spec_lines.specs.Lines.{LiesIn};
 ghost use Rattle.hyd_spec_lines.specs.declared.section.Section.TheVariants.{Patterns};
-ghost use Rattle.hyd_row_words.specs.FaultOrValue.{words_at};
+ghost use Rattle.hyd_option_and_rule_lines.specs.FaultOrValue.{words_at};
 ghost use Rattle.hyd_spec_input.specs.SingleRows.{IsWrongByItself};
 ghost use Rattle.hyd_spec_input.specs.Columns.{within};
 ghost use Rattle.hyd_spec_input.specs.DemandEmitterCurvePatternAndStatusRows as row;
@@ -22,7 +22,7 @@ use hyd_lex::{Line, Lines, Section, split_word};
 use hyd_net::OutOfMemory;
 use hyd_network_rows::read_pattern;
 use hyd_num::Decimal;
-use hyd_row_words::number_of;
+use hyd_option_and_rule_lines::number_of;
 use hyd_rows_and_tables::{Table, own_id};
 use std::alloc::Global;
 

@@ -6,7 +6,7 @@ ghost use lib.Signed.{le_z};
 ghost use Rattle.hyd_spec_lines.specs.WordsOfLines.{text_of};
 ghost use Rattle.hyd_spec_lines.specs.Lines.{LiesIn, Row};
 ghost use Rattle.hyd_spec_lines.specs.declared.section.Section.TheVariants.{Curves};
-ghost use Rattle.hyd_row_words.specs.FaultOrValue.{words_at};
+ghost use Rattle.hyd_option_and_rule_lines.specs.FaultOrValue.{words_at};
 ghost use Rattle.hyd_net.specs.NumberRanges.{least_level_difference};
 ghost use Rattle.hyd_net.specs.declared.refusal_cause.Cause.TheVariants.{Range};
 ghost use Rattle.hyd_spec_input.specs.Columns.{unless};

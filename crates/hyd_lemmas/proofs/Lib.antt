@@ -20,3 +20,4 @@ pub mod ListsOptionsAndResults
 pub mod KnotLines
 pub mod OneBinaryNumber
 pub mod DenominatorsAboveZero
+pub mod OneCapacity

@@ -6,7 +6,7 @@ use Rattle.std.specs.Prelude.{◌&&◌}
 use Rattle.hyd_num.specs.Numeral.{nano_of}
 use Rattle.hyd_num.specs.declared.decimals.Decimal.{Decimal}
 use Rattle.hyd_spec_lines.specs.WordsOfLines.{is_keyword}
-use Rattle.hyd_row_words.specs.FaultOrValue.{Judged}
+use Rattle.hyd_option_and_rule_lines.specs.FaultOrValue.{Judged}
 use Rattle.hyd_spec_input.specs.Columns.{number, or_else, unless, up_to, units}
 use Rattle.hyd_spec_input.specs.NodeAndLinkRows.{pump_key, pump_value, pump_pairs, none_earlier, and_key, pair_value}
 use Rattle.hyd_spec_input.specs.NodeAndLinkRows.{speed_of}

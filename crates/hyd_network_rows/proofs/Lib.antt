@@ -1,1 +1,3 @@
 pub mod KeyAndValueLemmas
+pub mod StageLemmas
+pub mod RuleLinesBehindLemmas

@@ -2,7 +2,7 @@
 #![tactic(auto)]
 
 ghost use Rattle.hyd_spec_lines.specs.Lines.{LiesIn};
-ghost use Rattle.hyd_row_words.specs.FaultOrValue.{Judged, words_at};
+ghost use Rattle.hyd_option_and_rule_lines.specs.FaultOrValue.{Judged, words_at};
 ghost use Rattle.hyd_spec_input.specs.DemandEmitterCurvePatternAndStatusRows as row;
 ghost use Rattle.hyd_network_rows.specs.Rows.{IsCurveRow, IsDemandRow, IsEmitterRow, IsStatusRow};
 
@@ -11,8 +11,7 @@ use hyd_lex::{Line, Lines};
 use hyd_net::Cause;
 use hyd_net::ranges::GREATEST_COEFFICIENT;
 use hyd_num::Decimal;
-use hyd_option_and_rule_lines::{Asked, asked_at};
-use hyd_row_words::{ends, id, number, number_within};
+use hyd_option_and_rule_lines::{Asked, asked_at, ends, id, number, number_within};
 
 /// A row of [DEMANDS], in the file's units. Its category isn't used.
 #[derive(Clone, Copy, Drop)]

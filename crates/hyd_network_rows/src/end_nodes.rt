@@ -3,14 +3,14 @@
 
 ghost use Rattle.std.specs.Prelude.{◌≡◌, Some, slice_get};
 ghost use Rattle.hyd_spec_lines.specs.Lines.{LiesIn};
-ghost use Rattle.hyd_row_words.specs.FaultOrValue.{Judged, words_at};
+ghost use Rattle.hyd_option_and_rule_lines.specs.FaultOrValue.{Judged, words_at};
 ghost use Rattle.hyd_spec_input.specs.Columns as column;
 ghost use Rattle.hyd_spec_input.specs.NodeAndLinkRows as row;
 ghost use Rattle.hyd_network_rows.specs.Rows.{AreLinkEnds};
 
 use hyd_lex::{Line, Lines};
 use hyd_net::Cause;
-use hyd_row_words::{id, or_empty};
+use hyd_option_and_rule_lines::{id, or_empty};
 
 /// A link's ID and its two nodes, which differ.
 #[derive(Clone, Copy, Drop)]
@@ -40,7 +40,7 @@ pub(crate) fn read_ends<'a>(text: &Lines<'a>, line: &Line) -> Result<LinkEnds<'a
     ensures { Judged (row.link_ends (words_at text.now line.now)) result (AreLinkEnds (words_at text.now line.now)) }
 {
     let id = id(text, line, 0)?;
-    let from = hyd_row_words::id(text, line, 1)?;
+    let from = hyd_option_and_rule_lines::id(text, line, 1)?;
     let to = other_end(text, line)?;
     Ok(LinkEnds { id, from, to })
 }

@@ -2,7 +2,7 @@
 #![tactic(auto)]
 
 ghost use Rattle.hyd_spec_lines.specs.Lines.{LiesIn};
-ghost use Rattle.hyd_row_words.specs.FaultOrValue.{Judged, words_at};
+ghost use Rattle.hyd_option_and_rule_lines.specs.FaultOrValue.{Judged, words_at};
 ghost use Rattle.hyd_spec_input.specs.NodeAndLinkRows as row;
 ghost use Rattle.hyd_network_rows.specs.Rows.{IsJunctionRow, IsReservoirRow};
 
@@ -10,7 +10,7 @@ use crate::optional_and_bounded_words::{number_or_0, optional_id};
 use hyd_lex::{Line, Lines};
 use hyd_net::Cause;
 use hyd_num::Decimal;
-use hyd_row_words::{ends, id, number};
+use hyd_option_and_rule_lines::{ends, id, number};
 
 /// A row of [JUNCTIONS], in the file's units.
 #[derive(Clone, Copy, Drop)]

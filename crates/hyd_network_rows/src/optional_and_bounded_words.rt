@@ -7,7 +7,7 @@ ghost use lib.Signed.{le_z};
 ghost use Rattle.hyd_num.specs.Numeral.{nano_of};
 ghost use Rattle.hyd_spec_lines.specs.WordsOfLines.{text_of, words_in};
 ghost use Rattle.hyd_spec_lines.specs.Lines.{LiesIn};
-ghost use Rattle.hyd_row_words.specs.FaultOrValue.{Judged, words_at};
+ghost use Rattle.hyd_option_and_rule_lines.specs.FaultOrValue.{Judged, words_at};
 ghost use Rattle.hyd_spec_input.specs.Columns as column;
 ghost use Rattle.hyd_spec_input.specs.Columns.{amount, amount_or};
 ghost use Rattle.hyd_spec_input.specs.NodeAndLinkRows as row;
@@ -15,7 +15,7 @@ ghost use Rattle.hyd_spec_input.specs.NodeAndLinkRows as row;
 use hyd_lex::{Line, Lines, split_word};
 use hyd_net::Cause;
 use hyd_num::Decimal;
-use hyd_row_words::{check_id, needed, number_of};
+use hyd_option_and_rule_lines::{check_id, needed, number_of};
 
 /// Whether a line has a word of this number.
 pub(crate) fn has_word(text: &Lines<'_>, line: &Line, k: u32) -> bool

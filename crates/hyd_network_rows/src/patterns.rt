@@ -4,7 +4,7 @@
 ghost use Rattle.std.specs.Prelude.{◌^◌};
 ghost use Rattle.hyd_spec_lines.specs.WordsOfLines.{words_in};
 ghost use Rattle.hyd_spec_lines.specs.Lines.{LiesIn};
-ghost use Rattle.hyd_row_words.specs.FaultOrValue.{Judged, words_at};
+ghost use Rattle.hyd_option_and_rule_lines.specs.FaultOrValue.{Judged, words_at};
 ghost use Rattle.hyd_spec_input.specs.Columns as column;
 ghost use Rattle.hyd_spec_input.specs.DemandEmitterCurvePatternAndStatusRows as row;
 ghost use Rattle.hyd_network_rows.specs.Rows.{IsPatternRow};
@@ -13,7 +13,7 @@ use crate::optional_and_bounded_words::{behind_first, within};
 use hyd_lex::{Line, Lines, split_word};
 use hyd_net::Cause;
 use hyd_net::ranges::GREATEST_MULTIPLIER;
-use hyd_row_words::{id, needed};
+use hyd_option_and_rule_lines::{id, needed};
 
 /// A row of [PATTERNS].
 #[derive(Clone, Copy, Drop)]

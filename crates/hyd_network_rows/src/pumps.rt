@@ -5,7 +5,7 @@ ghost use Rattle.std.specs.Prelude.{◌≡◌, None, codes, drop};
 ghost use Rattle.hyd_spec_lines.specs.WordsOfLines.{text_of, words_in};
 ghost use Rattle.hyd_spec_lines.specs.Headings.{is_one_of};
 ghost use Rattle.hyd_spec_lines.specs.Lines.{LiesIn};
-ghost use Rattle.hyd_row_words.specs.FaultOrValue.{Judged, words_at};
+ghost use Rattle.hyd_option_and_rule_lines.specs.FaultOrValue.{Judged, words_at};
 ghost use Rattle.hyd_spec_input.specs.NodeAndLinkRows as row;
 ghost use Rattle.hyd_network_rows.specs.Rows.{IsPumpRow};
 
@@ -15,7 +15,7 @@ use hyd_lex::{Line, Lines, is_keyword, split_word};
 use hyd_net::Cause;
 use hyd_net::ranges::GREATEST_SPEED;
 use hyd_num::Decimal;
-use hyd_row_words::{check_id, number_of};
+use hyd_option_and_rule_lines::{check_id, number_of};
 use hyd_spec_input::EarlierKeys;
 
 const ONE: i128 = 1_000_000_000;

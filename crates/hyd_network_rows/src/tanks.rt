@@ -4,7 +4,7 @@
 ghost use Rattle.std.specs.Prelude.{◌≡◌, [], ◌∷◌, codes};
 ghost use Rattle.hyd_spec_lines.specs.WordsOfLines.{text_of};
 ghost use Rattle.hyd_spec_lines.specs.Lines.{LiesIn};
-ghost use Rattle.hyd_row_words.specs.FaultOrValue.{Judged, words_at};
+ghost use Rattle.hyd_option_and_rule_lines.specs.FaultOrValue.{Judged, words_at};
 ghost use Rattle.hyd_spec_input.specs.Columns as column;
 ghost use Rattle.hyd_spec_input.specs.Columns.{amount};
 ghost use Rattle.hyd_spec_input.specs.NodeAndLinkRows as row;
@@ -14,7 +14,7 @@ use crate::optional_and_bounded_words::{level_from, not_negative_or_0};
 use hyd_lex::{Line, Lines, is_keyword};
 use hyd_net::Cause;
 use hyd_num::Decimal;
-use hyd_row_words::{check_id, ends, id, not_negative, number, number_within};
+use hyd_option_and_rule_lines::{check_id, ends, id, not_negative, number, number_within};
 
 /// The least diameter of a tank without a volume curve, in billionths of a foot or a metre.
 const LEAST_TANK_DIAMETER: i128 = 100_000_000;

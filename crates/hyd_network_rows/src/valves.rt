@@ -4,7 +4,7 @@
 ghost use Rattle.std.specs.Prelude.{◌≡◌, [], ◌∷◌, codes};
 ghost use Rattle.hyd_spec_lines.specs.Headings.{is_one_of};
 ghost use Rattle.hyd_spec_lines.specs.Lines.{LiesIn};
-ghost use Rattle.hyd_row_words.specs.FaultOrValue.{Judged, words_at};
+ghost use Rattle.hyd_option_and_rule_lines.specs.FaultOrValue.{Judged, words_at};
 ghost use Rattle.hyd_spec_input.specs.Columns as column;
 ghost use Rattle.hyd_spec_input.specs.NodeAndLinkRows as row;
 ghost use Rattle.hyd_network_rows.specs.Rows.{IsValveRow, IsValveSetting};
@@ -15,7 +15,7 @@ use hyd_lex::{Line, Lines, is_keyword};
 use hyd_net::Cause;
 use hyd_net::ranges::{GREATEST_COEFFICIENT, GREATEST_DIAMETER};
 use hyd_num::Decimal;
-use hyd_row_words::{ends, id, needed, not_negative, number_within, word_is};
+use hyd_option_and_rule_lines::{ends, id, needed, not_negative, number_within, word_is};
 
 /// The setting of a valve, by its type.
 #[derive(Clone, Copy, Drop)]

@@ -1,3 +1,4 @@
 pub mod HoursMinutesSeconds
 pub mod ClockTimeOrNumber
 pub mod WhatLinesSay
+pub mod FaultOrValue

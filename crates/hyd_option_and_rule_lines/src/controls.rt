@@ -6,15 +6,15 @@ ghost use Rattle.hyd_spec_lines.specs.Lines.{LiesIn};
 ghost use Rattle.hyd_spec_input.specs.Columns as column;
 ghost use Rattle.hyd_spec_input.specs.ControlRows as form;
 ghost use Rattle.hyd_spec_input.specs.Keywords as keyword_form;
-ghost use Rattle.hyd_row_words.specs.FaultOrValue.{Judged, words_at};
+ghost use Rattle.hyd_option_and_rule_lines.specs.FaultOrValue.{Judged, words_at};
 ghost use Rattle.hyd_option_and_rule_lines.specs.WhatLinesSay.{IsAsked, IsWhen, IsControlLine};
 
 use crate::keywords::{link_word, node_word};
+use crate::word_values::{either_keyword, ends, id, needed, number, number_of, word_is};
 use crate::words_of_times_and_clock_times::{read_clock, read_time};
 use hyd_lex::{Line, Lines, is_keyword};
 use hyd_net::Cause;
 use hyd_num::Decimal;
-use hyd_row_words::{either_keyword, ends, id, needed, number, number_of, word_is};
 use hyd_spec_input::{LinkWord, NodeWord};
 
 /// The state that a line asks of a link.

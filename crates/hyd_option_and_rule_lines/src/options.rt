@@ -8,18 +8,18 @@ ghost use Rattle.hyd_spec_input.specs.Columns as column;
 ghost use Rattle.hyd_spec_input.specs.Columns.{amount};
 ghost use Rattle.hyd_spec_input.specs.Keywords as keyword_form;
 ghost use Rattle.hyd_spec_input.specs.OptionAndTimeRows as form;
-ghost use Rattle.hyd_row_words.specs.FaultOrValue.{Judged, words_at};
+ghost use Rattle.hyd_option_and_rule_lines.specs.FaultOrValue.{Judged, words_at};
 ghost use Rattle.hyd_option_and_rule_lines.specs.WhatLinesSay.{IsDemandSet, IsOptionSet};
 
 use crate::keywords::{flow_unit, option_word};
+use crate::word_values::{
+    either_keyword, ends, id, keyword, needed, not_negative, number, number_within, or_empty,
+    word_is,
+};
 use hyd_lex::{Line, Lines, is_keyword};
 use hyd_net::Cause;
 use hyd_net::ranges::GREATEST_MULTIPLIER;
 use hyd_num::{Decimal, FlowUnit};
-use hyd_row_words::{
-    either_keyword, ends, id, keyword, needed, not_negative, number, number_within, or_empty,
-    word_is,
-};
 use hyd_spec_input::OptionWord;
 
 const ONE: i128 = 1_000_000_000;

@@ -6,7 +6,7 @@ ghost use Rattle.hyd_spec_lines.specs.Lines.{LiesIn};
 ghost use Rattle.hyd_spec_input.specs.Columns as column;
 ghost use Rattle.hyd_spec_input.specs.Keywords as keyword_form;
 ghost use Rattle.hyd_spec_input.specs.RuleRows as form;
-ghost use Rattle.hyd_row_words.specs.FaultOrValue.{Judged, words_at};
+ghost use Rattle.hyd_option_and_rule_lines.specs.FaultOrValue.{Judged, words_at};
 ghost use Rattle.hyd_option_and_rule_lines.specs.WhatLinesSay as meaning;
 ghost use Rattle.hyd_option_and_rule_lines.specs.WhatLinesSay.{IsValue, IsComparison, IsClauseLine, IsSet};
 ghost use Rattle.hyd_option_and_rule_lines.specs.WhatLinesSay.{IsActionLine};
@@ -17,11 +17,11 @@ use crate::controls::{Asked, link_kind};
 use crate::keywords::{
     attribute_word, is_unsupported_attribute, object_word, relation_word, rule_word,
 };
+use crate::word_values::{either_keyword, ends, id, needed, number, or_empty};
 use crate::words_of_times_and_clock_times::{read_clock, read_time};
 use hyd_lex::{Line, Lines, is_keyword};
 use hyd_net::{Cause, Relation};
 use hyd_num::Decimal;
-use hyd_row_words::{either_keyword, ends, id, needed, number, or_empty};
 use hyd_spec_input::{Attribute, LinkWord, NodeWord, ObjectWord, RuleWord};
 
 /// What a clause speaks of. An ID is the number of its word, counted from 0.

@@ -6,14 +6,14 @@ ghost use Rattle.hyd_spec_lines.specs.Lines.{LiesIn};
 ghost use Rattle.hyd_spec_input.specs.Columns as column;
 ghost use Rattle.hyd_spec_input.specs.TimesAndClockTimes.{time_seconds, clock_seconds};
 ghost use Rattle.hyd_spec_input.specs.OptionAndTimeRows as form;
-ghost use Rattle.hyd_row_words.specs.FaultOrValue.{Judged, words_at};
+ghost use Rattle.hyd_option_and_rule_lines.specs.FaultOrValue.{Judged, words_at};
 ghost use Rattle.hyd_option_and_rule_lines.specs.WhatLinesSay.{time_set};
 
 use crate::keywords::time_word;
+use crate::word_values::{either_keyword, keyword, or_empty};
 use crate::words_of_times_and_clock_times::{read_clock, read_time, read_time_from};
 use hyd_lex::{Line, Lines};
 use hyd_net::Cause;
-use hyd_row_words::{either_keyword, keyword, or_empty};
 use hyd_spec_input::TimeWord;
 
 /// What a line of times sets, in seconds.

@@ -8,15 +8,15 @@ ghost use Rattle.hyd_spec_input.specs.Columns as column;
 ghost use Rattle.hyd_spec_input.specs.Columns.{unless};
 ghost use Rattle.hyd_net.specs.declared.refusal_cause.Cause.TheVariants.{Range};
 ghost use Rattle.hyd_spec_input.specs.TimesAndClockTimes as form;
-ghost use Rattle.hyd_row_words.specs.FaultOrValue.{Judged, words_at};
+ghost use Rattle.hyd_option_and_rule_lines.specs.FaultOrValue.{Judged, words_at};
 ghost use Rattle.hyd_option_and_rule_lines.specs.ClockTimeOrNumber.{SaysClockTimeOrNumber};
 
 use crate::hours_minutes_seconds::{clock_seconds, has_colon};
 use crate::keywords::unit_seconds;
+use crate::word_values::{ends, needed, number_of};
 use hyd_lex::{Line, Lines, is_keyword};
 use hyd_net::Cause;
 use hyd_num::Decimal;
-use hyd_row_words::{ends, needed, number_of};
 
 const BILLION: i128 = 1_000_000_000;
 

@@ -21,9 +21,9 @@ use Rattle.hyd_tank.specs.StockIntervals.{volumes_of}
 use Rattle.hyd_period_facts.specs.declared.facts.Facts.{Facts}
 use Rattle.hyd_controls_and_rules.specs.PumpPatternsAndSimpleControls.{IsFirstOpen as IsFirstUnsure}
 use Rattle.hyd_controls_and_rules.specs.declared.pump_patterns_and_simple_controls.LevelOpen.{LevelOpen}
-use Rattle.hyd_period_stocks.specs.TankStart.{IsFirstOpen}
-use Rattle.hyd_period_stocks.specs.declared.states.TankOpen.{TankOpen}
-use Rattle.hyd_rules_at_instant.specs.Readings.{AreRead}
+use Rattle.hyd_period_facts.specs.TankStart.{IsFirstOpen}
+use Rattle.hyd_period_facts.specs.declared.states.TankOpen.{TankOpen}
+use Rattle.hyd_period_length.specs.Readings.{AreRead}
 use Rattle.hyd_period_facts.specs.FactsBeforeEnd.{AreStarted, HaveTanks}
 use Rattle.hyd_period_end.specs.FactsBeforeVectors.{AreBegun}
 use Rattle.hyd_period_end.specs.EndOfPeriod.{Decides, EndsAfter, by_rules, by_clock, IsClosed}

@@ -19,7 +19,7 @@ use Rattle.hyd_spec_certificates.specs.Decided.{heads_below, heads_above, inflow
 use Rattle.hyd_spec_certificates.specs.Valid.{AreCertificates}
 use Rattle.hyd_theorems_on_definitions.specs.SoundLawsAndGrids.{IsSteady, TanksInOrder}
 use Rattle.hyd_theorems_on_definitions.proofs.HeadLists.{fixed-in-order, ends-in-order}
-use Rattle.hyd_theorems_on_nesting.proofs.TwoSides.{heads_below_plus}
+use Rattle.hyd_theorems_on_definitions.proofs.TwoSides.{heads_below_plus}
 use Rattle.hyd_cert.specs.RecordView.{row_of}
 use Rattle.hyd_cert.specs.declared.record.Record.{Record as Row}
 use Rattle.hyd_period_network.specs.NetAsPeriodNetwork.{grid_of}
@@ -30,8 +30,8 @@ use Rattle.hyd_period_network.proofs.NetOfSoundProject.{long_zipped}
 use Rattle.hyd_bounds.specs.VectorsInOrder.{IsVector, AreInOrder}
 use Rattle.hyd_tank.specs.StockIntervals.{IsInflow}
 use Rattle.hyd_period_facts.specs.declared.facts.Facts.{Facts}
-use Rattle.hyd_tank_inflows.specs.CertificatesPinningTanks.{ArePinned}
-use Rattle.hyd_rules_at_instant.specs.Readings.{AreRead}
+use Rattle.hyd_period_facts.specs.CertificatesPinningTanks.{ArePinned}
+use Rattle.hyd_period_length.specs.Readings.{AreRead}
 use Rattle.hyd_period_facts.specs.FactsBeforeEnd.{AreStarted, HaveTanks}
 use Rattle.hyd_period_end.specs.FactsBeforeVectors.{AreBegun, AreReady}
 use Rattle.hyd_lemmas.proofs.ListsOptionsAndResults.{as_long}

@@ -1,2 +1,3 @@
 pub mod FactsByVectors
 pub mod EndedPeriods
+pub mod EventsSoFar

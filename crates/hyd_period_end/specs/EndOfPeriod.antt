@@ -14,10 +14,10 @@ use Rattle.hyd_tank.specs.StockIntervals.{AreHeld, volumes_of}
 use Rattle.hyd_period_facts.specs.FactsOfPeriod.{AreFacts}
 use Rattle.hyd_period_facts.specs.ReservedMemory.{Takes}
 use Rattle.hyd_period_facts.specs.declared.facts.Facts.{Facts}
-use Rattle.hyd_rule_readings.specs.ReservedMemory.{HasRoom as HasReadingsRoom}
-use Rattle.hyd_period_stocks.specs.TankStart.{stocks_among}
-use Rattle.hyd_period_stocks.specs.ReservedMemory.{HasRoom as HasNextRoom}
-use Rattle.hyd_period_stocks.specs.declared.tanks_at_start.TankStart.{TankStart}
+use Rattle.hyd_period_length.specs.ReservedMemory.{HasRoom as HasReadingsRoom}
+use Rattle.hyd_period_facts.specs.TankStart.{stocks_among}
+use Rattle.hyd_period_facts.specs.RoomForStocks.{HasRoom as HasNextRoom}
+use Rattle.hyd_period_facts.specs.declared.tanks_at_start.TankStart.{TankStart}
 use Rattle.hyd_period_end.specs.declared.period_end.PeriodEnd.{PeriodEnd}
 
 -- there is room for each period of a network

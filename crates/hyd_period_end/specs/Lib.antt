@@ -1,3 +1,4 @@
 pub mod FactsBeforeVectors
 pub mod OpenMatters
 pub mod EndOfPeriod
+pub mod Events

@@ -14,7 +14,7 @@ ghost use Rattle.hyd_spec_certificates.specs.Valid.{volumes_next};
 ghost use Rattle.hyd_controls_and_rules.specs.RuleReadings.{IsBounded};
 ghost use Rattle.hyd_tank.specs.StockIntervals.{volumes_of};
 ghost use Rattle.hyd_period_facts.specs.FactsBeforeEnd.{HaveTanks, AreStarted};
-ghost use Rattle.hyd_period_stocks.specs.ReservedMemory.{HasRoom};
+ghost use Rattle.hyd_period_facts.specs.RoomForStocks.{HasRoom};
 ghost use Rattle.hyd_period_length.specs.Endings.{ForPeriod};
 ghost use Rattle.hyd_period_end.specs.EndOfPeriod.{Decides, AreKeptIn};
 ghost use Rattle.hyd_period_end.specs.OpenMatters.{IsOpenAt};
@@ -22,10 +22,8 @@ ghost use Rattle.hyd_period_end.specs.OpenMatters.{IsOpenAt};
 use crate::undecided::Open;
 use hyd_net::{LinkState, List, Project};
 use hyd_num::Span;
-use hyd_period_facts::Facts;
-use hyd_period_length::{Ending, find_end};
-use hyd_period_stocks::{TankStart, Unsettled};
-use hyd_rule_readings::Readings;
+use hyd_period_facts::{Facts, TankStart, Unsettled};
+use hyd_period_length::{Ending, Readings, find_end};
 use hyd_spec_certificates::LevelSpan;
 
 // After how many seconds a period ends; the links are left as its end commands, and what its rules change stands behind

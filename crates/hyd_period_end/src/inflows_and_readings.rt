@@ -12,17 +12,16 @@ ghost use Rattle.hyd_period_network.specs.NetAsPeriodNetwork.{grid_of};
 ghost use Rattle.hyd_period_network.specs.NetsSetToPeriods.{IsNetOf};
 ghost use Rattle.hyd_theorems_on_definitions.specs.SoundLawsAndGrids.{TanksInOrder};
 ghost use Rattle.hyd_period_facts.specs.ReservedMemory.{Takes};
-ghost use Rattle.hyd_rule_readings.specs.ReservedMemory.{HasRoom};
-ghost use Rattle.hyd_rules_at_instant.specs.Readings.{AreRead};
+ghost use Rattle.hyd_period_length.specs.ReservedMemory.{HasRoom};
+ghost use Rattle.hyd_period_length.specs.Readings.{AreRead};
 ghost use Rattle.hyd_period_facts.specs.FactsBeforeEnd.{AreStarted, HaveTanks};
 ghost use Rattle.hyd_period_end.specs.FactsBeforeVectors.{AreBegun, AreReady};
 
 use hyd_cert::Record;
 use hyd_net::Project;
-use hyd_period_facts::Facts;
+use hyd_period_facts::{Facts, put_inflows};
+use hyd_period_length::Readings;
 use hyd_period_network::Net;
-use hyd_rule_readings::Readings;
-use hyd_tank_inflows::put_inflows;
 
 /// Puts what flows into tanks and what rules look at in a period, by the vectors of its record, which are certificates.
 pub(crate) fn look(

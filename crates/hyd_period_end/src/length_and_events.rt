@@ -10,10 +10,9 @@ ghost use Rattle.hyd_spec_reports.specs.Report.{events_of};
 ghost use Rattle.hyd_period_facts.specs.ReservedMemory.{Takes};
 ghost use Rattle.hyd_period_facts.specs.FactsBeforeEnd.{AreStarted, HaveTanks};
 
-use hyd_carried_levels::put_carried;
+use crate::events::put_events;
 use hyd_net::{List, Project};
-use hyd_period_events::put_events;
-use hyd_period_facts::Facts;
+use hyd_period_facts::{Facts, put_carried};
 use hyd_spec_certificates::LevelSpan;
 
 /// Puts how long a period lasts, and the events of its end.

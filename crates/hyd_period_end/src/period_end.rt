@@ -22,10 +22,9 @@ use crate::length_and_events::tell_end;
 use crate::undecided::Open;
 use hyd_cert::Record;
 use hyd_net::{LinkState, List, OutOfMemory, Project};
-use hyd_period_facts::Facts;
+use hyd_period_facts::{Facts, TankStart};
+use hyd_period_length::Readings;
 use hyd_period_network::Net;
-use hyd_period_stocks::TankStart;
-use hyd_rule_readings::Readings;
 use hyd_spec_certificates::LevelSpan;
 use std::alloc::Global;
 

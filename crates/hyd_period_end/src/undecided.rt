@@ -2,8 +2,8 @@
 #![tactic(auto)]
 
 use hyd_controls_and_rules::LevelOpen;
-use hyd_period_stocks::TankOpen;
-use hyd_rule_values::RuleOpen;
+use hyd_period_facts::TankOpen;
+use hyd_period_length::RuleOpen;
 
 /// The first matter that the vectors of a period leave open: rules and the end of the period in order of time, then
 /// tanks, then level controls.

@@ -1,1 +1,9 @@
 pub mod StocksAndInflowsByFacts
+pub mod ItemForEachNumber
+pub mod InflowsByNumber
+pub mod CarriedLevelsByFacts
+pub mod FirstSecondsByFacts
+pub mod WatchedLevelsSoFar
+pub mod NextStocksByFacts
+pub mod DecidedTankStates
+pub mod InitialStocksAndStates

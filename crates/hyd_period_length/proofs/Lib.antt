@@ -2,3 +2,9 @@ pub mod AppendedChanges
 pub mod WhatRulesBringAbout
 pub mod InstantsTriedSoFar
 pub mod EndByRulesOrWithout
+pub mod NextReportTime
+pub mod TimeControlsSoFar
+pub mod FirstClockInstant
+pub mod RulesKnownSoFar
+pub mod ReadingsButTankHeads
+pub mod HeadsAndFlowsSoFar

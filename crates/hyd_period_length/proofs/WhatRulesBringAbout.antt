@@ -16,7 +16,7 @@ use Rattle.hyd_spec_certificates.specs.Decided.{IsOpenRule}
 use Rattle.hyd_theorems_on_nesting.specs.FirstAmongWatched.{IsWalked}
 use Rattle.hyd_period_facts.specs.declared.facts.Facts.{Facts}
 use Rattle.hyd_period_facts.specs.FactsBeforeEnd.{AreStarted}
-use Rattle.hyd_rules_at_instant.specs.TriedRules.{AreDecided, open_rule}
+use Rattle.hyd_period_length.specs.TriedRules.{AreDecided, open_rule}
 use Rattle.hyd_period_length.specs.declared.end_kinds.Ending.{Ending}
 use Rattle.hyd_period_length.specs.declared.end_kinds.Ending.TheVariants.{ByRules, WithoutRules, RuleOpen, EventOpen}
 use Rattle.hyd_period_length.specs.Endings.{IfDecided, UnlessByRules, HaveActed, IsBrought, IsFirstBrought}

@@ -15,8 +15,8 @@ use Rattle.hyd_spec_certificates.specs.Decided.{links_at, rule_truths, decided_c
 use Rattle.hyd_spec_certificates.specs.Decided.{IsOpenRule}
 use Rattle.hyd_period_facts.specs.declared.facts.Facts.{Facts}
 use Rattle.hyd_period_facts.specs.FactsBeforeEnd.{AreStarted}
-use Rattle.hyd_rules_at_instant.specs.TriedRules.{open_rule}
-use Rattle.hyd_rules_at_instant.specs.Readings.{AreRead}
+use Rattle.hyd_period_length.specs.TriedRules.{open_rule}
+use Rattle.hyd_period_length.specs.Readings.{AreRead}
 use Rattle.hyd_period_length.specs.declared.end_kinds.Ending.{Ending}
 use Rattle.hyd_period_length.specs.declared.end_kinds.Ending.TheVariants.{ByRules, WithoutRules, RuleOpen, EventOpen}
 

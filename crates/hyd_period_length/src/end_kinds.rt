@@ -1,7 +1,7 @@
 //! The kinds of ends.
 #![tactic(auto)]
 
-use hyd_rule_values::RuleOpen;
+use crate::truth_of_rules::RuleOpen;
 
 /// How a period ends that doesn't begin at the end of the run. Seconds count from its start.
 #[derive(Clone, Copy, Drop)]

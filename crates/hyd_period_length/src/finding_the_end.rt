@@ -14,13 +14,12 @@ ghost use Rattle.hyd_period_facts.specs.FactsBeforeEnd.{HaveTanks, AreStarted};
 ghost use Rattle.hyd_period_length.specs.Endings.{ForPeriod, IfDecided, UnlessByRules, end_of, changes_by};
 
 use crate::end_kinds::Ending;
+use crate::length::clock_length;
 use crate::rule_instants::end_by_rules;
 use hyd_net::{LinkState, List, Project};
 use hyd_num::Span;
-use hyd_period_facts::Facts;
-use hyd_period_length_by_clock::clock_length;
+use hyd_period_facts::{Ends, Facts, level_ends};
 use hyd_spec_certificates::LevelSpan;
-use hyd_watched_levels::{Ends, level_ends};
 
 // The earliest and the latest end by the clock and by levels.
 fn ends_of(project: &Project, facts: &Facts) -> Ends

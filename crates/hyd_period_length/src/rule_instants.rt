@@ -12,11 +12,11 @@ ghost use Rattle.hyd_period_facts.specs.FactsBeforeEnd.{HaveTanks};
 ghost use Rattle.hyd_period_length.specs.Endings.{ForPeriod, IfDecided, UnlessByRules, IsBrought, IsFirstBrought};
 
 use crate::end_kinds::Ending;
+use crate::tried_rules::try_rules;
 use hyd_controls_and_rules::{Changes, act};
 use hyd_net::{LinkState, List, Project};
 use hyd_num::Span;
 use hyd_period_facts::Facts;
-use hyd_rules_at_instant::try_rules;
 use hyd_spec_certificates::LevelSpan;
 
 // Carries out what rules with these values change, and tells whether that is anything.

@@ -17,7 +17,7 @@ use Rattle.hyd_spec_certificates.specs.Valid.{AreCertificates, IsValid, LeadsOn,
 use Rattle.hyd_spec_reports.specs.CertificateText.{IsRow, IsVector as IsRowVector}
 use Rattle.hyd_theorems_on_definitions.specs.SoundLawsAndGrids.{IsSteady, TanksInOrder}
 use Rattle.hyd_theorems_on_definitions.proofs.HeadLists.{fixed-in-order, ends-in-order}
-use Rattle.hyd_theorems_on_nesting.proofs.TwoSides.{heads_below_plus}
+use Rattle.hyd_theorems_on_definitions.proofs.TwoSides.{heads_below_plus}
 use Rattle.hyd_period_network.specs.NetAsPeriodNetwork.{grid_of}
 use Rattle.hyd_period_network.specs.NetView.{NetView}
 use Rattle.hyd_period_network.specs.NetsSetToPeriods.{IsNetOf, ends_of}

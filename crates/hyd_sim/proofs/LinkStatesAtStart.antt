@@ -21,7 +21,7 @@ use Rattle.hyd_controls_and_rules.specs.declared.pump_patterns_and_simple_contro
 use Rattle.hyd_period_facts.specs.ReservedMemory.{HasRoom}
 use Rattle.hyd_period_facts.specs.declared.facts.Facts.{Facts}
 use Rattle.hyd_period_network.specs.LawsInSettings.{AreStates}
-use Rattle.hyd_period_stocks.specs.TankStart.{stocks_among}
+use Rattle.hyd_period_facts.specs.TankStart.{stocks_among}
 use Rattle.hyd_period_end.specs.FactsBeforeVectors.{AreReady}
 use Rattle.hyd_sim.specs.RunView.{IsStanding}
 use Rattle.hyd_sim.specs.declared.standing_between_periods.Standing.{Standing as Here}

@@ -18,8 +18,8 @@ use Rattle.hyd_theorems_on_definitions.proofs.OneRefusal.{states-decided, contro
 use Rattle.hyd_period_end.specs.OpenMatters.{SharesVectors, IsOpenAt, EndsWith, IsFirstControl}
 use Rattle.hyd_period_end.specs.declared.undecided.Open.{Open}
 use Rattle.hyd_period_end.specs.declared.undecided.Open.TheVariants.{Rule, Event, Tank, Control}
-use Rattle.hyd_period_stocks.specs.TankStart.{IsFirstOpen}
-use Rattle.hyd_rules_at_instant.specs.TriedRules.{open_rule}
+use Rattle.hyd_period_facts.specs.TankStart.{IsFirstOpen}
+use Rattle.hyd_period_length.specs.TriedRules.{open_rule}
 use Rattle.hyd_period_vectors.specs.SoughtVectors.{HaveSame}
 
 -- ---- the same vectors

@@ -9,7 +9,7 @@ use Rattle.hyd_theorems_on_histories.proofs.AgreementAfterPeriod.{kept_at_start}
 use Rattle.hyd_theorems_on_nesting.specs.StandingsOfRuns.{IsTidy}
 use Rattle.hyd_theorems_on_nesting.proofs.TightVectorsDecide.{tidy_at_start}
 use Rattle.hyd_tank.specs.StockIntervals.{volumes_of}
-use Rattle.hyd_period_stocks.specs.ReservedMemory.{HasRoom}
+use Rattle.hyd_period_facts.specs.RoomForStocks.{HasRoom}
 use Rattle.hyd_period_end.specs.EndOfPeriod.{AreKeptIn}
 use Rattle.hyd_sim.specs.RunView.{IsStanding, standing_for}
 use Rattle.hyd_sim.specs.declared.standing_between_periods.Standing.{Standing as Here}

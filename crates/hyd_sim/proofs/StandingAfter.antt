@@ -15,7 +15,7 @@ use Rattle.hyd_cert.specs.declared.record.Record.{Record as Row}
 use Rattle.hyd_period_facts.specs.declared.facts.Facts.{Facts}
 use Rattle.hyd_period_network.specs.NetAsPeriodNetwork.{grid_of}
 use Rattle.hyd_period_network.specs.NetView.{NetView}
-use Rattle.hyd_period_stocks.specs.ReservedMemory.{HasRoom as HasNextRoom}
+use Rattle.hyd_period_facts.specs.RoomForStocks.{HasRoom as HasNextRoom}
 use Rattle.hyd_period_end.specs.EndOfPeriod.{HasRoom, AreKeptIn}
 use Rattle.hyd_period_end.specs.declared.period_end.PeriodEnd.{PeriodEnd}
 use Rattle.hyd_sim.specs.PeriodAttempt.{IsMade, later_standing, next_standing, last_standing}

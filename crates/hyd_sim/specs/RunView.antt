@@ -17,8 +17,8 @@ use Rattle.hyd_period_facts.specs.declared.facts.Facts.{Facts}
 use Rattle.hyd_period_facts.specs.ReservedMemory.{HasRoom}
 use Rattle.hyd_period_network.specs.NetView.{NetView}
 use Rattle.hyd_period_network.specs.NetsSetToPeriods.{IsNetOf}
-use Rattle.hyd_period_stocks.specs.ReservedMemory.{HasRoom as HasNextRoom}
-use Rattle.hyd_period_stocks.specs.declared.tanks_at_start.TankStart.{TankStart}
+use Rattle.hyd_period_facts.specs.RoomForStocks.{HasRoom as HasNextRoom}
+use Rattle.hyd_period_facts.specs.declared.tanks_at_start.TankStart.{TankStart}
 use Rattle.hyd_period_end.specs.EndOfPeriod.{HasRoom as HasCloseRoom, AreKeptIn}
 use Rattle.hyd_period_end.specs.declared.period_end.PeriodEnd.{PeriodEnd}
 use Rattle.hyd_period_vectors.specs.SizeOfSearch.{Room}

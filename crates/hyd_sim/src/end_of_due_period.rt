@@ -22,9 +22,8 @@ use crate::standing_between_periods::Standing;
 use hyd_cert::Record;
 use hyd_net::Project;
 use hyd_period_end::{Open, PeriodEnd};
-use hyd_period_facts::Facts;
+use hyd_period_facts::{Facts, put_inflows};
 use hyd_period_network::Net;
-use hyd_tank_inflows::put_inflows;
 
 // Ends the period at the end of the run, which lasts no time and brings nothing.
 fn end_run(project: &Project, standing: &Standing, net: &Net, row: &mut Record, facts: &mut Facts)

@@ -17,8 +17,7 @@ ghost use Rattle.hyd_sim.specs.RunView.{IsStanding, standing_for};
 use crate::standing_between_periods::Standing;
 use hyd_controls_and_rules::{Changes, settle};
 use hyd_net::{LinkState, List, Project};
-use hyd_period_facts::Facts;
-use hyd_period_stocks::TankStart;
+use hyd_period_facts::{Facts, TankStart};
 use hyd_spec_certificates::LevelSpan;
 
 // Makes a list these items, for which it has room.

@@ -16,9 +16,8 @@ use crate::standing_between_periods::Standing;
 use hyd_cert::{Record, version_of};
 use hyd_net::{LinkState, OutOfMemory, Project};
 use hyd_period_end::PeriodEnd;
-use hyd_period_facts::Facts;
+use hyd_period_facts::{Facts, TankStart};
 use hyd_period_network::Net;
-use hyd_period_stocks::TankStart;
 use hyd_period_vectors::Search;
 use std::alloc::Global;
 

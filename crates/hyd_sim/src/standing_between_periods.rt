@@ -7,9 +7,8 @@ ghost use Rattle.hyd_net.specs.Sound.{IsSound};
 use hyd_cert::Record;
 use hyd_net::{LinkState, Project};
 use hyd_period_end::PeriodEnd;
-use hyd_period_facts::Facts;
+use hyd_period_facts::{Facts, TankStart};
 use hyd_period_network::Net;
-use hyd_period_stocks::TankStart;
 use std::mem::swap;
 
 /// What is known where the next period begins.

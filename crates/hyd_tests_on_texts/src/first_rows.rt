@@ -1,7 +1,7 @@
 //! The first row of small texts that is wrong by itself, with what an independent reader says.
 #![tactic(auto)]
 
-use hyd_judge_single_rows::first_by_itself;
+use hyd_network_rows::first_by_itself;
 use hyd_lex::Lines;
 use hyd_net::Cause;
 use hyd_rows_and_tables::{Found, gather, kept, least};

@@ -32,7 +32,6 @@ pub mod OneEndOfPeriod
 pub mod OneStandingAndTightVector
 pub mod OneReport
 pub mod OneLength
-pub mod OneCapacity
 pub mod OneRun
 pub mod OneFirstFailure
 pub mod OneRefusal
@@ -40,3 +39,4 @@ pub mod SoundTankLemmas
 pub mod CurveLevels
 pub mod TargetsOfVolumeCurves
 pub mod HeadLists
+pub mod TwoSides

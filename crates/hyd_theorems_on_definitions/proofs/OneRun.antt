@@ -24,7 +24,7 @@ use Rattle.hyd_spec_reports.specs.PromisesOfRunsAndChecks.{Found, IsFound, IsRun
 use Rattle.hyd_theorems_on_definitions.proofs.OneLength.{one_length}
 use Rattle.hyd_theorems_on_definitions.proofs.OneStandingAndTightVector.{one_standing, one_vector}
 use Rattle.hyd_theorems_on_definitions.proofs.OneReport.{one_report}
-use Rattle.hyd_theorems_on_definitions.proofs.OneCapacity.{one_capacity}
+use Rattle.hyd_lemmas.proofs.OneCapacity.{one_capacity}
 
 module _ (project : Project) where
   -- ---- grids

@@ -69,7 +69,7 @@ use Rattle.hyd_spec_input.specs.Project.{IsProject}
 use Rattle.hyd_spec_input.specs.declared.Attribute.{Attribute}
 use Rattle.hyd_spec_input.specs.declared.Attribute.TheVariants as attribute
 use Rattle.hyd_lemmas.proofs.ListsOptionsAndResults.{same_some}
-use Rattle.hyd_theorems_on_definitions.proofs.OneCapacity.{one_capacity}
+use Rattle.hyd_lemmas.proofs.OneCapacity.{one_capacity}
 use Rattle.hyd_theorems_on_input.proofs.ControlLines.{word_apart, at_not_if}
 use Rattle.hyd_theorems_on_input.proofs.MatchedLists.{one_image, one_list}
 

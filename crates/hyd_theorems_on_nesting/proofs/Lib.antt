@@ -1,4 +1,3 @@
-pub mod TwoSides
 pub mod NestedBoxes
 pub mod InnerRecordsDecide
 pub mod ClockLengthAndEndsExist

@@ -32,7 +32,7 @@ use Rattle.hyd_theorems_on_definitions.proofs.HeadsOfAllNodes.{excess}
 use Rattle.hyd_theorems_on_definitions.proofs.ComparisonPrinciple.{place_long}
 use Rattle.hyd_theorems_on_nesting.specs.Nesting.{IsOrdered, AreNested}
 use Rattle.hyd_theorems_on_histories.proofs.ListsByPlace.{numbered_from_start}
-use Rattle.hyd_theorems_on_nesting.proofs.TwoSides.{heads_below_plus}
+use Rattle.hyd_theorems_on_definitions.proofs.TwoSides.{heads_below_plus}
 use Rattle.hyd_theorems_on_definitions.proofs.NetOutflowsRise.{low-rises, high-rises, net-rises, net-ordered}
 use Rattle.hyd_theorems_on_definitions.proofs.HeadLists.{head_behind}
 use Rattle.hyd_spec_certificates.specs.EnclosingFunctions.{low, high}

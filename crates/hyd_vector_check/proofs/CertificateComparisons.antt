@@ -21,7 +21,7 @@ use Rattle.hyd_spec_certificates.specs.Certificate.{IsCertificate}
 use Rattle.hyd_theorems_on_definitions.specs.SoundLawsAndGrids.{IsSteady}
 use Rattle.hyd_theorems_on_definitions.proofs.ComparisonPrinciple.{below_main, above_main, one_each}
 use Rattle.hyd_theorems_on_definitions.proofs.PinnedTankInflows.{upper_within, lower_within}
-use Rattle.hyd_theorems_on_nesting.proofs.TwoSides.{lower-below}
+use Rattle.hyd_theorems_on_definitions.proofs.TwoSides.{lower-below}
 use Rattle.hyd_vector_check.specs.ComparisonPrinciple.{LiesAbove, LiesBelow, LiesAbovePinned, LiesBelowPinned}
 use Rattle.hyd_vector_check.specs.ComparisonPrinciple.{LiesAboveLower}
 use Rattle.hyd_vector_check.specs.ComparisonPrinciple.{LiesBelowUpper}

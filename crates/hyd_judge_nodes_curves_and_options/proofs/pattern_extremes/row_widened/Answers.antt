@@ -1,4 +1,4 @@
-use Rattle.hyd_row_words.specs.FaultOrValue.{words_at}
+use Rattle.hyd_option_and_rule_lines.specs.FaultOrValue.{words_at}
 use Rattle.hyd_judge_nodes_curves_and_options.proofs.ExtremeLemmas.{multipliers_are_right}
 use Rattle.hyd_judge_nodes_curves_and_options.proofs.pattern_extremes.row_widened.Goals as goal
 

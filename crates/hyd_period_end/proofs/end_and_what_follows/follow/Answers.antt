@@ -1,5 +1,5 @@
 use Rattle.std.proofs.Common.{subst}
-use Rattle.hyd_period_stocks.specs.TankStart.{IsUnsettled}
+use Rattle.hyd_period_facts.specs.TankStart.{IsUnsettled}
 use Rattle.hyd_period_end.proofs.EndedPeriods.{open-tank, open-control}
 use Rattle.hyd_period_end.proofs.end_and_what_follows.follow.Goals as goal
 

@@ -1,4 +1,0 @@
-pub mod FaultLemmas
-pub mod StateAndValveLawLemmas
-pub mod RightLinks
-pub mod RangeLemmas

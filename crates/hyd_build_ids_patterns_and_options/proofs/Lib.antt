@@ -1,4 +1,0 @@
-pub mod NameLemmas
-pub mod RightRows
-pub mod LinesInForce
-pub mod PatternLemmas

@@ -1,2 +1,0 @@
-pub mod LinesInForce
-pub mod PatternsSoFar

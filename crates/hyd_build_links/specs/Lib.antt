@@ -1,4 +1,0 @@
-pub mod RowsToBuildLinksFrom
-pub mod Pumps
-pub mod Statuses
-pub mod LinksBuiltSoFar

@@ -1,0 +1,15 @@
+pub mod RightRowsToBuildLinksFrom
+pub mod NumberLemmas
+pub mod PipeLemmas
+pub mod PumpLemmas
+pub mod StatusLemmas
+pub mod PipePumpAndValveFacts
+pub mod InitialStateLemmas
+pub mod LinksBuiltSoFarLemmas
+pub mod NumberedNameLemmas
+pub mod ControlLemmas
+pub mod ActionLemmas
+pub mod ClauseLemmas
+pub mod RightClauses
+pub mod RuleLists
+pub mod RightParts

@@ -1,0 +1,9 @@
+pub mod RowsToBuildLinksFrom
+pub mod Pumps
+pub mod Statuses
+pub mod LinksBuiltSoFar
+pub mod RightRowsOfCommands
+pub mod Controls
+pub mod ComparedValues
+pub mod Clauses
+pub mod Rules

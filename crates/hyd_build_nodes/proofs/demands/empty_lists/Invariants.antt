@@ -1,5 +1,0 @@
-use Rattle.hyd_build_nodes.proofs.demands.empty_lists.Given as goal
-use Rattle.hyd_rows_and_tables.specs.IdTables.{AreEmpty}
-
-abbrev pub invariant-loop : goal.invariant-loop
-invariant-loop l = AreEmpty l.lists.items l.counter

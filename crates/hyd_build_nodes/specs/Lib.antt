@@ -1,3 +1,0 @@
-pub mod ReservoirsAndTanks
-pub mod DemandsAndEmitters
-pub mod WholeJunctions

@@ -1,0 +1,11 @@
+pub mod RowsWithoutFault
+pub mod ReservoirLemmas
+pub mod TankLemmas
+pub mod ValuesByNameNumber
+pub mod DemandLemmas
+pub mod EmitterLemmas
+pub mod JunctionLemmas
+pub mod NameLemmas
+pub mod RightRows
+pub mod LinesInForce
+pub mod PatternLemmas

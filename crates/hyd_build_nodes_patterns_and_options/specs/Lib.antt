@@ -1,0 +1,5 @@
+pub mod ReservoirsAndTanks
+pub mod DemandsAndEmitters
+pub mod WholeJunctions
+pub mod LinesInForce
+pub mod PatternsSoFar

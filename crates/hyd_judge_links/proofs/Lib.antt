@@ -1,2 +1,0 @@
-pub mod ValveLemmas
-pub mod LinkLemmas

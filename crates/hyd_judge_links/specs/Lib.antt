@@ -1,2 +1,0 @@
-pub mod LinkFaults
-pub mod LinksSoFar

@@ -1,0 +1,12 @@
+pub mod ValveLemmas
+pub mod LinkLemmas
+pub mod FaultLemmas
+pub mod StateAndValveLawLemmas
+pub mod RightLinks
+pub mod RangeLemmas
+pub mod CommandLemmas
+pub mod ControlLemmas
+pub mod PartLemmas
+pub mod RuleLemmas
+pub mod CountedRulesAndParts
+pub mod StatusLemmas

@@ -1,3 +1,0 @@
-pub mod NamesOfLinksAndNodes
-pub mod Controls
-pub mod Rules

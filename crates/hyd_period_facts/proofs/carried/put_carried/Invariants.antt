@@ -1,0 +1,12 @@
+use Rattle.std.proofs.Common.{◌≡◌, ◌+◌, ◌≤◌, length, take}
+use Rattle.std.specs.Prelude.{map}
+use Rattle.hyd_spec_certificates.specs.SpansAsIntervals.{levels_of}
+use Rattle.hyd_period_facts.proofs.CarriedLevelsByFacts.{all_carried}
+use Rattle.hyd_period_facts.proofs.carried.put_carried.Given as goal
+
+abbrev pub invariant-loop-tank : goal.invariant-loop-tank
+invariant-loop-tank l = record {
+  count : length l.levels.list ≡ l.tank;
+  levels : map levels_of l.levels.list ≡ take l.tank (all_carried l.project l.facts l.seconds);
+  room : length l.fn.levels.list + l.fn.levels.spare ≤ length l.levels.list + l.levels.spare;
+}

@@ -1,0 +1,21 @@
+use Rattle.std.proofs.Common.{◌≡◌, ℕ, ◌+◌, ◌<◌, ◌≤◌, length, take}
+use Rattle.std.specs.Prelude.{Some, map, slice_get}
+use Rattle.hyd_spec.specs.ProgramTypes.{Tank}
+use Rattle.hyd_spec.specs.Tank.{walls_of}
+use Rattle.hyd_spec_certificates.specs.SpansAsIntervals.{levels_of}
+use Rattle.hyd_tank.specs.StockIntervals.{AreHeld, volumes_of}
+use Rattle.hyd_period_facts.specs.TankStart.{next_in}
+use Rattle.hyd_period_facts.proofs.NextStocksByFacts.{levels_in, volumes_in}
+use Rattle.hyd_period_facts.proofs.stocks.put_stocks.Given as goal
+
+abbrev pub invariant-loop-tank : goal.invariant-loop-tank
+invariant-loop-tank l = record {
+  levels_count : length l.levels.list ≡ l.tank;
+  volumes_count : length l.volumes.list ≡ l.tank;
+  levels : map levels_of l.levels.list ≡ take l.tank (levels_in l.project l.facts l.seconds);
+  volumes : map volumes_of l.volumes.list ≡ take l.tank (volumes_in l.project l.facts l.seconds);
+  held : (k : ℕ) (tank : Tank) → k < l.tank → slice_get l.project.tanks.list k ≡ Some tank
+      → AreHeld (walls_of l.project tank) tank (next_in l.project l.facts l.seconds k tank);
+  levels_room : length l.fn.levels.list + l.fn.levels.spare ≤ length l.levels.list + l.levels.spare;
+  volumes_room : length l.fn.volumes.list + l.fn.volumes.spare ≤ length l.volumes.list + l.volumes.spare;
+}

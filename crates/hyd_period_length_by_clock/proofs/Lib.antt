@@ -1,3 +1,0 @@
-pub mod NextReportTime
-pub mod TimeControlsSoFar
-pub mod FirstClockInstant

@@ -1,6 +1,0 @@
-use Rattle.std.proofs.Common.{take}
-use Rattle.hyd_period_length_by_clock.specs.Instants.{IsFirstAmong}
-use Rattle.hyd_period_length_by_clock.proofs.controls.first_control.Given as goal
-
-abbrev pub invariant-loop-control : goal.invariant-loop-control
-invariant-loop-control l = IsFirstAmong l.project l.time l.cap (take l.control-index l.control-items) l.first

@@ -1,8 +1,0 @@
-//! When the clock ends a period.
-#![tactic(auto)]
-
-mod controls;
-mod length;
-mod multiples;
-
-pub use length::clock_length;

@@ -1,3 +1,0 @@
-pub mod NextStocksByFacts
-pub mod DecidedTankStates
-pub mod InitialStocksAndStates

@@ -1,2 +1,0 @@
-pub mod TankStart
-pub mod ReservedMemory

@@ -1,2 +1,0 @@
-pub mod ReservedMemory
-pub mod FlowBoxes

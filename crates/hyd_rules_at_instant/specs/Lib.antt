@@ -1,2 +1,0 @@
-pub mod TriedRules
-pub mod Readings

@@ -1,2 +1,0 @@
-pub mod ItemForEachNumber
-pub mod InflowsByNumber

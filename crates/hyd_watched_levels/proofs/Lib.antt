@@ -1,2 +1,0 @@
-pub mod FirstSecondsByFacts
-pub mod WatchedLevelsSoFar
