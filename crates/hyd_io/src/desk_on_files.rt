@@ -18,12 +18,12 @@ use std::rt::Files;
 /// other. Any name may be opened and created.
 ///
 /// No file is lost by it. It creates neither over the file that it has opened nor over the one that it created last, nor
-/// over the one that standard output goes into, whatever names they are given: they are told by device and number there.
-/// Nor does it open the one that standard output goes into. And of a file that is there and not empty it looks at the
-/// first line: it is emptied where that is the header of a certificate, as `HYDCERT 1 20 3`, or of a witness, as
+/// over the one that standard output goes into, whatever names they are given: they are told by device and number
+/// there. Nor does it open the one that standard output goes into. And of a file that is there and not empty it looks at
+/// the first line: it is emptied where that is the header of a certificate, as `HYDCERT 1 20 3`, or of a witness, as
 /// `HYDWIT 1 2 20 30 3`, or, where the desk has neither opened nor created anything yet and so begins a network, where
-/// its first bytes are a heading of an input file; else it stays as it is, and `create` fails. A device or a pipe is never
-/// emptied.
+/// its first bytes are a heading of an input file; else it stays as it is, and `create` fails. A device or a pipe is
+/// never emptied.
 #[derive(Drop)]
 pub struct FileDesk<R: Files + Print + Drop> {
     rt: R,
