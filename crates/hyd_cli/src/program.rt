@@ -24,9 +24,9 @@ use std::{env, io};
 pub fn run_program<R: AllocGlobal + Env + Files + Print + Eprint + Drop>(rt: R) -> Status {
     let alloc = rt.alloc();
     let given = env::args(&rt);
-    let mut desk = FileDesk::new(rt);
+    let mut desk = FileDesk::new(alloc, rt);
     let status = start(alloc, given, &mut desk);
-    say_why(status, &desk);
+    say_why(status, desk.input_name(), desk.failure(), desk.runtime());
     status
 }
 

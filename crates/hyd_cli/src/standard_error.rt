@@ -1,33 +1,38 @@
-//! What is said on standard error.
+//! What is said on standard error. It is made with standard error alone at hand, so that it can touch no file.
 
 use crate::status::Status;
-use hyd_io::FileDesk;
-use std::rt::Files;
+use hyd_io::Failure;
 
 /// Says in one line why a command on real files ended by want of memory or by a call that failed or took nothing: the
-/// name of the file, and what happened. Of other ends it says nothing, since standard output tells them. Where standard
-/// error takes no line, the status alone tells it.
-pub(crate) fn say_why<R: Files + Print + Eprint + Drop>(status: Status, desk: &FileDesk<R>) {
+/// name of the file, and what happened. `network` is the name of the network's file, where it was to be opened, and
+/// `failure` the call that failed. Of other ends it says nothing, since standard output tells them. Where standard error
+/// takes no line, the status alone tells it.
+pub(crate) fn say_why<E: Eprint>(
+    status: Status,
+    network: Option<&str>,
+    failure: Option<Failure<'_>>,
+    standard_error: &E,
+) {
     match status {
-        Status::OutOfMemory => say_out_of_memory(desk),
-        Status::ReadFault | Status::WriteFault | Status::Stalled => say_failure(desk),
+        Status::OutOfMemory => say_out_of_memory(network, standard_error),
+        Status::ReadFault | Status::WriteFault | Status::Stalled => {
+            say_failure(failure, standard_error);
+        }
         _ => {}
     }
 }
 
 // Says that memory ran out, with the network's file where it was to be opened before.
-fn say_out_of_memory<R: Files + Print + Eprint + Drop>(desk: &FileDesk<R>) {
-    let _ = match desk.input_name() {
-        "" => desk.runtime().eprintln("hyd: out of memory"),
-        name => desk
-            .runtime()
-            .eprintln(format_args!("hyd: {name}: out of memory")),
+fn say_out_of_memory<E: Eprint>(network: Option<&str>, standard_error: &E) {
+    let _ = match network {
+        Some(name) => standard_error.eprintln(format_args!("hyd: {name}: out of memory")),
+        None => standard_error.eprintln("hyd: out of memory"),
     };
 }
 
 // Says which call failed.
-fn say_failure<R: Files + Print + Eprint + Drop>(desk: &FileDesk<R>) {
-    if let Some(failure) = desk.failure() {
-        let _ = desk.runtime().eprintln(format_args!("hyd: {failure}"));
+fn say_failure<E: Eprint>(failure: Option<Failure<'_>>, standard_error: &E) {
+    if let Some(failure) = failure {
+        let _ = standard_error.eprintln(format_args!("hyd: {failure}"));
     }
 }

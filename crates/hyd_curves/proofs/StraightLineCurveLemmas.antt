@@ -28,7 +28,8 @@ use Rattle.hyd_spec_input.specs.SingleRows as itself
 use Rattle.hyd_spec_input.specs.SingleRows.{IsWrongByItself}
 use Rattle.hyd_spec_input.specs.Columns.{first, unless, or_empty}
 use Rattle.hyd_spec_input.specs.Curves.{in_turn, at_start, at_end, has_flow, is_head, is_slower, is_faster, is_bent}
-use Rattle.hyd_spec_input.specs.Curves.{is_pump_curve, is_pump_bend, begins_at_0, is_valve_bend, head_point}
+use Rattle.hyd_spec_input.specs.Curves.{is_pump_curve, is_pump_bend, begins_forward, begins_at_0, is_valve_bend}
+use Rattle.hyd_spec_input.specs.Curves.{head_point}
 use Rattle.hyd_spec_input.specs.Curves.{head_points}
 use Rattle.hyd_spec_input.specs.Faults.{NoneIs, IsWrongWithOthers}
 use Rattle.hyd_spec_input.specs.OptionsAndTimesInForce as force
@@ -179,7 +180,9 @@ bent_right rows name right bent =
     let range : others.pump_curve_range rows name ≡ None =
     behind_none (unless (is_pump_curve (curve_named rows name)) (Unsupported 4)) (others.pump_curve_range rows name)
     right in
-    unless_none (is_pump_bend (bend_points rows name)) Range (rw bent at range)
+    let both = unless_none (begins_forward (curve_named rows name) && is_pump_bend (bend_points rows name)) Range
+    (rw bent at range) in
+    (and_parts (begins_forward (curve_named rows name)) (is_pump_bend (bend_points rows name)) both).1
 
 bent_many : (rows : List Row) (name : List ℕ) → is_bent (curve_named rows name) ≡ true → 4 ≤ length (bend_points
     rows name)

@@ -10,6 +10,7 @@ use Rattle.hyd_net.specs.declared.refusal_cause.Cause.{Cause}
 use Rattle.hyd_net.specs.declared.refusal_cause.Cause.TheVariants.{Range, Unsupported}
 use Rattle.hyd_spec_input.specs.Columns.{or_else, unless}
 use Rattle.hyd_spec_input.specs.Curves.{is_bent, is_pump_curve, are_flows, has_shutoff, is_pump_bend, head_points}
+use Rattle.hyd_spec_input.specs.Curves.{begins_forward}
 use Rattle.hyd_spec_input.specs.OptionsAndTimesInForce as force
 use Rattle.hyd_spec_input.specs.MeaningsAcrossRows.{number_in}
 use Rattle.hyd_spec_input.specs.Project.{Match}
@@ -47,7 +48,8 @@ pub pump_is : (rows : List Row) (name : List ℕ)
 pump_is rows name =
     let points = curve_named rows name in
     ap (λ (f : Option Cause). or_else (unless (is_pump_curve points) (Unsupported 4)) f)
-    (one_range (is_bent points) (is_pump_bend (head_points (force.unit rows) (others.us rows) points))
+    (one_range (is_bent points)
+    (begins_forward points && is_pump_bend (head_points (force.unit rows) (others.us rows) points))
     (are_flows (force.unit rows) points && has_shutoff (others.us rows) points) Range)
 
 of_name : (rows : List Row) (name : List ℕ) (verdict : CurveVerdict)

@@ -5,7 +5,7 @@ use Rattle.hyd_num.specs.declared.flow_units.FlowUnit.{FlowUnit}
 use Rattle.hyd_spec_lines.specs.Lines.{Row}
 use Rattle.hyd_spec_input.specs.Columns.{or_else, unless}
 use Rattle.hyd_spec_input.specs.Curves.{is_volume_curve, volume_points, is_bent, is_pump_curve, are_flows, has_shutoff}
-use Rattle.hyd_spec_input.specs.Curves.{is_pump_bend, begins_at_0, is_valve_bend, head_points, drop_of}
+use Rattle.hyd_spec_input.specs.Curves.{is_pump_bend, begins_forward, begins_at_0, is_valve_bend, head_points, drop_of}
 use Rattle.hyd_spec_input.specs.CapacitiesOutOfRange.{IsRefusedPump}
 use Rattle.hyd_spec_input.specs.SectionsAndTables.{Point, curve_named}
 use Rattle.hyd_net.specs.declared.refusal_cause.Cause.{Cause}
@@ -27,7 +27,7 @@ tank_curve_fault rows unit minimum maximum (Some name) = shape_fault unit minimu
 -- the curve of a pump: of a kind that is supported, and in range
 abbrev pub is_pump_range : FlowUnit → List Point → Bool
 is_pump_range unit points =
-    if is_bent points then is_pump_bend (head_points unit (is_us_unit unit) points)
+    if is_bent points then begins_forward points && is_pump_bend (head_points unit (is_us_unit unit) points)
     else (are_flows unit points && has_shutoff (is_us_unit unit) points)
 
 abbrev pub pump_fault : FlowUnit → List Point → Option Cause

@@ -225,12 +225,22 @@ fn is_bend(points: &[CurvePoint], unit: FlowUnit) -> bool
     begins_low(head_point(points[0], unit), head_point(points[1], unit))
 }
 
+// Whether the first flow is at least 0, in the file's number.
+fn begins_forward(points: &[CurvePoint]) -> bool
+    ensures { result ≡ curve.begins_forward (points_in points.now) }
+{
+    let Some((first, _)) = points.split_first() else {
+        return false;
+    };
+    first.x.nano >= 0
+}
+
 // Whether points that a pump can have are in range.
 fn is_in_range(points: &[CurvePoint], unit: FlowUnit) -> bool
     ensures { result ≡ asked.is_pump_range unit (points_in points.now) }
 {
     if points.len() >= 4 {
-        return is_bend(points, unit);
+        return begins_forward(points) && is_bend(points, unit);
     }
     if !are_flows(points, unit) {
         return false;

@@ -118,8 +118,8 @@ pub trait Desk {
         ensures besides { read_also self.old (option_map (λ n. take n buffer.new) (result_ok result)) self.new };
 
     /// Makes an empty file of that name, in place of one that is there, and directs `write` to it.
-    /// Fails only where the write faults rose. After a failed call `write` may not be called, and
-    /// what was written before stays.
+    /// Fails only where the write faults rose. A failed call leaves all files as they were, also the
+    /// one of that name; `write` may not be called then, and what was written before stays.
     fn create(&mut self, name: &str) -> Result<(), Failed>
         requires allowed { IsTrue (may_create name.now) }
         ensures emptied { OnOk result (files self.new ≡ with_empty (files self.old) name.now) }
@@ -127,6 +127,7 @@ pub trait Desk {
         ensures begun { OnOk result (written self.new ≡ where_told (files self.old) []) }
         ensures opened { OnOk result (ready self.new ≡ true) }
         ensures closed { OnErr result (ready self.new ≡ false) }
+        ensures kept { OnErr result (files self.new ≡ files self.old) }
         ensures target_kept { OnErr result (target self.new ≡ target self.old) }
         ensures written_kept { OnErr result (written self.new ≡ written self.old) }
         ensures others { (other : List ℕ) → other ≢ name.now

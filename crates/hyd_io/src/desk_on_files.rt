@@ -4,9 +4,9 @@ ghost use Rattle.std.specs.Prelude.{◌≡◌, true, None, refl};
 
 use crate::desk::{Desk, Failed, Faults, Openings, stalls_after};
 use crate::failure::{Call, Failure};
+use crate::files_to_read::open_file;
 use crate::files_to_write::{Content, create_file};
-use arrayvec::ArrayString;
-use std::fs;
+use std::alloc::Global;
 use std::io::{self, ErrorKind, Read, Write};
 use std::marker::Model;
 use std::rt::Files;
@@ -17,25 +17,25 @@ use std::rt::Files;
 /// opened and created, and, where a file tells its own bytes, what is left in the one and held by the
 /// other. Any name may be opened and created.
 ///
-/// No file is lost by it. It creates neither over the file that it has opened nor over the one that it created last,
-/// whatever names they are given: they are told by device and number there. And of a file that is there and not empty
-/// it looks at the first bytes: it is emptied where they are `HYDCERT`, or, where the desk has neither opened nor
-/// created anything yet and so begins a network, a heading of an input file; else it stays as it is, and `create`
-/// fails. A device or a pipe is never emptied.
+/// No file is lost by it. It creates neither over the file that it has opened nor over the one that it created last, nor
+/// over the one that standard output goes into, whatever names they are given: they are told by device and number
+/// there. Nor does it open the one that standard output goes into. And of a file that is there and not empty it looks at
+/// the first line: it is emptied where that is the header of a certificate, as `HYDCERT 1 20 3`, or of a witness, as
+/// `HYDWIT 1 2 20 30 3`, or, where the desk has neither opened nor created anything yet and so begins a network, where
+/// its first bytes are a heading of an input file; else it stays as it is, and `create` fails. A device or a pipe is
+/// never emptied.
 #[derive(Drop)]
 pub struct FileDesk<R: Files + Print + Drop> {
     rt: R,
+    alloc: Global,
     input: Option<R::File>,
     output: Option<R::File>,
     counts: Faults,
     openings: Openings,
-    input_name: Name,
-    output_name: Name,
+    input_name: Option<String>,
+    output_name: Option<String>,
     failed: Option<FailedCall>,
 }
-
-/// A name that was given to a file, and none where it is longer than a system takes.
-type Name = ArrayString<4096>;
 
 impl<R: Files + Print + Drop> Model for FileDesk<R> {
     ghost use Rattle.std.specs.Prelude.{is_some, option_and_then};
@@ -56,12 +56,13 @@ impl<R: Files + Print + Drop> Model for FileDesk<R> {
 impl<R: Files + Print + Drop> FileDesk<R> {
     ghost use Rattle.hyd_io.specs.RealFiles.{untouched};
 
-    /// A desk that has opened and created nothing.
-    pub fn new(rt: R) -> FileDesk<R>
+    /// A desk that has opened and created nothing. What it keeps of names for `failure` takes memory there.
+    pub fn new(alloc: Global, rt: R) -> FileDesk<R>
         ensures { result ≡ untouched }
     {
         FileDesk {
             rt,
+            alloc,
             input: None,
             output: None,
             counts: Faults {
@@ -74,8 +75,8 @@ impl<R: Files + Print + Drop> FileDesk<R> {
                 opened: 0,
                 created: 0,
             },
-            input_name: Name::new(),
-            output_name: Name::new(),
+            input_name: None,
+            output_name: None,
             failed: None,
         }
     }
@@ -85,28 +86,21 @@ impl<R: Files + Print + Drop> FileDesk<R> {
         &self.rt
     }
 
-    /// The name of the file that it was to open last, and none where it was to open none.
-    pub fn input_name(&self) -> &str {
-        self.input_name.as_str()
+    /// The name of the file that it was to open last. None where it was to open none, and where there was no memory for
+    /// the name.
+    pub fn input_name(&self) -> Option<&str> {
+        self.input_name.as_deref()
     }
 
     /// The last call that failed or took nothing, if one did.
     pub fn failure(&self) -> Option<Failure<'_>> {
         let (call, error) = self.failed?;
         let file = match call {
-            Call::Open | Call::Read => self.input_name.as_str(),
-            Call::Create | Call::Write => self.output_name.as_str(),
-            Call::Print => "standard output",
+            Call::Open | Call::Read => self.input_name.as_deref(),
+            Call::Create | Call::Write => self.output_name.as_deref(),
+            Call::Print => Some("standard output"),
         };
         Some(Failure { file, call, error })
-    }
-}
-
-// A name, if it isn't longer than a system takes.
-fn kept(name: &str) -> Name {
-    match Name::from(name) {
-        Ok(kept) => kept,
-        Err(_) => Name::new(),
     }
 }
 
@@ -165,8 +159,8 @@ impl<R: Files + Print + Drop> Desk for FileDesk<R> {
 
     fn open(&mut self, name: &str) -> Result<(), Failed> {
         self.openings.opened = self.openings.opened.saturating_add(1);
-        self.input_name = kept(name);
-        match fs::open(&self.rt, name) {
+        self.input_name = String::from_str(self.alloc, name).ok();
+        match open_file(&self.rt, name) {
             Ok(file) => {
                 self.input = Some(file);
                 Ok(())
@@ -203,7 +197,7 @@ impl<R: Files + Print + Drop> Desk for FileDesk<R> {
             _ => Content::Certificate,
         };
         self.openings.created = self.openings.created.saturating_add(1);
-        self.output_name = kept(name);
+        self.output_name = String::from_str(self.alloc, name).ok();
         match create_file(&self.rt, name, content, &self.input, &self.output) {
             Ok(file) => {
                 self.output = Some(file);

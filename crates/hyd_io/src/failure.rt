@@ -22,8 +22,8 @@ pub enum Call {
 /// couldn't be done, and why.
 #[derive(Clone, Copy)]
 pub struct Failure<'a> {
-    /// The name that the file was given, or `standard output`.
-    pub file: &'a str,
+    /// The name that the file was given, or `standard output`. None where there was no memory for the name.
+    pub file: Option<&'a str>,
     /// What was called.
     pub call: Call,
     /// Why it failed: what the system says, or why the desk refused.
@@ -44,6 +44,9 @@ impl Display for Call {
 
 impl Display for Failure<'_> {
     fn fmt<W: fmt::Write>(&self, f: &mut Formatter<W>) -> fmt::Result {
-        write!(f, "{}: {}: {}", self.file, self.call, self.error)
+        if let Some(file) = self.file {
+            write!(f, "{file}: ")?;
+        }
+        write!(f, "{}: {}", self.call, self.error)
     }
 }

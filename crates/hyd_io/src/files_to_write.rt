@@ -1,16 +1,17 @@
 //! Files that are opened to be written: which of those that are there are kept, and which are emptied.
 
-ghost use Rattle.std.specs.Prelude.{◌≡◌, nat_eq};
-ghost use Rattle.std.specs.List.{starts_with, list_any};
+ghost use Rattle.std.specs.Prelude.{◌≡◌, nat_eq, length, position};
+ghost use Rattle.std.specs.List.{starts_with, list_any, list_all, slice_split};
+ghost use Rattle.std.specs.Char.{is_ascii_digit};
 ghost use Rattle.hyd_io.specs.FilesEmptied as replacing;
 
-use std::fs::{self, Files, Metadata, OpenFile, OpenOptions};
+use crate::same_files::{goes_there, is_open, is_standard_output};
+use std::fs::{self, Files, OpenFile, OpenOptions};
 use std::io::{self, ErrorKind, Read, Seek, SeekFrom};
-use std::os::unix::fs::MetadataExt;
 
-/// The bytes at the front of a file that are looked at, as many as the longest heading has; zeros stand behind a
-/// shorter file.
-type Front = [u8; 13];
+/// The bytes at the front of a file that are looked at: more than the longest header has, and the longest heading.
+/// Zeros stand behind a shorter file.
+type Front = [u8; 64];
 
 const HEADINGS: [&[u8]; 27] = [
     b"[TITLE]",
@@ -49,11 +50,77 @@ pub(crate) enum Content {
     Certificate,
 }
 
-// Whether a front is that of a certificate.
+// Whether all bytes are digits.
+fn are_digits(word: &[u8]) -> bool
+    ensures { result ≡ list_all is_ascii_digit word.now }
+{
+    word.iter().all(|byte| byte.is_ascii_digit())
+}
+
+// Whether no zero stands in front of other digits.
+fn has_no_zero_in_front(word: &[u8]) -> bool
+    ensures { result ≡ replacing.has_no_zero_in_front word.now }
+{
+    word.len() == 1 || !word.starts_with(b"0")
+}
+
+// Whether a word is a number as a header has it.
+fn is_number(word: &[u8]) -> bool
+    ensures { result ≡ replacing.is_number word.now }
+{
+    !word.is_empty() && are_digits(word) && has_no_zero_in_front(word)
+}
+
+// How many words a text has, parted by single spaces.
+fn count_words(text: &[u8]) -> usize
+    ensures { result ≡ length (slice_split replacing.is_space text.now) }
+{
+    text.split(|byte| *byte == b' ').count()
+}
+
+// Whether the words of a text are all numbers.
+fn holds_numbers(text: &[u8]) -> bool
+    ensures { result ≡ list_all replacing.is_number (slice_split replacing.is_space text.now) }
+{
+    text.split(|byte| *byte == b' ').all(|word| is_number(word))
+}
+
+// Whether a text is so many numbers, parted by single spaces.
+fn are_numbers(text: &[u8], count: usize) -> bool
+    ensures { result ≡ replacing.are_numbers count text.now }
+{
+    count_words(text) == count && holds_numbers(text)
+}
+
+// Whether a line is these bytes, and so many numbers behind them.
+fn is_header(line: &[u8], name: &[u8], count: usize) -> bool
+    ensures { result ≡ replacing.is_header name.now count line.now }
+{
+    line.starts_with(name) && are_numbers(&line[name.len()..], count)
+}
+
+// Whether a line is the header of a certificate or of a witness.
+fn is_header_of_ours(line: &[u8]) -> bool
+    ensures { result ≡ replacing.is_header_of_ours line.now }
+{
+    is_header(line, b"HYDCERT ", 3) || is_header(line, b"HYDWIT ", 5)
+}
+
+// The place of the first line feed.
+fn line_feed(text: &[u8]) -> Option<usize>
+    ensures { result ≡ position replacing.is_line_feed text.now }
+{
+    text.iter().position(|byte| *byte == b'\n')
+}
+
+// Whether a front is that of a certificate or of a witness: a whole header.
 fn begins_as_certificate(front: &Front) -> bool
     ensures { result ≡ replacing.begins_as_certificate front.now }
 {
-    front.starts_with(b"HYDCERT")
+    match line_feed(front) {
+        Some(place) if place <= front.len() => is_header_of_ours(&front[..place]),
+        _ => false,
+    }
 }
 
 // Whether one of the texts stands at the front.
@@ -85,7 +152,7 @@ fn may_be_emptied(content: Content, front: &Front) -> bool
 // The front of a file that was just opened, by one read: of a file on a disk it gives all that is asked for, and where
 // it gave less the file would rather stay as it is.
 fn front_of<F: Read>(file: &mut F) -> io::Result<Front> {
-    let mut front = [0; 13];
+    let mut front = [0; 64];
     file.read(&mut front)?;
     Ok(front)
 }
@@ -105,18 +172,8 @@ fn open_to_write<R: Files>(rt: &R, name: &str) -> io::Result<R::File> {
     options.open(rt, name)
 }
 
-// Whether this is the file that is open, by its device and its number there.
-fn is_open<F: OpenFile>(open: &Option<F>, found: &Metadata) -> io::Result<bool> {
-    match open {
-        Some(file) => {
-            let other = file.metadata()?;
-            Ok(other.dev() == found.dev() && other.ino() == found.ino())
-        }
-        None => Ok(false),
-    }
-}
-
-// Empties a file that was just opened, if its front is one of those that may go.
+// Empties a file that was just opened, if its front is one of those that may go. That is the last step, so that a file
+// that can't be written is left as it was.
 fn empty<F: Read + Seek + OpenFile>(file: &mut F, content: Content) -> io::Result<()> {
     let front = front_of(file)?;
     if !may_be_emptied(content, &front) {
@@ -125,13 +182,12 @@ fn empty<F: Read + Seek + OpenFile>(file: &mut F, content: Content) -> io::Resul
             "it holds something else, which isn't overwritten",
         ));
     }
-    file.set_len(0)?;
     file.seek(SeekFrom::Start(0))?;
-    Ok(())
+    file.set_len(0)
 }
 
 /// Opens an empty file of this name to be written. One that is there is emptied, if it is neither of the two that are
-/// open nor begins otherwise than what may go; else it stays as it is.
+/// open nor the one that standard output goes into, nor begins otherwise than what may go; else it stays as it is.
 pub(crate) fn create_file<R: Files>(
     rt: &R,
     name: &str,
@@ -143,6 +199,9 @@ pub(crate) fn create_file<R: Files>(
     let found = file.metadata()?;
     if is_open(input, &found)? || is_open(output, &found)? {
         return Err(io::Error::new(ErrorKind::ResourceBusy, "it is open by another name"));
+    }
+    if is_standard_output(rt, &found) {
+        return Err(goes_there());
     }
     if found.is_file() && found.len() > 0 {
         empty(&mut file, content)?;

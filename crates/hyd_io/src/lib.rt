@@ -6,9 +6,11 @@ pub mod desk;
 pub mod desk_in_memory;
 pub mod desk_on_files;
 pub mod failure;
+mod files_to_read;
 mod files_to_write;
 pub mod input;
 pub mod output;
+mod same_files;
 
 pub use desk::{Desk, Failed, Faults, Openings};
 pub use desk_in_memory::MemDesk;

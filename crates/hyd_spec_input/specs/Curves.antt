@@ -125,6 +125,11 @@ is_faster a b = lt_z a.flow b.flow && lt_z a.head b.head
 abbrev pub has_flow : HeadPoint → Bool
 has_flow point = is_within flow_limit point.flow
 
+-- the curve of a pump of four and more points begins with a flow of at least 0, in the file's number: a cut takes a
+-- flow that is less to 0
+abbrev pub begins_forward : List Point → Bool
+begins_forward points = at_start (λ (point : Point). le_z (pos 0) point.x) points
+
 -- a pump's curve of four and more points: flows of at least 0 that rise, heads that fall to at least 0, and at flow
 -- 0, by the line of the first two points, a head of at most the limit of shutoff heads
 abbrev pub is_pump_bend : List HeadPoint → Bool

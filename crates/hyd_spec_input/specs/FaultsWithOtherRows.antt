@@ -28,7 +28,7 @@ use Rattle.hyd_spec_input.specs.SectionsAndTables.{curve_named}
 use Rattle.hyd_spec_input.specs.OptionsAndTimesInForce.{unit, depends_on_pressure, minimum_pressure, required_pressure}
 use Rattle.hyd_spec_input.specs.OptionsAndTimesInForce.{pressure_line}
 use Rattle.hyd_spec_input.specs.Curves.{is_within, is_head, is_flow, is_bent, is_pump_curve, are_flows, has_shutoff}
-use Rattle.hyd_spec_input.specs.Curves.{is_pump_bend, begins_at_0, is_valve_bend, is_volume_curve, head_points}
+use Rattle.hyd_spec_input.specs.Curves.{is_pump_bend, begins_forward, begins_at_0, is_valve_bend, is_volume_curve, head_points}
 use Rattle.hyd_spec_input.specs.Curves.{volume_points}
 use Rattle.hyd_spec_input.specs.declared.ObjectWord.{ObjectWord}
 use Rattle.hyd_spec_input.specs.declared.ObjectWord.TheVariants.{Node as NodeObject, Link as LinkObject}
@@ -163,7 +163,10 @@ ends rows k row = first (ends_faults rows k row)
 abbrev pub pump_curve_range : List Row → List ℕ → Option Cause
 pump_curve_range rows name =
     if is_bent (curve_named rows name)
-    then unless (is_pump_bend (head_points (unit rows) (us rows) (curve_named rows name))) Range
+    then unless
+    (begins_forward (curve_named rows name)
+    && is_pump_bend (head_points (unit rows) (us rows) (curve_named rows name)))
+    Range
     else unless (are_flows (unit rows) (curve_named rows name) && has_shutoff (us rows) (curve_named rows name)) Range
 
 abbrev pub curve_of_pump : List Row → Option (List ℕ) → Option Cause

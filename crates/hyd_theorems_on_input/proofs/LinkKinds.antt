@@ -40,6 +40,7 @@ use Rattle.hyd_spec_input.specs.SectionsAndTables.{Point, place, is_of, is_link,
 use Rattle.hyd_spec_input.specs.OptionsAndTimesInForce.{unit}
 use Rattle.hyd_spec_input.specs.Curves.{drop_of, is_bent, is_within, is_flow, is_pump_curve, square, are_flows}
 use Rattle.hyd_spec_input.specs.Curves.{has_shutoff, is_pump_bend, head_point, head_points, begins_at_0, is_valve_bend}
+use Rattle.hyd_spec_input.specs.Curves.{begins_forward}
 use Rattle.hyd_spec_input.specs.MeaningsAcrossRows.{node_ids}
 use Rattle.hyd_spec_input.specs.FaultsWithOtherRows as others
 use Rattle.hyd_spec_input.specs.FaultsWithOtherRows.{us, is_speed, multipliers_of}
@@ -262,12 +263,13 @@ straight_range rows name bent e =
 bent_range : (rows : List Row) (name : List ℕ) → is_bent (curve_named rows name) ≡ true
     → others.pump_curve_range rows name ≡ None → IsPumpCurve (bend_points rows name)
 bent_range rows name bent e =
-    let test : unless (is_pump_bend (head_points (unit rows) (us rows) (curve_named rows name))) Range ≡ None =
+    let test : unless (begins_forward (curve_named rows name)
+    && is_pump_bend (head_points (unit rows) (us rows) (curve_named rows name))) Range ≡ None =
     rw bent at e in
     let long = leb-true 4 (length (curve_named rows name)) bent in
     pump_curve_right (bend_points rows name)
     (omega (arith, long, length-map (curve_named rows name) (head_point (unit rows) (us rows))))
-    (unless_none _ _ test)
+    (and_parts _ _ (unless_none _ _ test)).1
 
 pub record PumpRight (rows : List Row) (row : Row) : Type 0 where
   pub curve : CurveRight rows (or_empty (alone.pump_curve row.words))
