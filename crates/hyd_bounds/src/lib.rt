@@ -1,5 +1,7 @@
 //! Bounds from certificates: what flows in a link, out of a junction and into a tank, at least and at most, and the
 //! status word of a link.
+//!
+//! Tested by `hyd_tests_on_certificates`.
 #![tactic(auto)]
 
 mod flows;

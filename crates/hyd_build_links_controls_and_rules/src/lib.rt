@@ -2,6 +2,8 @@
 //! [VALVES] and [STATUS]), of a file whose rows are right by themselves and with the others.
 //!
 //! The controls and rules of an input file without a fault (EPANET 2.2 User Manual, appendix C).
+//!
+//! Tested by the networks of `hyd_stored_rows`.
 #![tactic(auto)]
 
 mod actions;

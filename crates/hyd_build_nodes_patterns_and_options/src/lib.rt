@@ -3,6 +3,8 @@
 //!
 //! What an input file without a fault numbers and sets: the IDs of nodes, links, tanks and patterns in the order of
 //! their numbers, options and times, and the multipliers of patterns (EPANET 2.2 User Manual, appendix C).
+//!
+//! Tested by the networks of `hyd_stored_rows`.
 #![tactic(auto)]
 
 mod demands;

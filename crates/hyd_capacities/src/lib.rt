@@ -1,5 +1,7 @@
 //! Capacities: enclosures of Manning's head losses in pipes and valves, and of the quadratic relations of pumps,
 //! emitters and pressure-driven demands.
+//!
+//! Tested by the rows of `hyd_stored_rows`.
 #![tactic(auto)]
 
 mod capacity_range;

@@ -1,5 +1,7 @@
 //! The text of a certificate: its records, what puts them out, and what reads them, with the line and the cause of a
 //! fault; and the version of a network's certificates.
+//!
+//! Tested by the rows of `hyd_stored_rows`.
 #![tactic(auto)]
 
 mod answers_of_reader;

@@ -1,5 +1,7 @@
 //! A check of a certificate from its first record to its END line, read as it goes: each record is tried, and its
 //! report put out through a pen.
+//!
+//! Tested by the checks of `hyd_stored_runs`, and `hyd_tests_on_library`.
 #![tactic(auto)]
 
 mod last_report_line;

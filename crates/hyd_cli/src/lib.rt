@@ -1,5 +1,7 @@
 //! The command `hyd`: what it does for `run`, `check` and `gen`, its statuses, what it says on standard error, and the
 //! call `tool` that the program makes.
+//!
+//! Tested by `hyd_stored_runs`.
 #![tactic(auto)]
 
 mod command_check;

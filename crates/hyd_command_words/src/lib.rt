@@ -1,5 +1,7 @@
 //! The words of the command line of `hyd`: `run NET CERT`, `check NET CERT` and
 //! `gen SEED JUNCTIONS NET CERT`, with their options.
+//!
+//! Tested by the words of `hyd_stored_runs`.
 #![tactic(auto)]
 
 mod clap_parser;

@@ -1,5 +1,7 @@
 //! Simple controls and rules: the states of links at the start of a period, what is known of a rule at an instant, and
 //! what the rules change.
+//!
+//! Tested by `hyd_tests_on_rules`.
 #![tactic(auto)]
 
 mod actions_by_priority;

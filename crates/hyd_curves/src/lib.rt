@@ -1,5 +1,7 @@
 //! The curves of an input file: their points, gathered once, what pumps, general purpose valves and tanks ask of theirs
 //! (EPANET 2.2 User Manual, [CURVES]), and the curves by straight lines and the volume curves that rows name.
+//!
+//! Tested by the networks of `hyd_stored_rows`.
 #![tactic(auto)]
 
 mod interpolation;

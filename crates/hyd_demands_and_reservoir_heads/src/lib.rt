@@ -1,5 +1,7 @@
 //! Demands of junctions and heads of reservoirs at a time of a run, exactly as the file's numbers and patterns give
 //! them.
+//!
+//! Tested by `hyd_tests_on_laws_periods_and_tanks` and `hyd_tests_on_tanks_and_demands`.
 #![tactic(auto)]
 
 mod demands;

@@ -1,5 +1,7 @@
 //! Proposals of certificates: what a finder of them is, one that proposes nothing, and the gradient method (Todini and
 //! Pilati 1988). Nothing is promised of a proposal: whoever takes one checks it.
+//!
+//! Tested by `hyd_tests_on_certificates` and `hyd_tests_on_library`.
 #![tactic(auto)]
 
 mod certificate_test;

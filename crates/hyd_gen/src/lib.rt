@@ -1,4 +1,6 @@
 //! The text of a generated network: an input file of any number of junctions, of which a seed decides the demands.
+//!
+//! Tested by the rows of `hyd_stored_rows`.
 #![tactic(auto)]
 
 mod junctions;

@@ -1,4 +1,6 @@
 //! The reader of input files (EPANET 2.2 User Manual, appendix C): the network that a text describes, or its fault.
+//!
+//! Tested by the networks of `hyd_stored_rows`.
 #![tactic(auto)]
 
 mod build;

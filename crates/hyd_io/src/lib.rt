@@ -1,5 +1,7 @@
 //! The outside: files and standard output as a trait, `Desk`, with what its calls fail by; a desk in memory and one on
 //! real files; and over any of them the reading of a whole file and buffered writing through a pen.
+//!
+//! Tested by `hyd_tests_on_numbers_and_desks` (the desk in memory, pens) and `hyd_tests_on_files` (real files).
 #![tactic(auto)]
 
 pub mod desk;

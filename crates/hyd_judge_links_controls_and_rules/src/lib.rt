@@ -6,6 +6,8 @@
 //!
 //! What an input file commands ([STATUS], [CONTROLS], [RULES]), judged among all rows (EPANET 2.2 User Manual,
 //! appendix C).
+//!
+//! Tested by the networks of `hyd_stored_rows`.
 #![tactic(auto)]
 
 mod asked_states;

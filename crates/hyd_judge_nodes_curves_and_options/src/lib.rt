@@ -1,6 +1,8 @@
 //! The rows of nodes, demands, emitters, curves, patterns and options judged among all rows, a section at a time
 //! (EPANET 2.2 User Manual, appendix C), each pass with the table of its IDs and its first wrong row; and the unit of
 //! flows and the pressures that a file has in force.
+//!
+//! Tested by the networks of `hyd_stored_rows`.
 #![tactic(auto)]
 
 mod curves;

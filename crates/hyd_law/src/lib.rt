@@ -1,5 +1,7 @@
 //! Laws of links and of outflows as values: what passes at a head difference, at least and at most, in whole flow
 //! ticks.
+//!
+//! Tested by `hyd_tests_on_laws_periods_and_tanks`.
 #![tactic(auto)]
 
 mod composed_laws;

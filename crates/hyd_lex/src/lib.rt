@@ -1,4 +1,6 @@
 //! Lines and words of an input file (EPANET 2.2 User Manual, appendix C).
+//!
+//! Tested by the rows of `hyd_stored_rows`.
 #![tactic(auto)]
 
 mod headings;

@@ -1,6 +1,8 @@
 //! The network as an input file gives it: its nodes, links, curves, patterns, controls and rules, with all quantities
 //! as whole numbers of ticks, and the two containers that hold them; the causes for which a text is refused; and
 //! whether two networks are the same.
+//!
+//! Tested by `hyd_tests_on_laws_periods_and_tanks`.
 #![tactic(auto)]
 
 mod comparison;

@@ -3,6 +3,8 @@
 //!
 //! The first row of an input file that is wrong by itself, whatever the other rows say (EPANET 2.2 User Manual,
 //! appendix C); and the order of the lines of a rule, stage by stage.
+//!
+//! Tested by the rows of `hyd_stored_rows`.
 #![tactic(auto)]
 
 mod demands_emitters_curves_and_statuses;

@@ -1,6 +1,8 @@
 //! Numbers of the network simulator: decimals of a file and the units of flows, whole-number roots and quotients,
 //! products and their comparison, pairs of 63-bit binary numbers that enclose a positive real number, and the
 //! capacities that pairs make.
+//!
+//! Tested by the rows of `hyd_stored_rows`.
 #![tactic(auto)]
 
 mod binary;

@@ -3,6 +3,8 @@
 //!
 //! The words of a row of an input file, of any section: an ID, a number, a number within a range, each its value or
 //! what is wrong with it (EPANET 2.2 User Manual, appendix C).
+//!
+//! Tested by the rows of `hyd_stored_rows`.
 #![tactic(auto)]
 
 mod controls;

@@ -1,6 +1,7 @@
-//! The end of a period: by its vectors, when it is over and what follows, or the first matter that they leave open.
+//! The end of a period by its vectors: its length, what happens there, and what stands behind it; or the first matter
+//! that the vectors leave open.
 //!
-//! What happens at the end of a period.
+//! Tested by the runs over time of `hyd_stored_runs`.
 #![tactic(auto)]
 
 mod controls;

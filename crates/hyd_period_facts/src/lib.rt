@@ -1,13 +1,8 @@
-//! The facts of a period: what is known at its start, how long it lasts, what changes in it and what happens at its
-//! end; a tank's stock and inflow by them; and levels of tanks, one by one, with whether a level control holds on them.
+//! The facts of a period and the tanks in it. The facts: what is known at its start, how long it lasts, what changes in
+//! it and what happens at its end. The tanks: what flows into each, levels carried to an instant, levels that are
+//! watched and the ends that they bring, and the stocks and states with which a period begins.
 //!
-//! What flows into the tanks of a period.
-//!
-//! The levels of tanks carried to an instant of a period.
-//!
-//! Levels that are watched during a period, and the ends that they bring.
-//!
-//! The stocks and the states of tanks with which a period begins.
+//! Tested by the runs over time of `hyd_stored_runs`.
 #![tactic(auto)]
 
 mod all_watched_levels;

@@ -1,12 +1,7 @@
-//! When a period ends, by rules or without them, and the states of links that its end commands.
+//! How long a period lasts: what the clock allows, what rules look at and what is known of them at an instant, and the
+//! end by the clock, by levels or by rules, with what it commands.
 //!
-//! When the clock ends a period.
-//!
-//! What is known of all rules at an instant.
-//!
-//! The rules tried at an instant of a period.
-//!
-//! What rules look at in a period.
+//! Tested by the runs over time of `hyd_stored_runs`.
 #![tactic(auto)]
 
 mod controls;

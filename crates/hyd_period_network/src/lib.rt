@@ -1,4 +1,6 @@
 //! The network of a period: its links with their laws, and the link ends at each junction.
+//!
+//! Tested by `hyd_tests_on_laws_periods_and_tanks` and `hyd_tests_on_nets`.
 #![tactic(auto)]
 
 mod curves;

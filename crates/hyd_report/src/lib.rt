@@ -1,5 +1,7 @@
 //! What puts out the report of a period, the last line of a run or of a check, and the one line of an input file that
 //! is refused.
+//!
+//! Tested by the runs of `hyd_stored_runs`.
 #![tactic(auto)]
 
 mod changes;

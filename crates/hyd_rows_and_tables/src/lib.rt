@@ -1,6 +1,8 @@
 //! The rows of an input file, gathered once, and what the passes over them share: which section a row stands in, the
 //! first wrong row found so far, tables of IDs, limits of counts, names that no table has, and heads and flows out of
 //! range.
+//!
+//! Tested by the rows of `hyd_stored_rows`.
 #![tactic(auto)]
 
 mod count_limits;

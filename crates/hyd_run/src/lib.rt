@@ -1,6 +1,8 @@
 //! A run of a network from its first step to its last line, put out as it goes: the certificate through one pen and the
 //! report through another. With it what checks and summarised runs use too: how a run ends, the first and the last line
 //! of a report, and the emptying of a pen.
+//!
+//! Tested by the runs of `hyd_stored_runs`, and `hyd_tests_on_library`.
 #![tactic(auto)]
 
 mod first_lines_and_emptied_pens;

@@ -1,4 +1,6 @@
 //! A run, one period after another, found or checked: the record of each is valid, and its facts are its own.
+//!
+//! Tested by the runs of `hyd_stored_runs`, and `hyd_tests_on_library`.
 #![tactic(auto)]
 
 mod closing_of_run;

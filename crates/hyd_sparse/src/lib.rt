@@ -1,6 +1,8 @@
 //! The factor of a sparse symmetric matrix, as the gradient method needs it for heads (EPANET 2.2
 //! User Manual, chapter on analysis algorithms). Nothing is promised of its numbers: whoever uses
 //! them checks what they lead to.
+//!
+//! Tested by `hyd_tests_on_numbers_and_desks`.
 #![tactic(auto)]
 
 mod elimination_order;

@@ -1,5 +1,7 @@
 //! Sweeps: raises of single junctions, rounds of them and leaps, the way to the tight vector of a problem and side,
 //! with or without a junction held.
+//!
+//! Tested by `hyd_tests_on_laws_periods_and_tanks` and `hyd_tests_on_certificates`.
 #![tactic(auto)]
 
 mod answers_of_sweeps;

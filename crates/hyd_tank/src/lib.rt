@@ -1,5 +1,7 @@
 //! What becomes of a tank's stock of water under a constant inflow, when its level reaches a target, how full it is,
 //! and the stock with which a run begins.
+//!
+//! Tested by `hyd_tests_on_laws_periods_and_tanks` and `hyd_tests_on_tanks_and_demands`.
 #![tactic(auto)]
 
 mod contents_of_tanks;

@@ -1,9 +1,9 @@
 //! The first row of small texts that is wrong by itself, with what an independent reader says.
 #![tactic(auto)]
 
-use hyd_network_rows::first_by_itself;
 use hyd_lex::Lines;
 use hyd_net::Cause;
+use hyd_network_rows::first_by_itself;
 use hyd_rows_and_tables::{Found, gather, kept, least};
 use std::alloc::Global;
 use std::test::Fail;

@@ -3,6 +3,8 @@
 //!
 //! A head tick is 10^-13 m, a flow tick 10^-7 m^3 a day. US customary files have feet and pounds
 //! a square inch, the others metres for both (EPANET 2.2 User Manual, Units of Measurement).
+//!
+//! Tested by the rows of `hyd_stored_rows`.
 #![tactic(auto)]
 
 mod conversion;

@@ -1,6 +1,8 @@
 //! Certificates decided: whether a vector of heads lies above, or below, the heads of every assignment, and if it isn't
 //! a certificate of that, where it fails first; and what this rests on: heads in the box, flows and net outflows of a
 //! junction, and by how much it passes.
+//!
+//! Tested by `hyd_tests_on_certificates`.
 #![tactic(auto)]
 
 mod checks;
