@@ -1,1 +1,2 @@
+pub mod OtherReadings
 pub mod TwoCalls

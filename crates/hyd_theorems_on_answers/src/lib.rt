@@ -1,30 +1,7 @@
-//! What two calls of the program answer on one text: `check` never refuses what `run` wrote, though each reads the
-//! network anew. Each statement is the contract of a small function.
+//! What is answered on one text that is read twice: no check by one reading of a network refuses the certificate of a run
+//! of another, and no call of `check` refuses what a call of `run` wrote. Each statement is the contract of a small
+//! function.
 #![tactic(auto)]
 
-ghost use Rattle.std.specs.Prelude.{◌≡◌, ◌≢◌, List, ℕ, Some};
-ghost use Rattle.hyd_io.specs.DeskBytes.{append_known};
-ghost use Rattle.hyd_sim.specs.declared.settings.Settings.{Settings};
-ghost use Rattle.hyd_cli.specs.declared.status.Status.{Status};
-ghost use Rattle.hyd_cli.specs.declared.status.Status.TheVariants.{Done, CertificateRefused};
-ghost use Rattle.hyd_cli.specs.DeskContents.{Seen};
-ghost use Rattle.hyd_cli.specs.RunAnswers.{AnswersText};
-ghost use Rattle.hyd_cli.specs.CheckAnswers.{AnswersCheck};
-ghost use Rattle.hyd_theorems_on_answers.specs.StatusesThatWrote.{HasWritten};
-
-/// Where a run on a text of NET finished or was stopped by a cause, no check on that text refuses what the run wrote.
-pub fn never_refused()
-    ensures { (text cert certificate : List ℕ) (settings : Settings) (status answer : Status)
-        (before now start end : Seen) → AnswersText text settings cert status before now → HasWritten status
-        → now.written ≡ Some certificate → AnswersCheck text certificate answer start end
-        → answer ≢ CertificateRefused }
-{}
-
-/// Where a run finished and such a check accepts what it wrote, both printed one text.
-pub fn same_report()
-    ensures { (text cert certificate : List ℕ) (settings : Settings) (before now start end : Seen)
-        → AnswersText text settings cert Done before now → now.written ≡ Some certificate
-        → AnswersCheck text certificate Done start end
-        → (report : List ℕ) × ((now.printed ≡ append_known before.printed report)
-        × (end.printed ≡ append_known start.printed report)) }
-{}
+pub mod checks_after_rereading;
+pub mod two_calls;

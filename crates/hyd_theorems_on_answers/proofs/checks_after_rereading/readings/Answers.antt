@@ -1,5 +1,5 @@
-use Rattle.hyd_theorems_on_checks_after_rereading.proofs.OtherReadings.{readings_accepted, readings_report}
-use Rattle.hyd_theorems_on_checks_after_rereading.proofs.readings.Goals as goal
+use Rattle.hyd_theorems_on_answers.proofs.OtherReadings.{readings_accepted, readings_report}
+use Rattle.hyd_theorems_on_answers.proofs.checks_after_rereading.readings.Goals as goal
 
 pub returns-clause-accepted : goal.returns-clause-accepted
 returns-clause-accepted c = readings_accepted

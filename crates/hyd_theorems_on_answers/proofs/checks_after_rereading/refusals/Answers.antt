@@ -1,5 +1,5 @@
-use Rattle.hyd_theorems_on_checks_after_rereading.proofs.OtherReadings.{of_runs, of_records}
-use Rattle.hyd_theorems_on_checks_after_rereading.proofs.refusals.Goals as goal
+use Rattle.hyd_theorems_on_answers.proofs.OtherReadings.{of_runs, of_records}
+use Rattle.hyd_theorems_on_answers.proofs.checks_after_rereading.refusals.Goals as goal
 
 pub returns-clause-of_runs : goal.returns-clause-of_runs
 returns-clause-of_runs c = of_runs

@@ -1,5 +1,5 @@
-use Rattle.hyd_theorems_on_checks_after_rereading.proofs.OtherReadings.{accepted, report}
-use Rattle.hyd_theorems_on_checks_after_rereading.proofs.checks.Goals as goal
+use Rattle.hyd_theorems_on_answers.proofs.OtherReadings.{accepted, report}
+use Rattle.hyd_theorems_on_answers.proofs.checks_after_rereading.checks.Goals as goal
 
 pub returns-clause-accepted : goal.returns-clause-accepted
 returns-clause-accepted c = accepted
