@@ -370,7 +370,8 @@ class Preparing:
         if fit is None:
             return self.advise(line, said + ", and EPANET has no fit through them either")
         h0, b, n = fit
-        said += f". EPANET's fit is h = {h0:.9g} - {b:.9g} q^{n:.9g}. A curve by straight lines with a fourth point on it"
+        said += f". EPANET's fit is h = {h0:.9g} - {b:.9g} q^{n:.9g}. A curve by straight lines with a fourth point on "
+        said += "it"
         if points[2][1] > 0:
             said += f", where the head is 0, is near: a line '{name} {(h0 / b) ** (1 / n):.4f} 0' behind the others"
         else:
