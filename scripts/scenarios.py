@@ -12,8 +12,8 @@ pump of --off off, one at a time, and FOLDER/scenarios.csv, which says what each
 each, and its worst pressure, which is the least lower end in the report, with the junction and the time; and prints
 it, the worst first.
 
-A pipe or a pump stays as it was set: lines of CONTROLS that set it are left out, and so is its pattern. Rules that set it
-are told, and stay. Needs Python 3 alone.
+A pipe or a pump stays as it was set: lines of CONTROLS that set it are left out, and so is its pattern. Rules that
+set it are told, and stay. Needs Python 3 alone.
 """
 import argparse
 import concurrent.futures
