@@ -10,8 +10,8 @@ lower and the upper end in columns; a spreadsheet opens them, and so does pandas
 --net they are taken from the file and stand in the headings.
 
 `plot` draws over time what the IDs have: the level of a tank, the pressure of a junction, the flow of a link. What is
-drawn is the band between the two ends at the report's times, joined to guide the eye (pressures and flows up to the
-next event); events, controls and rules are lines across. Where a node and a link have one name, node:NAME and link:NAME
+drawn is the band between the two ends at the report's times, joined to guide the eye where no event lies between;
+events, controls and rules are lines across. Where a node and a link have one name, node:NAME and link:NAME
 tell them apart.
 
 `map` draws the network by its [COORDINATES] at a TIME of the report, h:mm:ss (the first one without it). Junctions are
@@ -233,21 +233,23 @@ def plot(args):
 
 
 def draw_band(panel, quantity, label, rows, events):
-    """The band between both ends. Pressures and flows stay as they are for a time, and aren't known behind an event."""
-    points = [(row["time"], *row[quantity]) for row in rows]
-    if quantity != "level":
-        for a, b in zip(rows, rows[1:]):
-            first = min((time for time in events if a["time"] < time < b["time"]), default=None)
-            if first is not None:
-                points += [(first, *a[quantity]), (first, math.nan, math.nan)]
-        points.sort(key=lambda point: point[0])
+    """The band between both ends. Pressures and flows stay as they are for a time, and nothing is known behind an event,
+    nor how a level goes where one lies between two times: a thin line goes across there."""
+    points, steps = [(row["time"], *row[quantity]) for row in rows], quantity != "level"
+    for a, b in zip(rows, rows[1:]):
+        first = min((time for time in events if a["time"] < time < b["time"]), default=None)
+        if first is not None:
+            points += [(first, *a[quantity])] * steps + [(first, math.nan, math.nan)]
+    points.sort(key=lambda point: point[0])
     hours = [time / 3600 for time, _, _ in points]
     low, high = [point[1] for point in points], [point[2] for point in points]
-    step = None if quantity == "level" else "post"
-    line = panel.plot(hours, low, drawstyle="steps-post" if step else "default", linewidth=0.8, marker="o",
-                      markersize=2.5, label=label)[0]
-    panel.plot(hours, high, drawstyle="steps-post" if step else "default", linewidth=0.8, color=line.get_color())
-    panel.fill_between(hours, low, high, step=step, alpha=0.4, color=line.get_color(), linewidth=0.8)
+    style = "steps-post" if steps else "default"
+    line = panel.plot(hours, low, drawstyle=style, linewidth=0.8, marker="o", markersize=2.5, label=label)[0]
+    panel.plot(hours, high, drawstyle=style, linewidth=0.8, color=line.get_color())
+    panel.fill_between(hours, low, high, step="post" if steps else None, alpha=0.4, color=line.get_color())
+    if not steps and len(points) > len(rows):
+        panel.plot([row["time"] / 3600 for row in rows], [row[quantity][0] for row in rows], linewidth=0.4, linestyle="--",
+                   color=line.get_color())
 
 
 def mark_events(report, panels):
