@@ -385,9 +385,9 @@ class Preparing:
     def options(self, line):
         key = whole_word(line.word(0), OPTIONS)
         if line.upper(0).startswith(IDLE_OPTIONS):
-            return self.drop(line, "an option that touches no head and no flow")
+            return self.drop(line, "an option by which EPANET comes nearer to a solution at most")
         if key == "MINIMUM" and line.upper(1).startswith("TRAV"):
-            return self.drop(line, "an option that touches no head and no flow")
+            return self.drop(line, "an option by which EPANET comes nearer to a solution at most")
         if key is None:
             return self.advise(line, f"hyd has no option {line.word(0)}")
         self.whole(line, 0, OPTIONS)
