@@ -216,7 +216,7 @@ class Preparing:
         self.pump_curves()
         if self.net.headloss is None:
             self.advise(None, "no line HEADLOSS: EPANET takes H-W then. hyd takes C-M alone, by a line of its own: "
-                              "docs/HAZEN_WILLIAMS.md says how roughness is converted")
+                              "scripts/manning.py converts it (docs/HAZEN_WILLIAMS.md)")
 
     def any_line(self, line):
         body = line.text.split(";", 1)[0]
@@ -406,8 +406,8 @@ class Preparing:
             if last == "CMS":
                 self.advise(line, "hyd has no flows in cubic metres a second: convert them, to CMH or LPS")
         elif key == "HEADLOSS" and last != "C-M":
-            self.advise(line, f"HEADLOSS {last}: hyd takes C-M alone; docs/HAZEN_WILLIAMS.md says how roughness is "
-                              "converted")
+            self.advise(line, f"HEADLOSS {last}: hyd takes C-M alone" + (
+                "; scripts/manning.py converts it (docs/HAZEN_WILLIAMS.md)" if last == "H-W" else ""))
         elif key == "PRESSURE" and last == "KPA":
             self.advise(line, "pressures in kPa: hyd prints psi or metres, by the flow unit; where the file asks for "
                               "no pressure (PDA, rules, emitters), leave this line out")

@@ -1,5 +1,6 @@
 #!/usr/bin/env python3
-"""Tries prepare.py, report.py and scenarios.py on all examples, on files as other programs write them, and row by row.
+"""Tries prepare.py, manning.py, report.py and scenarios.py on the examples, on files as other programs write them, and row
+by row.
 
     scripts/try_scripts.py PROGRAM
 
@@ -267,12 +268,41 @@ def try_scenarios(trial):
             trial.holds("what is shut stays so:", all(line.endswith("CLOSED") for line in flows), example + row["change"])
 
 
+def roughness_of(text):
+    """The last words of the first pipes' rows: ID and roughness."""
+    rows = text.partition("[PIPES]")[2].partition("[PUMPS]")[0].splitlines()
+    return [(row.split()[0], row.split()[5]) for row in rows if row.split() and not row.startswith(";")]
+
+
+def try_manning(trial):
+    """EPANET's first example: by one speed, then by the flows of each run, to the roughness that was reckoned from EPANET's."""
+    wanted = (ROOT / "examples" / "net1.inp").read_text()
+    text = wanted.replace("Headloss C-M", "Headloss H-W")
+    for _, n in roughness_of(wanted):
+        text = text.replace(n, "100", 1)
+    file, tables = trial.folder / "hw.inp", trial.folder / "flows"
+    file.write_text(text)
+    words = ["--speed", "0.5"]
+    for turn in range(4):
+        new = trial.folder / f"turn{turn}.inp"
+        done = trial.script("manning.py", file, "-o", new, *words)
+        trial.holds("converted:", done.returncode == 0, done.stderr)
+        (trial.folder / "r.rpt").write_text(trial.answer(new))
+        trial.script("report.py", "tables", trial.folder / "r.rpt", tables)
+        words = ["--flows", tables / "links.csv", "--time", "0:00:00"]
+    trial.holds("the roughness of net1.inp:", roughness_of(new.read_text()) == roughness_of(wanted))
+    done = trial.script("manning.py", file, "-o", new, *words)
+    trial.holds("no file is overwritten", done.returncode == 2 and "already" in done.stderr)
+    done = trial.script("manning.py", ROOT / "examples" / "net1.inp", "-o", trial.folder / "z.inp", "--speed", "1")
+    trial.holds("a file with other losses is told", done.returncode == 2 and "not H-W" in done.stderr)
+
+
 def main():
     if len(sys.argv) != 2:
         sys.exit(__doc__)
     with tempfile.TemporaryDirectory() as folder:
         trial = Trial(sys.argv[1], folder)
-        for each in (try_rows, try_forms, try_examples, try_scenarios):
+        for each in (try_rows, try_forms, try_examples, try_manning, try_scenarios):
             each(trial)
     print(f"{trial.tried} tried, {trial.failed} failed")
     return 1 if trial.failed else 0
