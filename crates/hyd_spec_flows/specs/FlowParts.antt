@@ -68,7 +68,8 @@ pub record IsFlowPart (grid : Grid) (row : Record) (part : FlowPart) : Type 0 wh
 pub record IsSharpVector (rounds : ℕ) (grid : Grid) (row : Record) (link : GridLink) (side : Side)
     (u : List ℤ) : Type 0 where
   pub least : (reached : List ℤ)
-      → AreRoundsHolding (Some (held_for row link side)) grid Main side rounds (vector_of row Main (opposite side)) reached
+      → AreRoundsHolding (Some (held_for row link side)) grid Main side rounds
+      (vector_of row Main (opposite side)) reached
       → IsHeldVector grid row link side reached
       → IsTightHolding (Some (held_for row link side)) grid Main side u
   pub inside : Each grid.junctions (λ i junction. i ≢ link.from

@@ -1,6 +1,5 @@
--- The text of a certificate with flows: its header has version 3, and behind each record stand the links that were named
--- and their vectors.
--- Source: this program's format.
+-- The text of a certificate with flows: its header has version 3, and behind each record stand the links that were
+-- named and their vectors. Source: this program's format.
 use Rattle.std.specs.Prelude.{◌≡◌, ℕ, ◌<◌, ◌≤◌, ◌^◌, nat_eq, Bool, List, [], ◌∷◌, ◌++◌, length, map, All, codes}
 use Rattle.std.specs.Prelude.{decimal}
 use Rattle.std.specs.List.{starts_with}

@@ -82,8 +82,8 @@ pub record EveryHistoryAgreesNaming (project : Project) (namings : List FoundNam
 
 -- ---- what a run writes and prints
 
--- What was written is the certificate of a run with the flows of these links, what was printed its report with them, and
--- every history agrees with it.
+-- What was written is the certificate of a run with the flows of these links, what was printed its report with them,
+-- and every history agrees with it.
 pub record RunWritesNaming (project : Project) (named : List ℕ) (rounds : ℕ) (sharpness : Sharpness)
     (outcome : Outcome) (written printed : List ℕ) : Type 0 where
   pub namings : List FoundNaming
@@ -152,8 +152,9 @@ pub record BeginsWithEntries (project : Project) (text : List ℕ) (entries : Li
   pub is_text : text ≡ header_line flows_version (junction_count project) (tank_count project)
       ++ (joined (map entry_text entries) ++ unread)
 
--- What was read begins as a certificate of a run with flows, with one more record that is refused, whatever its part and
--- what comes after it are; what was printed is the report of the entries before it, with the refusal as its last line.
+-- What was read begins as a certificate of a run with flows, with one more record that is refused, whatever its part
+-- and what comes after it are; what was printed is the report of the entries before it, with the refusal as its last
+-- line.
 pub record CheckRefusesNaming (project : Project) (text printed : List ℕ) (cause : CertRefused) : Type 0 where
   pub namings : List FoundNaming
   pub left : Standing
@@ -181,8 +182,8 @@ pub record CheckRefusesPart (project : Project) (text printed : List ℕ) (cause
   pub every_history : EveryHistoryAgreesNaming project namings
 
 -- What was read is the certificate text of a run with flows but for its end line, which doesn't have the number of its
--- records or doesn't say whether it is finished; what was printed is the report of all its entries, with that refusal as
--- its last line.
+-- records or doesn't say whether it is finished; what was printed is the report of all its entries, with that refusal
+-- as its last line.
 pub record CheckRefusesEndNaming (project : Project) (text printed : List ℕ) : Type 0 where
   pub namings : List FoundNaming
   pub left : Standing
