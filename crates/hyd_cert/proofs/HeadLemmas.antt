@@ -126,7 +126,7 @@ stored xs i u box = ap (slice_set xs i) (let low = box.above_floor in let high =
 
 -- ---- a record or the end
 
-can_between : (header : Header) (l : List ℕ) (next : Place) → CanStand header Between l next → IsPeriodOrEnd l
+pub can_between : (header : Header) (l : List ℕ) (next : Place) → CanStand header Between l next → IsPeriodOrEnd l
 can_between header l next (inl is) = inl is.0
 can_between header l next (inr is) = inr is.0
 

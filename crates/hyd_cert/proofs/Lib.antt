@@ -9,3 +9,7 @@ pub mod VectorLemmas
 pub mod VersionLemmas
 pub mod WritingLemmas
 pub mod RecordFaultLemmas
+pub mod FlowLineLemmas
+pub mod FlowFaultLemmas
+pub mod FlowTextLemmas
+pub mod AsReadLemmas

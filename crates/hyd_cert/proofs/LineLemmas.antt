@@ -173,7 +173,7 @@ mag-below : (h : ℤ) → IsInBox h → mag h ≤ 10 ^ 18
 mag-below (pos n) box = let b = box.below_ceiling in omega (arith, ints, b)
 mag-below (negsuc n) box = let b = box.above_floor in omega (arith, ints, b)
 
-has_no_append : (byte : ℕ) (a b : List ℕ) → HasNo byte a → HasNo byte b → HasNo byte (a ++ b)
+pub has_no_append : (byte : ℕ) (a b : List ℕ) → HasNo byte a → HasNo byte b → HasNo byte (a ++ b)
 has_no_append byte [] b free_a free_b = free_b
 has_no_append byte (x ∷ a) b free_a free_b = (free_a.0, has_no_append byte a b free_a.1 free_b)
 
@@ -211,17 +211,17 @@ other_lacks IsSuch held first more old (Some known) lines split free apart same 
 
 -- ---- lines of numbers
 
-record IsPiece (text : List ℕ) (most : ℕ) : Type 0 where
-  free : HasNo 10 text
-  short : length text ≤ most
+pub record IsPiece (text : List ℕ) (most : ℕ) : Type 0 where
+  pub free : HasNo 10 text
+  pub short : length text ≤ most
 
-joined_pieces : (a b : List ℕ) (m n : ℕ) → IsPiece a m → IsPiece b n → IsPiece (a ++ b) (m + n)
+pub joined_pieces : (a b : List ℕ) (m n : ℕ) → IsPiece a m → IsPiece b n → IsPiece (a ++ b) (m + n)
 joined_pieces a b m n is_a is_b = record {
   free = has_no_append 10 a b is_a.free is_b.free;
   short = (let sum = length-append a b in omega (arith, sum, is_a.short, is_b.short));
 }
 
-number_piece : (n : ℕ) → n < 2 ^ 32 → IsPiece (decimal n) 10
+pub number_piece : (n : ℕ) → n < 2 ^ 32 → IsPiece (decimal n) 10
 number_piece n fits = record {
   free = decimal_free 10 n (omega arith) (omega arith);
   short = length-decimal-le 10 n (omega arith) (omega arith) (omega arith);
@@ -247,7 +247,7 @@ word_piece : (finished : Bool) → IsPiece (end_word finished) 8
 word_piece true = record { free = search (rules, arith); short = search (rules, arith) }
 word_piece false = record { free = search (rules, arith); short = search (rules, arith) }
 
-piece_line : (l text : List ℕ) (most : ℕ) → l ≡ text → most < 64 → IsPiece text most → HasNo 10 l × (length l < 64)
+pub piece_line : (l text : List ℕ) (most : ℕ) → l ≡ text → most < 64 → IsPiece text most → HasNo 10 l × (length l < 64)
 piece_line l text most e small is = (
   subst (HasNo 10) (sym e) is.free,
   (let same : length l ≡ length text = ap length e in

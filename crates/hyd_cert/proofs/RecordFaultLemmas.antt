@@ -27,7 +27,7 @@ use Rattle.hyd_cert.proofs.TextsAtFault.{stands_alone, may_stand, next_same, has
 use Rattle.hyd_cert.proofs.VectorLemmas.{row_text}
 use Rattle.hyd_cert.proofs.CertificatesLineByLine.{by_heads, flat}
 
-at_least_one : (header : Header) (place : Place) (t : Option (List ℕ)) (number : ℕ) → IsFault header place t number
+pub at_least_one : (header : Header) (place : Place) (t : Option (List ℕ)) (number : ℕ) → IsFault header place t number
     → 0 < number
 at_least_one header _ _ _ (here lacks over) = omega arith
 at_least_one header _ _ _ (later line can fault) = omega arith
@@ -92,15 +92,15 @@ heads_before header i (u ∷ us) rest t number within box fault told =
     omega (arith, after, one_more)
 
 -- the PERIOD line of a record
-period_of : Row → List ℕ
+pub period_of : Row → List ℕ
 period_of row = words (codes "PERIOD" ∷ (decimal row.number ∷ (decimal row.time ∷ (decimal row.length ∷ []))))
 
-is_period : (n tanks : ℕ) (row : Row) → IsRow n tanks row → IsPeriodLine (period_of row)
+pub is_period : (n tanks : ℕ) (row : Row) → IsRow n tanks row → IsPeriodLine (period_of row)
 unfolding period_of
 is_period n tanks row is = period_is row.number row.time row.length is.number_fits is.time_fits is.length_fits
 
 -- a record is its PERIOD line and its heads
-record_parts : (n tanks : ℕ) (row : Row) (rest : List ℕ) → IsRow n tanks row
+pub record_parts : (n tanks : ℕ) (row : Row) (rest : List ℕ) → IsRow n tanks row
     → record_text row ++ rest ≡ period_of row ++ (10 ∷ (head_text n 0 (flat row) ++ rest))
 unfolding period_of
 record_parts n tanks row rest is =

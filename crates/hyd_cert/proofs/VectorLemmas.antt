@@ -162,8 +162,8 @@ flat_text n tanks us whole =
     (omega (arith, whole, several, left))))
 
 -- the list after all its items were written
-pub refill_whole : (old new : List ℤ) → length new ≡ length old → refill (length old) old new ≡ new
-refill_whole old new e = ap (λ k. take k (new ++ drop (length new) old)) (sym e) ∙ grind (arith, common_steps)
+pub refill_whole : {X : Type 0} (old new : List X) → length new ≡ length old → refill (length old) old new ≡ new
+refill_whole {X} old new e = ap (λ k. take k (new ++ drop (length new) old)) (sym e) ∙ grind (arith, common_steps)
 
 -- ---- a record
 

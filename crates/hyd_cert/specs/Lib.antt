@@ -7,3 +7,6 @@ pub mod ReaderView
 pub mod RecordView
 pub mod FaultyLine
 pub mod VectorsOfRecord
+pub mod FlowPartView
+pub mod PlacesWithFlows
+pub mod ReaderWithFlows

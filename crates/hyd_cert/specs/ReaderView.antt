@@ -1,5 +1,5 @@
 -- What a reader of a certificate text shows, and what it stands before.
-use Rattle.std.specs.Prelude.{ℕ, Bool, List, [], Option, Result, Ok, Err}
+use Rattle.std.specs.Prelude.{ℕ, Bool, false, List, [], Option, Result, Ok, Err}
 use Rattle.hyd_io.specs.DeskBytes.{prepend_known}
 use Rattle.hyd_cert.specs.Lines.{Header, header_text}
 use Rattle.hyd_cert.specs.PlacesOfLines.{Place, First as AtFirst, Between as AtBetween, Over as AtOver}
@@ -9,15 +9,17 @@ use Rattle.hyd_cert.specs.declared.answers_of_reader.CertFault.{CertFault}
 use Rattle.hyd_cert.specs.declared.answers_of_reader.CertNext.{CertNext}
 use Rattle.hyd_cert.specs.declared.answers_of_reader.CertNext.TheVariants.{Record, End}
 
--- Where it stands, how many lines it passed, and the bytes that it read ahead.
+-- Where it stands, how many lines it passed, the bytes that it read ahead, and whether it read the header line of a
+-- text with flows.
 pub record ReaderView : Type 0 where
   pub stand : Stand
   pub line : ℕ
   pub ahead : List ℕ
+  pub flows : Bool
 
 -- A reader that has read nothing and has no fault.
 abbrev pub fresh : ReaderView
-fresh = record { stand = First; line = 0; ahead = [] }
+fresh = record { stand = First; line = 0; ahead = []; flows = false }
 
 -- What of the text is still to come: what was read ahead, and what the desk has left.
 abbrev pub to_come : ReaderView → Option (List ℕ) → Option (List ℕ)

@@ -16,12 +16,18 @@ ghost use Rattle.hyd_cert.specs.Faults.{lines_on, IsFront, IsLineFault, IsHeadsF
 ghost use Rattle.hyd_cert.specs.Faults.{LacksRecord, OnGrammar};
 ghost use Rattle.hyd_cert.specs.ReaderView.{fresh, to_come, IsGoing, IsDone, place_of, lead, lead_lines, answer_of};
 ghost use Rattle.hyd_cert.specs.ReaderView.{stand_of, OnRecord, OnEnd};
+ghost use Rattle.hyd_cert.specs.ReaderWithFlows.{lead_as_read, part_behind, IsPartBehind, part_lines, IsFaultAsRead};
+ghost use Rattle.hyd_cert.specs.ReaderWithFlows.{LacksRecordAsRead, HasNoFlows, OnRefusal, IsStuckAt};
+ghost use Rattle.hyd_cert.specs.PlacesWithFlows.{Between as BeforeRecord};
 ghost use Rattle.hyd_cert.specs.RecordView.{header_of, row_of};
+ghost use Rattle.hyd_cert.specs.FlowPartView.{part_of};
 ghost use Rattle.hyd_cert.specs.declared.answers_of_reader.Stand.TheVariants as stand;
 
 use crate::answers_of_reader::{CertFault, CertNext, EndLine, Stand};
+use crate::flow_part::FlowPart;
 use crate::line_reader::Source;
 use crate::lines::{Next, head_line, is_header_line, period_or_end};
+use crate::reader_with_flows::{read_entry, read_first_entry};
 use crate::record::{Record, has_small_counts};
 use crate::writer::{front_of, is_header_of};
 use hyd_io::Desk;
@@ -35,7 +41,7 @@ pub(crate) struct Lines {
 }
 
 /// Writes the head at its place.
-fn store(into: &mut [i64], i: usize, head: i64)
+pub(crate) fn store(into: &mut [i64], i: usize, head: i64)
     requires { i < length into.old }
     ensures { into.new ≡ slice_set into.old i head }
 {
@@ -44,7 +50,7 @@ fn store(into: &mut [i64], i: usize, head: i64)
 
 impl Lines {
     /// The length of the next line.
-    fn next_line<D: Desk>(&mut self, desk: &mut D) -> Result<usize, CertFault>
+    pub(crate) fn next_line<D: Desk>(&mut self, desk: &mut D) -> Result<usize, CertFault>
         ensures same { OnOk result (prepend_known self.new.source (D.rest desk.new)
             ≡ prepend_known self.old.source (D.rest desk.old)) }
         ensures some { IfOk result (λ n. self.new.source
@@ -69,7 +75,7 @@ impl Lines {
     }
 
     /// Passes over a line of that length.
-    fn pass(&mut self, n: usize)
+    pub(crate) fn pass(&mut self, n: usize)
         requires { n < length self.old.source }
         ensures source { self.new.source ≡ drop (n + 1) self.old.source }
         ensures line { self.new.line ≡ lines_on self.old.line 1 }
@@ -79,7 +85,7 @@ impl Lines {
     }
 
     /// The head of the next line, which begins with `front`.
-    fn head<D: Desk>(&mut self, desk: &mut D, front: &[u8]) -> Result<i64, CertFault>
+    pub(crate) fn head<D: Desk>(&mut self, desk: &mut D, front: &[u8]) -> Result<i64, CertFault>
         requires { IsFront front.now }
         ensures text { IfOk result (λ h. prepend_known self.old.source (D.rest desk.old)
             ≡ prepend_known (front.now ++ (signed_decimal h ++ (10 ∷ [])))
@@ -207,11 +213,13 @@ impl Lines {
     }
 }
 
-/// A reader of a certificate text. Contracts see where it stands, how many lines it passed, and what it read ahead.
+/// A reader of a certificate text. Contracts see where it stands, how many lines it passed, what it read ahead, and
+/// whether it read the header line of a text with flows.
 #[derive(Drop)]
 pub struct CertReader {
     lines: Lines,
     stand: Stand,
+    flows: bool,
 }
 
 impl Model for CertReader {
@@ -219,7 +227,7 @@ impl Model for CertReader {
 
     ghost Value = { ReaderView };
 
-    ghost view = { λ r. record { stand = r.stand; line = r.lines.line; ahead = r.lines.source } };
+    ghost view = { λ r. record { stand = r.stand; line = r.lines.line; ahead = r.lines.source; flows = r.flows } };
 }
 
 impl CertReader {
@@ -233,11 +241,19 @@ impl CertReader {
                 line: 0,
             },
             stand: Stand::First,
+            flows: false,
         }
     }
 
-    /// The next record, or the end of the text. The text is that of the file which is being read, and its header line
-    /// has to be that of `into`: its version and its counts.
+    /// How many lines it passed. It stays at 2^64 - 1 once it is there.
+    pub fn line(&self) -> u64
+        ensures { result ≡ self.now.line }
+    {
+        self.lines.line
+    }
+
+    /// The next record, or the end of the text, of a text without flows. The text is that of the file which is being
+    /// read, and its header line has to be that of `into`: its version and its counts.
     ///
     /// - `Read`: a read failed, and the read faults rose.
     /// - `Grammar`: at the first line that can't stand where it does, the end of the text counted in. No whole record
@@ -268,6 +284,7 @@ impl CertReader {
         ensures again { IsDone self.old.stand
             → (result ≡ answer_of self.old.stand) × (self.new ≡ self.old) × (desk.new ≡ desk.old) }
         ensures header { header_of into.new ≡ header_of into.old }
+        ensures flows { self.new.flows ≡ self.old.flows }
         ensures steady { OnOk result (D.counts desk.new ≡ D.counts desk.old) }
         ensures stays { KeepsOutput D.files D.written D.printed D.target D.ready D.counts D.openings
             desk.old desk.new }
@@ -282,6 +299,72 @@ impl CertReader {
             }
             Stand::First => read_first(&mut self.lines, desk, into),
             Stand::Between => read_record(&mut self.lines, desk, into),
+        };
+        self.stand = stand_after(&read);
+        read
+    }
+
+    /// The next record with the part behind it, or the end of the text, of a text of any version. The text is that of
+    /// the file which is being read, and its header line has to have the counts of `into`, and its version where it
+    /// isn't 3. A text of version 3 has a part behind each record; else `part` names no link. It was opened for the
+    /// record's junctions. The faults are those of `next`.
+    ///
+    /// After a fault each call answers it again, and after an end that end. What `into` and `part` hold is then open,
+    /// but for the counts, and the version of `into`.
+    pub fn next_with<D: Desk>(
+        &mut self,
+        desk: &mut D,
+        into: &mut Record,
+        part: &mut FlowPart,
+    ) -> Result<CertNext, CertFault>
+        requires { part.old.junctions ≡ into.old.junctions }
+        ensures record { IsGoing self.old.stand → IfOk result (λ next. OnRecord next
+            (to_come self.old (D.rest desk.old)
+            ≡ prepend_known (lead_as_read self.new.flows self.old.stand (header_of into.new)
+            ++ (record_text (row_of into.new) ++ part_behind self.new.flows (part_of part.new)))
+            (to_come self.new (D.rest desk.new)))) }
+        ensures row { IsGoing self.old.stand → IfOk result (λ next. OnRecord next
+            (IsRow into.new.junctions into.new.tanks (row_of into.new))) }
+        ensures part { IsGoing self.old.stand → IfOk result (λ next. OnRecord next
+            (IsPartBehind self.new.flows into.new.junctions (part_of part.new))) }
+        ensures line { IsGoing self.old.stand → IfOk result (λ next. OnRecord next
+            (self.new.line ≡ lines_on self.old.line (lead_lines self.old.stand + length into.new.vectors.list
+            + part_lines self.new.flows into.new.junctions (part_of part.new)))) }
+        ensures end { IsGoing self.old.stand → IfOk result (λ next. OnEnd next (λ periods finished.
+            to_come self.old (D.rest desk.old) ≡ where_told (D.rest desk.old)
+            (lead_as_read self.new.flows self.old.stand (header_of into.new) ++ end_line periods finished))) }
+        ensures end_line { IsGoing self.old.stand → IfOk result (λ next. OnEnd next (λ periods finished.
+            self.new.line ≡ lines_on self.old.line (lead_lines self.old.stand))) }
+        ensures end_fits { IsGoing self.old.stand
+            → IfOk result (λ next. OnEnd next (λ periods finished. periods < 2 ^ 32)) }
+        ensures fault { IsGoing self.old.stand → IfErr result (IsFaultAsRead self.new.flows (header_of into.old)
+            self.old.stand self.old.line
+            (to_come self.old (D.rest desk.old)) (D.counts desk.old) (D.counts desk.new)) }
+        ensures no_record { IsGoing self.old.stand → IfErr result (λ fault. OnGrammar fault
+            (LacksRecordAsRead self.new.flows self.old.stand (header_of into.old)
+            (to_come self.old (D.rest desk.old)))) }
+        ensures no_flows { self.old.stand ≡ stand.First → self.new.flows ≡ false → IfErr result (λ fault.
+            OnRefusal fault (HasNoFlows (header_of into.old) (to_come self.old (D.rest desk.old)))) }
+        ensures same_flows { self.old.stand ≢ stand.First → self.new.flows ≡ self.old.flows }
+        ensures stand { IsGoing self.old.stand → self.new.stand ≡ stand_of result }
+        ensures again { IsDone self.old.stand
+            → (result ≡ answer_of self.old.stand) × (self.new ≡ self.old) × (desk.new ≡ desk.old) }
+        ensures header { header_of into.new ≡ header_of into.old }
+        ensures junctions { part.new.junctions ≡ part.old.junctions }
+        ensures steady { OnOk result (D.counts desk.new ≡ D.counts desk.old) }
+        ensures stays { KeepsOutput D.files D.written D.printed D.target D.ready D.counts D.openings
+            desk.old desk.new }
+    {
+        let read = match self.stand {
+            Stand::Stuck(fault) => return Err(fault),
+            Stand::Over(end) => {
+                return Ok(CertNext::End {
+                    periods: end.periods,
+                    finished: end.finished,
+                });
+            }
+            Stand::First => read_first_entry(&mut self.lines, desk, into, part, &mut self.flows),
+            Stand::Between => read_entry(&mut self.lines, desk, into, part, self.flows),
         };
         self.stand = stand_after(&read);
         read
@@ -331,7 +414,7 @@ fn read_first<D: Desk>(
 }
 
 /// Reads a record, or the end.
-fn read_record<D: Desk>(
+pub(crate) fn read_record<D: Desk>(
     lines: &mut Lines,
     desk: &mut D,
     into: &mut Record,
@@ -343,8 +426,12 @@ fn read_record<D: Desk>(
         (lines.new.line ≡ lines_on lines.old.line (1 + length into.new.vectors.list))) }
     ensures end { IfOk result (λ next. OnEnd next (λ periods finished. prepend_known lines.old.source (D.rest desk.old)
         ≡ where_told (D.rest desk.old) (end_line periods finished))) }
+    ensures end_line { IfOk result (λ next. OnEnd next (λ periods finished. lines.new.line
+        ≡ lines_on lines.old.line 1)) }
     ensures end_fits { IfOk result (λ next. OnEnd next (λ periods finished. periods < 2 ^ 32)) }
     ensures fault { IfErr result (IsTextFault (header_of into.old) Between lines.old.line
+        (prepend_known lines.old.source (D.rest desk.old)) (D.counts desk.old) (D.counts desk.new)) }
+    ensures stuck { IfErr result (IsStuckAt (header_of into.old) BeforeRecord lines.old.line
         (prepend_known lines.old.source (D.rest desk.old)) (D.counts desk.old) (D.counts desk.new)) }
     ensures no_record { IfErr result (λ fault. OnGrammar fault
         (LacksRecord stand.Between (header_of into.old) (prepend_known lines.old.source (D.rest desk.old)))) }

@@ -105,7 +105,7 @@ impl Record {
 }
 
 /// Appends so many heads of 0.
-fn add_zeros(vectors: &mut List<i64>, count: u32) -> Result<(), OutOfMemory>
+pub(crate) fn add_zeros(vectors: &mut List<i64>, count: u32) -> Result<(), OutOfMemory>
     ensures length { OnOk result (length vectors.new.list ≡ length vectors.old.list + count) }
     ensures zeros { All (λ h. h ≡ pos 0) vectors.old.list → All (λ h. h ≡ pos 0) vectors.new.list }
 {

@@ -18,7 +18,7 @@ use itoa::Buffer;
 // ---- lines
 
 /// Appends the word to the bytes of the buffer that are used, and returns how many are then.
-fn append(buffer: &mut [u8; LINE], used: usize, word: &[u8]) -> usize
+pub(crate) fn append(buffer: &mut [u8; LINE], used: usize, word: &[u8]) -> usize
     requires { used + length word.now ≤ 64 }
     ensures used { result ≡ used + length word.now }
     ensures text { take result buffer.new ≡ take used buffer.old ++ word.now }
@@ -29,7 +29,7 @@ fn append(buffer: &mut [u8; LINE], used: usize, word: &[u8]) -> usize
 }
 
 /// Appends a number below 2^32.
-fn append_number(buffer: &mut [u8; LINE], used: usize, number: u32) -> usize
+pub(crate) fn append_number(buffer: &mut [u8; LINE], used: usize, number: u32) -> usize
     requires { used ≤ 54 }
     ensures used { result ≤ used + 10 }
     ensures text { take result buffer.new ≡ take used buffer.old ++ decimal number }
@@ -44,8 +44,17 @@ fn make_header(buffer: &mut [u8; LINE], row: &Record) -> usize
     ensures fits { (row.now.junctions < 2 ^ 32) × (row.now.tanks < 2 ^ 32) }
     ensures text { take result buffer.new ≡ header_words (header_of row.now) }
 {
+    make_header_of(buffer, row.version, row)
+}
+
+/// Makes the header line of a version and the record's counts, without its line feed, and returns its length.
+pub(crate) fn make_header_of(buffer: &mut [u8; LINE], version: u32, row: &Record) -> usize
+    ensures within { result ≤ 42 }
+    ensures fits { (row.now.junctions < 2 ^ 32) × (row.now.tanks < 2 ^ 32) }
+    ensures text { take result buffer.new ≡ header_words (record (header_of row.now) { version = version }) }
+{
     let used = append(buffer, 0, b"HYDCERT ");
-    let used = append_number(buffer, used, row.version);
+    let used = append_number(buffer, used, version);
     let used = append(buffer, used, b" ");
     let used = append_number(buffer, used, row.junctions);
     let used = append(buffer, used, b" ");
@@ -195,7 +204,7 @@ fn put_heads<D: Desk>(
 }
 
 /// Puts the line of a head.
-fn put_head_line<D: Desk>(
+pub(crate) fn put_head_line<D: Desk>(
     front: &[u8],
     head: &i64,
     pen: &mut Pen,

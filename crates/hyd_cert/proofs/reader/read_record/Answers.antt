@@ -10,6 +10,7 @@ use Rattle.hyd_cert.specs.declared.lines.Next.TheVariants.{Period, End}
 use Rattle.hyd_cert.proofs.HeadLemmas.{stuck_between, stuck_in_heads, stuck_behind, period_is, end_is}
 use Rattle.hyd_cert.proofs.VectorLemmas.{refill_whole, row_read, row_is}
 use Rattle.hyd_cert.proofs.RecordFaultLemmas.{none_between, none_in_heads, none_at_end}
+use Rattle.hyd_cert.proofs.FlowFaultLemmas.{stuck_before, stuck_among_heads, stuck_over}
 use Rattle.hyd_cert.proofs.reader.read_record.Goals as goal
 
 pub returns-in-Err-clause-fault : goal.returns-in-Err-clause-fault
@@ -105,3 +106,47 @@ returns-in-Ok-false-clause-no_record g c =
     (g.D.Desk.rest c.period_or_end.new.desk))) c.in-Ok-End.field-0-is c.in-Ok-End.ensures.text in
     none_at_end (header_of c.args.into.now) (words (codes "END" ∷ (decimal e.periods ∷ (end_word e.finished ∷ []))))
     _ _ (end_is e.periods e.finished fits) text
+
+-- ---- inside the record
+
+pub returns-in-Err-clause-stuck : goal.returns-in-Err-clause-stuck
+returns-in-Err-clause-stuck g c =
+    stuck_before (header_of c.args.into.now) c.args.lines.now.line
+    (prepend_known c.args.lines.now.source (g.D.Desk.rest c.args.desk.now)) (g.D.Desk.counts c.args.desk.now)
+    (g.D.Desk.counts c.period_or_end.new.desk) c.in-Err.fault c.in-Err.ensures.fault
+
+pub returns-in-Err-heads-clause-stuck : goal.returns-in-Err-heads-clause-stuck
+returns-in-Err-heads-clause-stuck g c =
+    let p = c.in-Ok-Period.period in
+    let fits : NextFits (Period p) = subst NextFits c.in-Ok-Period.field-0-is c.in-Ok-Period.ensures.fits in
+    let text = subst (λ (n : Next). prepend_known c.args.lines.now.source (g.D.Desk.rest c.args.desk.now)
+    ≡ prepend_known (next_text n) (prepend_known c.period_or_end.new.self.source
+    (g.D.Desk.rest c.period_or_end.new.desk))) c.in-Ok-Period.field-0-is c.in-Ok-Period.ensures.text in
+    stuck_among_heads (header_of c.args.into.now) c.args.lines.now.line c.period_or_end.new.self.line
+    (words (codes "PERIOD" ∷ (decimal p.number ∷ (decimal p.time ∷ (decimal p.length ∷ [])))))
+    (prepend_known c.args.lines.now.source (g.D.Desk.rest c.args.desk.now))
+    (prepend_known c.period_or_end.new.self.source (g.D.Desk.rest c.period_or_end.new.desk))
+    (g.D.Desk.counts c.args.desk.now) (g.D.Desk.counts c.period_or_end.new.desk) (g.D.Desk.counts c.heads.new.desk)
+    c.in-Err-heads.fault
+    (period_is p.number p.time p.length fits.0 fits.1 fits.2)
+    text c.in-Ok-Period.ensures.line c.in-Ok-Period.ensures.steady
+    (c.in-Err-heads.ensures.fault (header_of c.args.into.now) refl (ap length c.as_mut_slice.ensures.items
+    ∙ c.args.into.now.whole))
+
+pub returns-in-Ok-false-clause-stuck : goal.returns-in-Ok-false-clause-stuck
+returns-in-Ok-false-clause-stuck g c =
+    let e = c.in-Ok-End.end in
+    let fits : NextFits (End e) = subst NextFits c.in-Ok-End.field-0-is c.in-Ok-End.ensures.fits in
+    let text = subst (λ (n : Next). prepend_known c.args.lines.now.source (g.D.Desk.rest c.args.desk.now)
+    ≡ prepend_known (next_text n) (prepend_known c.period_or_end.new.self.source
+    (g.D.Desk.rest c.period_or_end.new.desk))) c.in-Ok-End.field-0-is c.in-Ok-End.ensures.text in (
+      2,
+      (
+        omega (arith, c.saturating_add.ensures, c.is_over.ensures.line, c.in-Ok-End.ensures.line),
+        stuck_over (header_of c.args.into.now) (words (codes "END" ∷ (decimal e.periods ∷ (end_word e.finished ∷ []))))
+            (prepend_known c.args.lines.now.source (g.D.Desk.rest c.args.desk.now))
+            (prepend_known c.period_or_end.new.self.source (g.D.Desk.rest c.period_or_end.new.desk))
+            (end_is e.periods e.finished fits) text (c.in-Ok-false.ensures.more c.in-Ok-false.field-0-test),
+        c.in-Ok-false.ensures.steady ∙ c.in-Ok-End.ensures.steady,
+      ),
+    )

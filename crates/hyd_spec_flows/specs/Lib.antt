@@ -1,0 +1,4 @@
+pub mod FlowParts
+pub mod FlowTexts
+pub mod FlowLines
+pub mod PromisesWithFlows
