@@ -1,15 +1,16 @@
 -- Vectors that are sought and found.
 use Rattle.std.proofs.Common.{◌≡◌, ℕ, ◌≤◌, ℤ, Bool, true, false, List, length, inl, inr, refl, sym, subst}
-use Rattle.std.specs.Prelude.{Option, Some, None}
+use Rattle.std.specs.Prelude.{All, Option, Some, None}
 use Rattle.hyd_spec_certificates.specs.declared.Problem.{Problem}
 use Rattle.hyd_spec_certificates.specs.declared.Side.{Side}
 use Rattle.hyd_spec_certificates.specs.PeriodNetwork.{Grid}
-use Rattle.hyd_spec_certificates.specs.Certificate.{IsCertificate, IsTight}
+use Rattle.hyd_spec_certificates.specs.Certificate.{IsInBox, IsCertificate, IsTight}
 use Rattle.hyd_period_network.specs.NetView.{NetView}
 use Rattle.hyd_finders.specs.ProposedVectors.{Leaves, IsOfSize, told_vector}
-use Rattle.hyd_sweep.specs.LeapingRounds.{AreLeapingRounds}
+use Rattle.hyd_sweep.specs.LeapingRounds.{AreLeapingRounds, SweepGoes}
+use Rattle.hyd_sweep.specs.declared.answers_of_sweeps.Swept.TheVariants.{NoCertificate}
 use Rattle.hyd_period_vectors.specs.SoughtVectors.{IsTold, IsFound, IsSought, IsAtHand, IsBegun, IsReached, Tells}
-use Rattle.hyd_period_vectors.specs.SoughtVectors.{Comes}
+use Rattle.hyd_period_vectors.specs.SoughtVectors.{Comes, IsStuck}
 
 -- where a finder tells no certificate the tight vector is one that is found
 pub tight-sought : (tight : Bool) (told : Option (List ℤ)) (grid : Grid) (tanks : ℕ) (problem : Problem) (side : Side)
@@ -46,6 +47,24 @@ pub reached : (Begins : Grid → Problem → Side → List ℤ → Type 0) (grid
     → IsReached Begins grid problem side rounds u
 reached Begins grid problem side rounds first u begun goes =
     record { first = first; begun = begun; made = goes.0; most = goes.1.0; by_rounds = goes.1.1 }
+
+-- a junction without a value where they lead
+pub stuck-there : (grid : Grid) (problem : Problem) (side : Side) (rounds junction : ℕ) (first reached : List ℤ)
+    → IsBegun grid problem side first → All IsInBox reached
+    → SweepGoes None grid problem side rounds first reached (NoCertificate junction)
+    → IsStuck grid problem side rounds junction
+stuck-there grid problem side rounds junction first reached begun inside (made, (fewer, (before, (goes, last)))) =
+    record {
+      first = first;
+      begun = begun;
+      made = made;
+      fewer = fewer;
+      before = before;
+      by_rounds = goes;
+      reached = reached;
+      in_box = inside;
+      no_value = last;
+    }
 
 -- what is sought comes so
 pub tight-comes : (tight : Bool) (told : Option (List ℤ)) (grid : Grid) (tanks rounds : ℕ) (problem : Problem)

@@ -1,11 +1,11 @@
 -- What a search for the vectors of a period finds.
 -- Source: this program's.
-use Rattle.std.specs.Prelude.{◌≡◌, ℕ, ◌<◌, ◌≤◌, ℤ, Bool, true, false, List, length, Option, Some, None, ◌⊎◌}
+use Rattle.std.specs.Prelude.{◌≡◌, ℕ, ◌<◌, ◌≤◌, ℤ, Bool, true, false, List, length, All, Option, Some, None, ◌⊎◌}
 use Rattle.hyd_spec_certificates.specs.declared.Problem.{Problem}
 use Rattle.hyd_spec_certificates.specs.declared.Side.{Side}
 use Rattle.hyd_spec_certificates.specs.declared.Problem.TheVariants.{Main}
 use Rattle.hyd_spec_certificates.specs.PeriodNetwork.{Grid, opposite}
-use Rattle.hyd_spec_certificates.specs.Certificate.{IsCertificate, AreRounds, IsTight}
+use Rattle.hyd_spec_certificates.specs.Certificate.{IsInBox, IsCertificate, AreRounds, IsTight}
 use Rattle.hyd_spec_certificates.specs.RecordAndStanding.{Record, vector_of}
 use Rattle.hyd_spec_reports.specs.TurnsOfProblems.{beginning, turn}
 use Rattle.hyd_cert.specs.RecordView.{header_of, IsProblemOf}
@@ -14,6 +14,7 @@ use Rattle.hyd_cert.specs.declared.record.Record.{Record as Row}
 use Rattle.hyd_period_network.specs.NetView.{NetView}
 use Rattle.hyd_finders.specs.ProposedVectors.{IsOfSize, told_vector}
 use Rattle.hyd_sweep.specs.LeapingRounds.{AreLeapingRounds}
+use Rattle.hyd_sweep.specs.Sweeps.{RoundGives}
 use Rattle.hyd_period_vectors.specs.WayToProposedHeads.{ComesInTurn}
 use Rattle.hyd_period_vectors.specs.declared.missing_vector.Lack.{Lack}
 use Rattle.hyd_period_vectors.specs.declared.missing_vector.Lack.TheVariants.{NoCertificate, RoundsSpent}
@@ -97,10 +98,25 @@ pub record AreSpent (grid : Grid) (problem : Problem) (side : Side) (rounds : �
 abbrev pub HasNone : Grid → Problem → Side → Type 0
 HasNone grid problem side = (u : List ℤ) → IsCertificate grid problem side u → ⊥
 
--- why a problem and side has no vector: there is none, or so many rounds are spent
+-- a junction has no value at heads that were reached: from where rounds begin less than so many of them lead on, with
+-- leaps after each, and one more comes as far as this junction, which no head in the box lets pass then
+pub record IsStuck (grid : Grid) (problem : Problem) (side : Side) (rounds junction : ℕ) : Type 0 where
+  pub first : List ℤ
+  pub begun : IsBegun grid problem side first
+  pub made : ℕ
+  pub fewer : made < rounds
+  pub before : List ℤ
+  pub by_rounds : AreLeapingRounds None grid problem side made first before
+  pub reached : List ℤ
+  pub in_box : All IsInBox reached
+  pub no_value : RoundGives None grid problem side before reached (Some junction)
+
+-- why a problem and side has no vector: there is none, and a junction has no value at the heads that were reached; or
+-- so many rounds are spent
 abbrev pub Lacks : Grid → Problem → Side → ℕ → Lack → Type 0
 Lacks grid problem side rounds (NoCertificate lacking on junction) =
-    (lacking ≡ problem) × ((on ≡ side) × ((junction < length grid.junctions) × HasNone grid problem side))
+    (lacking ≡ problem) × ((on ≡ side) × ((junction < length grid.junctions)
+    × (HasNone grid problem side × IsStuck grid problem side rounds junction)))
 Lacks grid problem side rounds (RoundsSpent lacking on) =
     (lacking ≡ problem) × ((on ≡ side) × AreSpent grid problem side rounds)
 

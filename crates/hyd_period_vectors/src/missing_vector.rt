@@ -6,8 +6,8 @@ use hyd_spec_certificates::{Problem, Side};
 /// Why a period has no vector of a problem and side.
 #[derive(Clone, Copy, Drop)]
 pub enum Lack {
-    /// No vector in the box is a certificate. The junction has no value at the heads where the search ended, which is a
-    /// hint and no more.
+    /// No vector in the box is a certificate. The junction has no value at the heads where the search ended, as the
+    /// rounds reached them.
     NoCertificate {
         problem: Problem,
         side: Side,

@@ -9,7 +9,7 @@ ghost use Rattle.hyd_period_network.specs.NetAsPeriodNetwork.{grid_of};
 ghost use Rattle.hyd_period_network.specs.SoundNets.{HasProblem};
 ghost use Rattle.hyd_sweep.specs.LeapingRounds.{AreLeapingRounds};
 ghost use Rattle.hyd_theorems_on_definitions.specs.SoundLawsAndGrids.{TanksInOrder};
-ghost use Rattle.hyd_period_vectors.specs.SoughtVectors.{HasOther, Fits, IsFound, IsTold};
+ghost use Rattle.hyd_period_vectors.specs.SoughtVectors.{HasOther, Fits, IsBegun, IsFound, IsTold};
 ghost use Rattle.hyd_period_vectors.specs.SoughtVectors.{IsSought, IsOffered, Tells};
 ghost use Rattle.hyd_period_vectors.specs.SoughtVectors.{Comes, Lacks};
 
@@ -48,7 +48,8 @@ fn propose<F: Finder>(
     check(net, problem, side, heads).is_ok()
 }
 
-// The tight vector of a problem and side, by at most so many rounds of raises from a start, with leaps between them.
+// The tight vector of a problem and side, by at most so many rounds of raises from a start, with leaps between them,
+// where rounds begin.
 fn sweep(
     net: &Net,
     problem: Problem,
@@ -59,6 +60,7 @@ fn sweep(
 ) -> Result<(), Lack>
     requires one_each { length heads.old ≡ length net.now.junctions }
     requires start { IsStart None (grid_of net.now) problem side heads.old }
+    requires begun { IsBegun (grid_of net.now) problem side heads.old }
     requires room { sweeper.old ≡ length heads.old }
     requires pinned { HasProblem net.now problem }
     ensures tight { OnOk result (IsTight (grid_of net.now) problem side heads.new) }

@@ -28,7 +28,7 @@ use Rattle.hyd_period_end.specs.declared.period_end.PeriodEnd.{PeriodEnd}
 use Rattle.hyd_period_vectors.specs.SoughtVectors.{HaveSame}
 use Rattle.hyd_sim.specs.PeriodAttempt.{AreSought, IsFault, IsMade, IsStarted, fault_stop_of, later_standing}
 use Rattle.hyd_sim.specs.PeriodAttempt.{next_standing}
-use Rattle.hyd_sim.specs.NarrowRecordsAndStops.{AreNarrow}
+use Rattle.hyd_sim.specs.NarrowRecordsAndStops.{AreNarrow, NamesStuck}
 use Rattle.hyd_sim.specs.Steps.{AreTight, AreToldOrLeft, IsAdvanced, IsDone, IsProposal, IsSharp, IsSharpAsSought}
 use Rattle.hyd_sim.specs.RunView.{IsStanding, standing_for}
 use Rattle.hyd_sim.specs.declared.settings.Settings.{Settings}
@@ -37,7 +37,7 @@ use Rattle.hyd_sim.specs.declared.period_attempt.Fault.TheVariants.{Lack, Open}
 use Rattle.hyd_sim.specs.declared.standing_between_periods.Standing.{Standing as Here}
 use Rattle.hyd_sim.proofs.MissingVectors.{lacks-one, same-as-given}
 use Rattle.hyd_sim.proofs.ProposedRecordIsTaken.{shares, none-open-at, same-row, same-next}
-use Rattle.hyd_sim.proofs.StopsAndTightRecords.{lack-stops, open-stops, tight-of, tight-row}
+use Rattle.hyd_sim.proofs.StopsAndTightRecords.{lack-stops, lack-stuck, open-stops, open-stuck, tight-of, tight-row}
 use Rattle.hyd_sim.proofs.StandingAfter.{at-later}
 use Rattle.hyd_lemmas.proofs.ListsOptionsAndResults.{as_long}
 
@@ -106,6 +106,16 @@ fault-stops project here net started row facts rounds told is count pinned (Open
     open-stops project (standing_for here) rounds (grid_of net) (row_of row)
     (tight-row project (standing_for here) (grid_of net) (row_of row) is.in_range is.is_grid pinned fault.0.each) found
     (fault.1 (row_of row) (shares-itself (row_of row)))
+
+pub fault-stuck : (project : Project) (here : Here) (grid : Grid) (row : Record) (rounds : ℕ) (told : Option (List ℤ))
+    → IsGridAt project (standing_for here) grid → (fault : Fault)
+    → IsFault true told project grid (standing_for here) rounds row fault
+    → NamesStuck project (standing_for here) rounds (fault_stop_of here.number rounds fault)
+fault-stuck project here grid row rounds told is (Lack lack) fault =
+    lack-stuck project (standing_for here) grid (tank_count project) rounds lack is
+    (lacks-one true told grid (tank_count project) rounds row lack fault)
+fault-stuck project here grid row rounds told is (Open found) fault =
+    open-stuck project (standing_for here) rounds here.number found
 
 -- ---- records that the finder tells, or leaves to rounds
 

@@ -73,7 +73,7 @@ module _ (told : Option (List ℤ)) (grid : Grid) (tanks rounds : ℕ) where
           ⊎ IsLeftToRounds told grid tanks rounds first.problem first.side (vector_of w first.problem first.side) → ⊥
       by why lacks (inl is) = first.unoffered (vector_of w first.problem first.side) is
       by (NoCertificate problem side junction) lacks (inr left) =
-          lacks.1.1.1 (vector_of w first.problem first.side) left.tight.is_certificate
+          lacks.1.1.1.0 (vector_of w first.problem first.side) left.tight.is_certificate
       by (RoundsSpent problem side) lacks (inr left) = left.unspent lacks.1.1
 
   -- a record all of whose vectors the finder tells has none that is left to rounds

@@ -19,7 +19,7 @@ use Rattle.hyd_cert.specs.RecordView.{IsProblemOf}
 use Rattle.hyd_period_network.proofs.NetOfSoundProject.{long_zipped}
 use Rattle.hyd_period_network.specs.NetView.{NetView}
 use Rattle.hyd_period_network.specs.NetsSetToPeriods.{IsNetOf}
-use Rattle.hyd_period_vectors.specs.SoughtVectors.{OfEach, Lacks, HasNone, AreSpent}
+use Rattle.hyd_period_vectors.specs.SoughtVectors.{OfEach, Lacks, HasNone, IsStuck, AreSpent}
 use Rattle.hyd_period_vectors.specs.declared.missing_vector.Lack.{Lack}
 use Rattle.hyd_period_vectors.specs.declared.missing_vector.Lack.TheVariants.{NoCertificate as LacksCertificate}
 use Rattle.hyd_period_vectors.specs.declared.missing_vector.Lack.TheVariants.{RoundsSpent as SpentRounds}
@@ -27,7 +27,7 @@ use Rattle.hyd_period_end.specs.OpenMatters.{IsOpenAt}
 use Rattle.hyd_period_end.specs.declared.undecided.Open.{Open}
 use Rattle.hyd_period_end.specs.declared.undecided.Open.TheVariants.{Rule as RuleIsFound, Event as EventIsFound}
 use Rattle.hyd_period_end.specs.declared.undecided.Open.TheVariants.{Tank as TankIsFound, Control as ControlIsFound}
-use Rattle.hyd_sim.specs.NarrowRecordsAndStops.{LacksOne, stop_of, open_stop_of}
+use Rattle.hyd_sim.specs.NarrowRecordsAndStops.{LacksOne, NamesStuck, stop_of, open_stop_of}
 use Rattle.hyd_sim.specs.Steps.{AreTight}
 use Rattle.hyd_sim.proofs.OpenMattersStop.{rule-stops, event-stops, tank-stops, control-stops}
 
@@ -94,7 +94,7 @@ lack-stops project standing grid tanks rounds lack each count in_range is one =
 
     by : (l : Lack) → Lacks grid one.problem one.side rounds l
         → Stops project standing rounds (stop_of standing.number rounds l)
-    by (LacksCertificate problem side junction) (p, (s, (less, lacking))) = record {
+    by (LacksCertificate problem side junction) (p, (s, (less, (lacking, stuck)))) = record {
       period_is = refl;
       holds = (
         subst (λ (n : ℕ). junction < n) count less,
@@ -108,6 +108,38 @@ lack-stops project standing grid tanks rounds lack each count in_range is one =
         moved (λ q t. SpendsRounds project standing q t rounds) problem side p s (spent over),
       );
     }
+
+-- the junction that it names
+pub lack-stuck : (project : Project) (standing : Standing) (grid : Grid) (tanks rounds : ℕ) (lack : Lack)
+    → IsGridAt project standing grid → LacksOne grid tanks rounds lack
+    → NamesStuck project standing rounds (stop_of standing.number rounds lack)
+lack-stuck project standing grid tanks rounds lack is one = by lack one.lacks
+  where
+    by : (l : Lack) → Lacks grid one.problem one.side rounds l
+        → NamesStuck project standing rounds (stop_of standing.number rounds l)
+    by (LacksCertificate problem side junction) (p, (s, (less, (lacking, stuck)))) = record {
+      stuck = λ period q t j e.
+          let a : one.problem ≡ q = cc in
+          let b : one.side ≡ t = cc in
+          let d : junction ≡ j = cc in
+          record {
+            grid = grid;
+            is_grid = is;
+            stuck = subst (λ (k : ℕ). IsStuck grid q t rounds k) d
+                (subst (λ (f : Side). IsStuck grid q f rounds junction) b
+                (subst (λ (r : Problem). IsStuck grid r one.side rounds junction) a stuck));
+          };
+    }
+    by (SpentRounds problem side) (p, (s, over)) = record { stuck = λ period q t j e. absurd (cc) }
+
+-- an open matter names no junction
+pub open-stuck : (project : Project) (standing : Standing) (rounds number : ℕ) (found : Open)
+    → NamesStuck project standing rounds (open_stop_of number found)
+open-stuck project standing rounds number (RuleIsFound found) = record { stuck = λ period q t j e. absurd (cc) }
+open-stuck project standing rounds number (EventIsFound earliest latest) =
+    record { stuck = λ period q t j e. absurd (cc) }
+open-stuck project standing rounds number (TankIsFound found) = record { stuck = λ period q t j e. absurd (cc) }
+open-stuck project standing rounds number (ControlIsFound found) = record { stuck = λ period q t j e. absurd (cc) }
 
 -- certificates of each problem and side
 pub certificates-of : (project : Project) (grid : Grid) (tanks : ℕ) (row : Record) → tanks ≡ tank_count project

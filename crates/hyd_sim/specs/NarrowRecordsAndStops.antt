@@ -1,8 +1,10 @@
--- How sharp a record is, and the stop where a period lacks a vector or a matter is open.
+-- How sharp a record is, and the stop where a period lacks a vector or a matter is open: which it is, what it says of
+-- the junction that it names, and where there is none.
 -- Source: this program's.
-use Rattle.std.specs.Prelude.{ℕ, ◌<◌, ℤ, pos, ◌+ℤ◌, ◌-ℤ◌, ◌*ℤ◌, ◌≤ℤ◌, List, slice_index_or}
+use Rattle.std.specs.Prelude.{◌≡◌, ℕ, ◌<◌, ℤ, pos, ◌+ℤ◌, ◌-ℤ◌, ◌*ℤ◌, ◌≤ℤ◌, List, slice_index_or}
 use Rattle.hyd_spec.specs.Assignment.{head_at}
 use Rattle.hyd_spec.specs.Lists.{Each}
+use Rattle.hyd_spec.specs.ProgramTypes.{Project}
 use Rattle.hyd_spec_certificates.specs.declared.Problem.{Problem}
 use Rattle.hyd_spec_certificates.specs.declared.Side.{Side}
 use Rattle.hyd_spec_certificates.specs.Interval.{Interval, width}
@@ -10,6 +12,8 @@ use Rattle.hyd_spec_certificates.specs.Narrow.{widest}
 use Rattle.hyd_spec_certificates.specs.Decided.{nowhere}
 use Rattle.hyd_spec_certificates.specs.PeriodNetwork.{Grid}
 use Rattle.hyd_spec_certificates.specs.Certificate.{IsCertificate}
+use Rattle.hyd_spec_certificates.specs.RecordAndStanding.{Standing}
+use Rattle.hyd_spec_certificates.specs.Valid.{IsGridAt}
 use Rattle.hyd_spec_reports.specs.TurnsOfProblems.{turn}
 use Rattle.hyd_spec_reports.specs.declared.StopCause.{StopCause}
 use Rattle.hyd_spec_reports.specs.declared.StopCause.TheVariants.{NoCertificate, RoundsSpent, RuleOpen, EventOpen}
@@ -17,7 +21,7 @@ use Rattle.hyd_spec_reports.specs.declared.StopCause.TheVariants.{TankOpen, Cont
 use Rattle.hyd_cert.specs.RecordView.{IsProblemOf}
 use Rattle.hyd_period_end.specs.declared.undecided.Open.{Open}
 use Rattle.hyd_period_end.specs.declared.undecided.Open.TheVariants.{Rule, Event, Tank, Control}
-use Rattle.hyd_period_vectors.specs.SoughtVectors.{Lacks}
+use Rattle.hyd_period_vectors.specs.SoughtVectors.{Lacks, IsStuck}
 use Rattle.hyd_period_vectors.specs.declared.missing_vector.Lack.{Lack}
 use Rattle.hyd_period_vectors.specs.declared.missing_vector.Lack.TheVariants.{NoCertificate as LacksCertificate}
 use Rattle.hyd_period_vectors.specs.declared.missing_vector.Lack.TheVariants.{RoundsSpent as SpentRounds}
@@ -46,6 +50,23 @@ stop_of number rounds (SpentRounds problem side) = RoundsSpent number problem si
 abbrev pub SaysNone : StopCause → Type 0
 SaysNone (NoCertificate period problem side junction) = Unit {0}
 SaysNone cause = ⊥
+
+-- a vector lacks since rounds toward it were spent
+abbrev pub IsBySpentRounds : Lack → Type 0
+IsBySpentRounds (SpentRounds problem side) = Unit {0}
+IsBySpentRounds lack = ⊥
+
+-- at a standing, on the grid of its period, a junction has no value at heads that were reached
+pub record IsStuckAt (project : Project) (standing : Standing) (problem : Problem) (side : Side)
+    (rounds junction : ℕ) : Type 0 where
+  pub grid : Grid
+  pub is_grid : IsGridAt project standing grid
+  pub stuck : IsStuck grid problem side rounds junction
+
+-- where a stop says that no vector is a certificate, it names a junction that has no value at heads that were reached
+pub record NamesStuck (project : Project) (standing : Standing) (rounds : ℕ) (cause : StopCause) : Type 0 where
+  pub stuck : (period : ℕ) (problem : Problem) (side : Side) (junction : ℕ)
+      → cause ≡ NoCertificate period problem side junction → IsStuckAt project standing problem side rounds junction
 
 -- the stop of a period with an open matter
 abbrev pub open_stop_of : ℕ → Open → StopCause

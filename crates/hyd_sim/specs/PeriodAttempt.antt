@@ -1,6 +1,6 @@
 -- An attempt at a period: its vectors, and the end of the period by them.
 -- Source: this program's.
-use Rattle.std.specs.Prelude.{◌≡◌, ◌≢◌, ℕ, suc, ◌+◌, ◌<◌, ℤ, Bool, true, false, List, Option, ◌==◌, if◌then◌else◌}
+use Rattle.std.specs.Prelude.{◌⊎◌, ◌≡◌, ◌≢◌, ℕ, suc, ◌+◌, ◌<◌, ℤ, Bool, true, false, List, Option, ◌==◌, if◌then◌else◌}
 use Rattle.hyd_spec.specs.ProgramTypes.{Project}
 use Rattle.hyd_spec.specs.NodeNumbers.{tank_count}
 use Rattle.hyd_spec_certificates.specs.PeriodNetwork.{Grid}
@@ -20,7 +20,8 @@ use Rattle.hyd_period_end.specs.OpenMatters.{IsOpenAt, SharesVectors}
 use Rattle.hyd_period_end.specs.declared.period_end.PeriodEnd.{PeriodEnd}
 use Rattle.hyd_period_facts.specs.FactsBeforeEnd.{HaveTanks}
 use Rattle.hyd_period_vectors.specs.SoughtVectors.{OfEach, IsSought, Comes, LacksFirst}
-use Rattle.hyd_sim.specs.NarrowRecordsAndStops.{stop_of, open_stop_of}
+use Rattle.hyd_period_vectors.specs.declared.missing_vector.Lack.{Lack as Missing}
+use Rattle.hyd_sim.specs.NarrowRecordsAndStops.{stop_of, open_stop_of, IsBySpentRounds}
 use Rattle.hyd_sim.specs.RunView.{standing_at, standing_for}
 use Rattle.hyd_sim.specs.declared.period_attempt.Fault.{Fault}
 use Rattle.hyd_sim.specs.declared.period_attempt.Fault.TheVariants.{Lack, Open}
@@ -81,6 +82,11 @@ pub record AreSought (tight : Bool) (told : Option (List ℤ)) (grid : Grid) (ta
     : Type 0 where
   pub each : OfEach (IsSought tight told grid tanks) tanks row
   pub come : OfEach (Comes tight told grid tanks rounds) tanks row
+
+-- an attempt that doesn't stop the run found each vector that it sought, or spent its rounds toward the first that lacks
+abbrev pub GoesOn : Option (List ℤ) → Grid → ℕ → ℕ → Record → Type 0
+GoesOn told grid tanks rounds row = AreSought false told grid tanks rounds row
+    ⊎ ((lack : Missing) × (IsBySpentRounds lack × LacksFirst false told grid tanks rounds row lack))
 
 -- why an attempt at a period failed: a vector is lacking, or they leave a matter open, as any record with them does
 abbrev pub IsFault : Bool → Option (List ℤ) → Project → Grid → Standing → ℕ → Record → Fault → Type 0

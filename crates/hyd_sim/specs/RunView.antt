@@ -22,6 +22,7 @@ use Rattle.hyd_period_facts.specs.declared.tanks_at_start.TankStart.{TankStart}
 use Rattle.hyd_period_end.specs.EndOfPeriod.{HasRoom as HasCloseRoom, AreKeptIn}
 use Rattle.hyd_period_end.specs.declared.period_end.PeriodEnd.{PeriodEnd}
 use Rattle.hyd_period_vectors.specs.SizeOfSearch.{Room}
+use Rattle.hyd_sim.specs.NarrowRecordsAndStops.{NamesStuck}
 use Rattle.hyd_sim.specs.declared.settings.Settings.{Settings}
 use Rattle.hyd_sim.specs.declared.standing_between_periods.Standing.{Standing as Here}
 
@@ -89,3 +90,4 @@ pub record IsSim (sim : SimView) : Type 0 where
   pub links : length sim.links ≡ length sim.project.links.list
   pub stopped : IfSome sim.stopped (λ cause. (sim.here.finished ≡ false)
       × Stops sim.project (standing_of sim) sim.settings.rounds cause)
+  pub stuck : IfSome sim.stopped (NamesStuck sim.project (standing_of sim) sim.settings.rounds)

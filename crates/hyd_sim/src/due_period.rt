@@ -14,8 +14,8 @@ ghost use Rattle.hyd_period_network.specs.NetAsPeriodNetwork.{grid_of};
 ghost use Rattle.hyd_period_network.specs.NetsSetToPeriods.{IsNetOf};
 ghost use Rattle.hyd_period_end.specs.EndOfPeriod.{HasRoom as HasCloseRoom};
 ghost use Rattle.hyd_period_vectors.specs.SoughtVectors.{HaveSame};
-ghost use Rattle.hyd_sim.specs.PeriodAttempt.{AreSought, IsMade, IsStarted, fault_stop_of, next_standing};
-ghost use Rattle.hyd_sim.specs.NarrowRecordsAndStops.{SaysNone};
+ghost use Rattle.hyd_sim.specs.PeriodAttempt.{AreSought, GoesOn, IsMade, IsStarted, fault_stop_of, next_standing};
+ghost use Rattle.hyd_sim.specs.NarrowRecordsAndStops.{NamesStuck, SaysNone};
 ghost use Rattle.hyd_sim.specs.Steps.{AreTight, IsAdvanced, IsDone, IsProposal};
 ghost use Rattle.hyd_sim.specs.RunView.{IsStanding, header_for, standing_for};
 
@@ -78,6 +78,7 @@ pub(crate) fn start_period(
     ensures started { OnOk result (IsStarted project.now standing.now net.new row.new facts.new) }
     ensures in_range { (DemandsAreInRange project.now standing.now.time) → IsOk result }
     ensures stops { (rounds : ℕ) → IfErr result (Stops project.now (standing_for standing.now) rounds) }
+    ensures stuck { (rounds : ℕ) → IfErr result (NamesStuck project.now (standing_for standing.now) rounds) }
     ensures of { IsNetOf project.now net.new }
     ensures header { header_of row.new ≡ header_of row.old }
     ensures facts { HasRoom project.now facts.new }
@@ -134,6 +135,7 @@ fn tighten<F: Finder>(
     ensures sought { OnOk result (AreSought true (F.told finder.old) (grid_of net.now) (tank_count project.now) rounds
         (row_of row.new)) }
     ensures stops { IfErr result (Stops project.now (standing_for standing.now) rounds) }
+    ensures stuck { IfErr result (NamesStuck project.now (standing_for standing.now) rounds) }
     ensures header { header_of row.new ≡ header_of row.old }
     ensures facts { HasRoom project.now facts.new }
     ensures close { HasCloseRoom project.now close.new }
@@ -178,7 +180,10 @@ fn does<F: Finder>(
     ensures sought { IfOk result (λ fits. fits ≡ true → AreSought false (F.told finder.old) (grid_of net.now)
         (tank_count project.now) settings.rounds (row_of row.new)) }
     ensures stops { IfErr result (Stops project.now (standing_for standing.now) settings.rounds) }
+    ensures stuck { IfErr result (NamesStuck project.now (standing_for standing.now) settings.rounds) }
     ensures certain { IfErr result SaysNone }
+    ensures goes_on { IfOk result (λ fits. GoesOn (F.told finder.old) (grid_of net.now) (tank_count project.now)
+        settings.rounds (row_of row.new)) }
     ensures proposal { (w : Row) → IsProposal (F.told finder.old) project.now settings (standing_for standing.now) w
         → (result ≡ Ok true) × HaveSame (tank_count project.now) (row_of row.new) w }
     ensures header { header_of row.new ≡ header_of row.old }
@@ -226,6 +231,7 @@ fn do_period<F: Finder>(
     ensures done { OnOk result (IsDone (F.told finder.old) project.now settings standing.now net.new row.new facts.new
         close.new) }
     ensures stops { IfErr result (Stops project.now (standing_for standing.now) settings.rounds) }
+    ensures stuck { IfErr result (NamesStuck project.now (standing_for standing.now) settings.rounds) }
     ensures of { IsNetOf project.now net.new }
     ensures search { search.new ≡ search.old }
     ensures header { header_of row.new ≡ header_of row.old }
@@ -296,6 +302,7 @@ pub(crate) fn advance<F: Finder>(
     ensures advanced { OnOk result (IsAdvanced (F.told finder.old) project.now settings (standing_for standing.old)
         net.new row.new facts.new (standing_for standing.new)) }
     ensures stops { IfErr result (Stops project.now (standing_for standing.old) settings.rounds) }
+    ensures stuck { IfErr result (NamesStuck project.now (standing_for standing.old) settings.rounds) }
     ensures stays { OnErr result (standing.new ≡ standing.old) }
     ensures standing { IsStanding project.now standing.new }
     ensures of { IsNetOf project.now net.new }

@@ -2,7 +2,7 @@
 #![tactic(auto)]
 
 ghost use Rattle.std.specs.Prelude.{◌≡◌, false, IfErr, IfOk};
-ghost use Rattle.hyd_sim.specs.NarrowRecordsAndStops.{SaysNone, stop_of, open_stop_of};
+ghost use Rattle.hyd_sim.specs.NarrowRecordsAndStops.{SaysNone, IsBySpentRounds, stop_of, open_stop_of};
 
 use hyd_period_end::Open;
 use hyd_period_network::PeriodDemand;
@@ -45,11 +45,12 @@ pub(crate) fn lack_stop(number: u32, rounds: u32, lack: Lack) -> StopCause
 }
 
 /// Whether a period that lacks a vector is done: it isn't, but where only rounds were spent the tight vectors may be
-/// reached from other starts. Fails with the stop where no vector is a certificate.
+/// reached from other starts. Fails with the stop where no vector is a certificate, and only there.
 pub(crate) fn lack_fits(number: u32, rounds: u32, lack: Lack) -> Result<bool, StopCause>
     ensures stop { IfErr result (λ cause. cause ≡ stop_of number rounds lack) }
     ensures certain { IfErr result SaysNone }
     ensures goes_on { IfOk result (λ fits. fits ≡ false) }
+    ensures spent { IfOk result (λ fits. IsBySpentRounds lack) }
 {
     match lack {
         Lack::NoCertificate { .. } => Err(lack_stop(number, rounds, lack)),

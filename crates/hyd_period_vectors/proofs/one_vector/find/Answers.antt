@@ -1,7 +1,7 @@
 use Rattle.hyd_period_network.specs.NetAsPeriodNetwork.{grid_of}
 use Rattle.hyd_spec_certificates.specs.Certificate.{IsTight}
 use Rattle.std.specs.Prelude.{length}
-use Rattle.std.proofs.Common.{ℕ, ◌≤◌}
+use Rattle.std.proofs.Common.{ℕ, ◌≤◌, inl}
 use Rattle.std.specs.Prelude.{None}
 use Rattle.hyd_sweep.specs.LeapingRounds.{AreLeapingRounds}
 use Rattle.hyd_period_vectors.specs.SoughtVectors.{IsSought, IsAtHand, Comes}
@@ -32,3 +32,6 @@ returns-clause-comes g c =
     (λ goes. other-comes c.args.tight told grid tanks c.args.rounds c.args.problem c.args.side u c.if-tight.false
     (reached IsAtHand grid c.args.problem c.args.side c.args.rounds first u c.begin_near.ensures.begun goes))
     c.sweep-2.ensures.goes
+
+pub sweep-requires-2-clause-begun : goal.sweep-requires-2-clause-begun
+sweep-requires-2-clause-begun g c = inl c.begin_near.ensures.begun

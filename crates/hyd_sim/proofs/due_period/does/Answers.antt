@@ -1,4 +1,4 @@
-use Rattle.std.proofs.Common.{◌≡◌, ℕ, Bool, true, false, refl, sym, ap, subst, ◌∙◌}
+use Rattle.std.proofs.Common.{◌≡◌, ℕ, Bool, true, false, refl, sym, ap, subst, ◌∙◌, inl, inr}
 use Rattle.std.specs.Prelude.{length, Ok, Err, Result, IfOk}
 use Rattle.hyd_spec.specs.NodeNumbers.{junction_count, tank_count}
 use Rattle.std.proofs.Common.{ℤ, arith, to_z, of_z, w64}
@@ -13,12 +13,12 @@ use Rattle.hyd_cert.proofs.VectorLemmas.{problems_length}
 use Rattle.hyd_period_network.specs.NetAsPeriodNetwork.{grid_of}
 use Rattle.hyd_period_vectors.specs.SizeOfSearch.{Room}
 use Rattle.hyd_period_vectors.specs.SoughtVectors.{LacksFirst}
-use Rattle.hyd_sim.specs.PeriodAttempt.{AreSought, IsFault, next_standing}
-use Rattle.hyd_sim.specs.NarrowRecordsAndStops.{stop_of}
+use Rattle.hyd_sim.specs.PeriodAttempt.{AreSought, GoesOn, IsFault, next_standing}
+use Rattle.hyd_sim.specs.NarrowRecordsAndStops.{IsBySpentRounds, NamesStuck, stop_of}
 use Rattle.hyd_sim.specs.RunView.{standing_for}
 use Rattle.hyd_sim.proofs.DuePeriodLemmas.{heads-each, next-long, told-here, same-here, nothing-open, narrow-too}
 use Rattle.hyd_sim.proofs.MissingVectors.{if-err, lacks-one, none-lacking}
-use Rattle.hyd_sim.proofs.StopsAndTightRecords.{net-junctions, lack-stops}
+use Rattle.hyd_sim.proofs.StopsAndTightRecords.{net-junctions, lack-stops, lack-stuck}
 use Rattle.hyd_sim.proofs.due_period.does.Goals as goal
 
 -- where a period isn't done nothing need hold of its record
@@ -26,6 +26,12 @@ not-done : {E : Type 0} (P : Type 0) (result : Result Bool E) → IfOk result (�
     → IfOk result (λ fits. fits ≡ true → P)
 not-done P (Ok fits) e = λ is. absurd (cc)
 not-done P (Err fault) e = e
+
+-- where it goes on, rounds were spent
+spent-on : {E : Type 0} (P Q : Type 0) (result : Result Bool E) → (P → Q) → IfOk result (λ fits. P)
+    → IfOk result (λ fits. Q)
+spent-on P Q (Ok fits) f p = f p
+spent-on P Q (Err fault) f p = tt
 
 kept-true : (fits : Bool) → (fits ≡ false → ⊥) → fits ≡ true
 kept-true true never = refl
@@ -132,3 +138,54 @@ returns-in-Err-Open-clause-proposal g c = λ w p.
     (ap (λ (room : Room). room.rounds) c.requires.search) fault.0 in
     absurd (nothing-open project c.args.settings standing grid c.requires.started.is_grid told w p
     c.junctions-junctions.ensures.steady c.requires.started.order (row_of row) pinned sought _ fault.1)
+
+pub returns-in-Ok-clause-goes_on : goal.returns-in-Ok-clause-goes_on
+returns-in-Ok-clause-goes_on g c =
+    inl (subst (λ (n : ℕ). AreSought false (g.F.Finder.told c.args.finder.now) (grid_of c.args.net.now)
+    (tank_count c.args.project.now) n (row_of c.try_period.new.row)) (ap (λ (room : Room). room.rounds)
+    c.requires.search) c.in-Ok.ensures.sought)
+
+pub returns-in-Err-Lack-clause-goes_on : goal.returns-in-Err-Lack-clause-goes_on
+returns-in-Err-Lack-clause-goes_on g c =
+    let project = c.args.project.now in
+    let standing = standing_for c.args.standing.now in
+    let grid = grid_of c.args.net.now in
+    let told = g.F.Finder.told c.args.finder.now in
+    let row = row_of c.try_period.new.row in
+    let first : LacksFirst false told grid (tank_count project) c.args.settings.rounds row c.in-Err-Lack.lack =
+    subst (λ (n : ℕ). LacksFirst false told grid (tank_count project) n row c.in-Err-Lack.lack)
+    (ap (λ (room : Room). room.rounds) c.requires.search) (subst (IsFault false told project grid standing
+    c.args.search.now.rounds row) c.in-Err-Lack.field-0-is c.in-Err-Lack.ensures.fault) in
+    spent-on (IsBySpentRounds c.in-Err-Lack.lack) (GoesOn told grid (tank_count project) c.args.settings.rounds row)
+    c.lack_fits.result (λ spent. inr (c.in-Err-Lack.lack, (spent, first))) c.lack_fits.ensures.spent
+
+pub returns-in-Err-Open-clause-goes_on : goal.returns-in-Err-Open-clause-goes_on
+returns-in-Err-Open-clause-goes_on g c =
+    let project = c.args.project.now in
+    let standing = standing_for c.args.standing.now in
+    let grid = grid_of c.args.net.now in
+    let told = g.F.Finder.told c.args.finder.now in
+    let row = row_of c.try_period.new.row in
+    let fault = subst (IsFault false told project grid standing c.args.search.now.rounds row)
+    c.in-Err-Open.field-0-is c.in-Err-Open.ensures.fault in
+    inl (subst (λ (n : ℕ). AreSought false told grid (tank_count project) n row)
+    (ap (λ (room : Room). room.rounds) c.requires.search) fault.0)
+
+pub returns-in-Err-Lack-clause-stuck : goal.returns-in-Err-Lack-clause-stuck
+returns-in-Err-Lack-clause-stuck g c =
+    let project = c.args.project.now in
+    let standing = standing_for c.args.standing.now in
+    let grid = grid_of c.args.net.now in
+    let told = g.F.Finder.told c.args.finder.now in
+    let row = row_of c.try_period.new.row in
+    let first : LacksFirst false told grid (tank_count project) c.args.settings.rounds row c.in-Err-Lack.lack =
+    subst (λ (n : ℕ). LacksFirst false told grid (tank_count project) n row c.in-Err-Lack.lack)
+    (ap (λ (room : Room). room.rounds) c.requires.search) (subst (IsFault false told project grid standing
+    c.args.search.now.rounds row) c.in-Err-Lack.field-0-is c.in-Err-Lack.ensures.fault) in
+    let stuck = lack-stuck project standing grid (tank_count project) c.args.settings.rounds c.in-Err-Lack.lack
+    c.requires.started.is_grid
+    (lacks-one false told grid (tank_count project) c.args.settings.rounds row c.in-Err-Lack.lack first) in
+    if-err (λ (cause : StopCause). cause ≡ stop_of c.args.standing.now.number c.args.settings.rounds c.in-Err-Lack.lack)
+    (λ (cause : StopCause). NamesStuck project standing c.args.settings.rounds cause) c.lack_fits.result
+    (λ cause same. subst (λ (other : StopCause). NamesStuck project standing c.args.settings.rounds other) (sym same)
+    stuck) c.lack_fits.ensures.stop

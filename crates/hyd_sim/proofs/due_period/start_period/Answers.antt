@@ -11,6 +11,7 @@ use Rattle.hyd_spec_reports.specs.declared.StopCause.{StopCause}
 use Rattle.hyd_period_network.specs.NetAsPeriodNetwork.{grid_of}
 use Rattle.hyd_period_network.specs.NetsSetToPeriods.{AreLevels}
 use Rattle.hyd_period_network.specs.LawsInSettings.{AreStates}
+use Rattle.hyd_sim.specs.NarrowRecordsAndStops.{NamesStuck}
 use Rattle.hyd_sim.specs.RunView.{standing_for}
 use Rattle.hyd_sim.proofs.LevelsInOrderAtStart.{levels-there, order-there}
 use Rattle.hyd_sim.proofs.StopsAndTightRecords.{no-demand-out}
@@ -59,3 +60,8 @@ pub returns-in-Err-clause-stops : goal.returns-in-Err-clause-stops
 returns-in-Err-clause-stops c = λ rounds.
     subst (λ (cause : StopCause). Stops c.args.project.now (standing_for c.args.standing.now) rounds cause)
     (sym c.demand_stop.ensures) (record { period_is = refl; holds = c.in-Err.ensures.refused })
+
+pub returns-in-Err-clause-stuck : goal.returns-in-Err-clause-stuck
+returns-in-Err-clause-stuck c = λ rounds.
+    subst (λ (cause : StopCause). NamesStuck c.args.project.now (standing_for c.args.standing.now) rounds cause)
+    (sym c.demand_stop.ensures) (record { stuck = λ period q t j e. absurd (cc) })

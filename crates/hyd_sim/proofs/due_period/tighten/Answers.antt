@@ -10,8 +10,9 @@ use Rattle.hyd_cert.proofs.VectorLemmas.{problems_length}
 use Rattle.hyd_period_network.specs.NetAsPeriodNetwork.{grid_of}
 use Rattle.hyd_period_vectors.specs.SizeOfSearch.{Room}
 use Rattle.hyd_sim.specs.PeriodAttempt.{AreSought, IsFault}
+use Rattle.hyd_sim.specs.NarrowRecordsAndStops.{NamesStuck}
 use Rattle.hyd_sim.specs.RunView.{standing_for}
-use Rattle.hyd_sim.proofs.DuePeriodLemmas.{fault-stops}
+use Rattle.hyd_sim.proofs.DuePeriodLemmas.{fault-stops, fault-stuck}
 use Rattle.hyd_sim.proofs.StopsAndTightRecords.{net-junctions, tight-of}
 use Rattle.hyd_sim.proofs.due_period.tighten.Goals as goal
 
@@ -40,4 +41,16 @@ returns-in-Err-clause-stops g c =
     (g.F.Finder.told c.args.finder.now) c.requires.started count pinned c.in-Err.fault
     (subst (λ (n : ℕ). IsFault true (g.F.Finder.told c.args.finder.now) project (grid_of c.args.net.now)
     (standing_for c.args.standing.now) n (row_of row) c.in-Err.fault) (ap (λ (room : Room). room.rounds)
+    c.requires.search) c.in-Err.ensures.fault))
+
+pub returns-in-Err-clause-stuck : goal.returns-in-Err-clause-stuck
+returns-in-Err-clause-stuck g c =
+    let project = c.args.project.now in
+    let row = row_of c.try_period.new.row in
+    subst (λ (cause : StopCause). NamesStuck project (standing_for c.args.standing.now) c.args.rounds cause)
+    (sym c.fault_stop.ensures)
+    (fault-stuck project c.args.standing.now (grid_of c.args.net.now) row c.args.rounds
+    (g.F.Finder.told c.args.finder.now) c.requires.started.is_grid c.in-Err.fault
+    (subst (λ (n : ℕ). IsFault true (g.F.Finder.told c.args.finder.now) project (grid_of c.args.net.now)
+    (standing_for c.args.standing.now) n row c.in-Err.fault) (ap (λ (room : Room). room.rounds)
     c.requires.search) c.in-Err.ensures.fault))
