@@ -1,227 +1,46 @@
-//! The desk on real files, tried on the system: which file a name opens, that a file keeps what was
-//! written, that what is printed goes out, and which files are never overwritten. It prints a file that lies in a
-//! folder, and ends with status 0 where all is as it should be.
+//! The desk and the program on real files. Without words it tries the desk by itself and then `hyd` in processes of its
+//! own, with standard output going into files; it prints a file that lies in a folder, and ends with status 0 where all
+//! is as it should be. With words it is `hyd`, as the processes that it makes are.
 #![tactic(auto)]
 
-use hyd_io::{Call, Channel, Desk, Failed, FileDesk, InFault, OutFault, Pen, read_all};
-use std::alloc::{AllocError, Global};
-use std::process::ExitCode;
-use std::rt::Files;
+mod desk_by_itself;
+mod redirections;
+mod wrong;
 
-/// A file that lies there: a name of more than 31 bytes, in a folder.
-const GIVEN: &str = "folder/a_text_whose_name_is_longer_than_31_bytes.txt";
+use crate::desk_by_itself::try_desk;
+use crate::redirections::try_redirections;
+use crate::wrong::Wrong;
+use hyd_cli::run_program;
+use std::alloc::Global;
+use std::env;
+use std::fs::File;
+use std::process::{ExitCode, Processes};
+use std::rt::{Env, Files};
 
-/// Files that are made.
-const MADE: [&str; 3] = [
-    "made.tmp",
-    "folder/made.tmp",
-    "another_file_whose_name_is_longer_than_31_bytes.tmp",
-];
-
-/// How many bytes each of them gets by one call: more than any buffer holds.
-const LENGTH: usize = 120_000;
-
-/// What each of them gets when it is made anew: of the longer bytes nothing is left.
-const SHORT: &[u8] = b"HYDCERT and no more\n";
-
-/// Files that lie there, and what they hold: one that is empty, and three that aren't.
-const EMPTY: &str = "empty.txt";
-
-const NETWORK: &str = "folder/network.inp";
-
-const LETTER: &str = "folder/letter.txt";
-
-const CERTIFICATE: &str = "folder/old.cert";
-
-const NETWORK_TEXT: &[u8] = b"[Title]\nA network that somebody drew\n";
-
-const LETTER_TEXT: &[u8] = b"HYDCER is no certificate\n";
-
-/// What went wrong.
-enum Wrong {
-    /// There was no memory.
-    OutOfMemory,
-    /// A call failed or took nothing.
-    Fault,
-    /// A file didn't hold what it should, or one was there that shouldn't be.
-    Content,
-}
-
-impl From<AllocError> for Wrong {
-    fn from(_error: AllocError) -> Wrong {
-        Wrong::OutOfMemory
-    }
-}
-
-impl From<Failed> for Wrong {
-    fn from(_failed: Failed) -> Wrong {
-        Wrong::Fault
-    }
-}
-
-impl From<OutFault> for Wrong {
-    fn from(_fault: OutFault) -> Wrong {
-        Wrong::Fault
-    }
-}
-
-impl From<InFault> for Wrong {
-    fn from(fault: InFault) -> Wrong {
-        match fault {
-            InFault::OutOfMemory => Wrong::OutOfMemory,
-            InFault::Fault => Wrong::Fault,
-            InFault::TooLong => Wrong::Content,
-        }
-    }
-}
-
-/// Tries the desk on the files and the standard output of the host.
+/// Tries all on the files and the standard output of the host, or is `hyd`.
 fn main(rt: HostRuntime) -> ExitCode {
+    if has_words(&rt) {
+        return ExitCode::from(run_program(rt).number());
+    }
     match try_all(rt.alloc(), &rt) {
         Ok(()) => ExitCode::SUCCESS,
-        Err(Wrong::OutOfMemory) => ExitCode::from(1),
-        Err(Wrong::Fault) => ExitCode::from(2),
-        Err(Wrong::Content) => ExitCode::from(3),
+        Err(wrong) => wrong.status(),
     }
 }
 
-/// Tries all, each kind of trial at a desk of its own.
-fn try_all<R: Files + Print + Drop>(alloc: Global, rt: &R) -> Result<(), Wrong> {
-    try_bytes(alloc, &mut FileDesk::new(rt))?;
-    try_itself(alloc, &mut FileDesk::new(rt))?;
-    try_others(alloc, &mut FileDesk::new(rt))?;
-    try_networks(alloc, rt)
-}
-
-/// Prints the file that lies there, makes the others, and reads them back.
-fn try_bytes<R: Files + Print + Drop>(alloc: Global, desk: &mut FileDesk<R>) -> Result<(), Wrong> {
-    print_given(alloc, desk)?;
-    for (place, name) in MADE.iter().enumerate() {
-        make(desk, name, varied(alloc, place)?.as_slice())?;
-    }
-    for (place, name) in MADE.iter().enumerate() {
-        expect(alloc, desk, name, varied(alloc, place)?.as_slice())?;
-    }
-    // The file that was read last is open still.
-    desk.open(GIVEN)?;
-    for name in MADE {
-        make(desk, name, SHORT)?;
-    }
-    for name in MADE {
-        expect(alloc, desk, name, SHORT)?;
-    }
-    match desk.open("no_such_file.tmp") {
-        Ok(()) => Err(Wrong::Content),
-        Err(_) => Ok(()),
+/// Whether words were given behind the program's name.
+fn has_words<R: Env + AllocGlobal>(rt: &R) -> bool {
+    match env::args(rt) {
+        Ok(words) => words.count() > 1,
+        Err(_) => false,
     }
 }
 
-/// The file that is read isn't created over, nor the one that was created last, by whatever name.
-fn try_itself<R: Files + Print + Drop>(alloc: Global, desk: &mut FileDesk<R>) -> Result<(), Wrong> {
-    desk.open("made.tmp")?;
-    refuse(desk, "./made.tmp")?;
-    refuse(desk, "folder/../made.tmp")?;
-    make(desk, "folder/made.tmp", SHORT)?;
-    refuse(desk, "folder/./made.tmp")?;
-    expect(alloc, desk, "made.tmp", SHORT)?;
-    expect(alloc, desk, "folder/made.tmp", SHORT)
-}
-
-/// A file that holds something else isn't created over; a certificate is, and an empty file.
-fn try_others<R: Files + Print + Drop>(alloc: Global, desk: &mut FileDesk<R>) -> Result<(), Wrong> {
-    desk.open(GIVEN)?;
-    refuse(desk, LETTER)?;
-    refuse(desk, NETWORK)?;
-    refuse(desk, "folder")?;
-    refuse(desk, "no_such_folder/file.tmp")?;
-    make(desk, CERTIFICATE, SHORT)?;
-    make(desk, EMPTY, SHORT)?;
-    expect(alloc, desk, LETTER, LETTER_TEXT)?;
-    expect(alloc, desk, NETWORK, NETWORK_TEXT)?;
-    expect(alloc, desk, CERTIFICATE, SHORT)?;
-    expect(alloc, desk, EMPTY, SHORT)
-}
-
-/// What a desk creates before all else may take the place of a network, and of nothing else; what it creates then may
-/// not.
-fn try_networks<R: Files + Print + Drop>(alloc: Global, rt: &R) -> Result<(), Wrong> {
-    refuse(&mut FileDesk::new(rt), LETTER)?;
-    let mut desk = FileDesk::new(rt);
-    make(&mut desk, NETWORK, NETWORK_TEXT)?;
-    make(&mut desk, CERTIFICATE, SHORT)?;
-    refuse(&mut desk, NETWORK)?;
-    expect(alloc, &mut desk, LETTER, LETTER_TEXT)?;
-    expect(alloc, &mut desk, NETWORK, NETWORK_TEXT)?;
-    expect(alloc, &mut desk, CERTIFICATE, SHORT)
-}
-
-/// A file that can't be created.
-fn refuse<R: Files + Print + Drop>(desk: &mut FileDesk<R>, name: &str) -> Result<(), Wrong> {
-    if desk.create(name).is_ok() {
-        return Err(Wrong::Content);
-    }
-    match desk.failure() {
-        Some(failure) if failure.call == Call::Create && failure.file == name => Ok(()),
-        _ => Err(Wrong::Content),
-    }
-}
-
-/// Prints the whole file that lies there, by one call if it takes it all.
-fn print_given<R: Files + Print + Drop>(
+/// Tries the desk, and then the program.
+fn try_all<R: Files<File = File> + Processes + AllocGlobal + Print + Drop>(
     alloc: Global,
-    desk: &mut FileDesk<R>,
+    rt: &R,
 ) -> Result<(), Wrong> {
-    desk.open(GIVEN)?;
-    let text = read_all(alloc, desk, LENGTH)?;
-    let printed = desk.print(text.as_slice())?;
-    let mut pen = Pen::new(Channel::Report);
-    pen.put(desk, &text[printed..])?;
-    pen.flush(desk)?;
-    Ok(())
-}
-
-/// Makes a file of these bytes, by one call if it takes them all.
-fn make<R: Files + Print + Drop>(
-    desk: &mut FileDesk<R>,
-    name: &str,
-    bytes: &[u8],
-) -> Result<(), Wrong> {
-    desk.create(name)?;
-    let written = desk.write(bytes)?;
-    let mut pen = Pen::new(Channel::Cert);
-    pen.put(desk, &bytes[written..])?;
-    pen.flush(desk)?;
-    Ok(())
-}
-
-/// Reads a file, a first part of it by one call, and compares it with the bytes.
-fn expect<R: Files + Print + Drop>(
-    alloc: Global,
-    desk: &mut FileDesk<R>,
-    name: &str,
-    bytes: &[u8],
-) -> Result<(), Wrong> {
-    desk.open(name)?;
-    let mut front = vec![in alloc; 0u8; LENGTH + 1]?;
-    let n = desk.read(front.as_mut_slice())?;
-    front.truncate(n);
-    let rest = read_all(alloc, desk, LENGTH)?;
-    front.extend_from_slice(rest.as_slice())?;
-    if front.as_slice() == bytes {
-        Ok(())
-    } else {
-        Err(Wrong::Content)
-    }
-}
-
-/// Bytes of all values in no order behind the front of a certificate, others for each place.
-fn varied(alloc: Global, place: usize) -> Result<Vec<u8>, AllocError> {
-    let mut bytes = Vec::new(alloc);
-    bytes.extend_from_slice(b"HYDCERT")?;
-    let mut state = (place as u64).wrapping_add(1);
-    for _ in bytes.len()..LENGTH {
-        state = state.wrapping_mul(1_103_515_245).wrapping_add(12_345);
-        bytes.push(((state >> 16) % 256) as u8)?;
-    }
-    Ok(bytes)
+    try_desk(alloc, rt)?;
+    try_redirections(alloc, rt)
 }

@@ -8,7 +8,7 @@ use std::test::Fail;
 #[test]
 fn refused_texts(rt: HostRuntime) -> Result<(), Fail> {
     let alloc = rt.alloc();
-    let table: [(&[u8], &str); 17] = [
+    let table: [(&[u8], &str); 18] = [
         (
             b"[OPTIONS]\nUNITS CFS\nHEADLOSS C-M\n[RESERVOIRS]\nA 100\nB 99\n[PIPES]\n\
               P A B 1000000 0.1 0.01 0\nQ A B 0.001 400 0.01 0\n",
@@ -56,6 +56,12 @@ fn refused_texts(rt: HostRuntime) -> Result<(), Fail> {
             b"[OPTIONS]\nUNITS CMD\nHEADLOSS C-M\n[RESERVOIRS]\nA 12\nB 10\n[CURVES]\nG 0 1\nG 100 1\n\
               G 200 4\n[VALVES]\nV A B 300 GPV G 0\n",
             "12 Range",
+        ),
+        // (a first flow that a cut to ticks would take to 0)
+        (
+            b"[OPTIONS]\nUNITS CMD\nHEADLOSS C-M\n[RESERVOIRS]\nA 12\nB 10\n[CURVES]\nG -0.000000001 40\n\
+              G 1000 30\nG 2000 20\nG 3000 10\n[PUMPS]\nP A B HEAD G\n",
+            "13 Range",
         ),
         (b"J 0\n", "1 Syntax"),
         (b"[JUNCTIONS]\nK 0 \xe9\n", "2 Syntax"),
