@@ -1,0 +1,45 @@
+//! Command lines on real files and standard output.
+
+use crate::files_and_words::{text_of, word_at, words_in};
+use hyd_cli::tool;
+use hyd_io::FileDesk;
+use std::{fs, io};
+
+/// Runs each command line of the list.
+pub(crate) fn run_all(rt: &HostRuntime) -> io::Result<()> {
+    let list = text_of(rt, "commands.txt")?;
+    for line in list.lines() {
+        run_line(rt, line)?;
+    }
+    Ok(())
+}
+
+/// Runs a command line: prints it, what it prints, its status and, behind a run, the bytes of CERT if there are some.
+fn run_line(rt: &HostRuntime, line: &str) -> io::Result<()> {
+    println!(rt; "$ hyd {line}")?;
+    let words = words_in(rt.alloc(), line)?;
+    let status = tool(rt.alloc(), &words, &mut FileDesk::new(rt));
+    println!(rt; "status {}", status.number())?;
+    if word_at(&words, 0) == "run" {
+        return print_certificate(rt, &words);
+    }
+    Ok(())
+}
+
+/// Prints the bytes of the first file whose name ends as that of a certificate.
+fn print_certificate(rt: &HostRuntime, words: &[String]) -> io::Result<()> {
+    for word in words {
+        if word.as_str().ends_with(".cert") {
+            return print_file(rt, word.as_str());
+        }
+    }
+    Ok(())
+}
+
+/// Prints the bytes of a file, if there is one.
+fn print_file(rt: &HostRuntime, name: &str) -> io::Result<()> {
+    match fs::read(rt, name) {
+        Ok(bytes) => rt.write_all(&bytes),
+        Err(_) => Ok(()),
+    }
+}
