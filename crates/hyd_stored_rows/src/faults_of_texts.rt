@@ -3,9 +3,9 @@
 use crate::lines::GREATEST_TEXT;
 use crate::words::{bytes_of, put_cause};
 use hyd_inp::find_fault;
-use hyd_judge_single_rows::first_by_itself;
 use hyd_lex::Lines;
 use hyd_net::Cause;
+use hyd_network_rows::first_by_itself;
 use hyd_rows_and_tables::{Found, gather, kept, least};
 use std::alloc::{AllocError, Global};
 use std::fmt::Write;
