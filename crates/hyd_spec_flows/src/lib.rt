@@ -6,7 +6,7 @@ use hyd_spec_certificates::Side;
 
 /// Why a part of a certificate with the vectors of named links is refused (this program's own). Links and junctions
 /// count from 0.
-#[derive(Debug, Clone, Copy, PartialEq, Eq, Drop)]
+#[derive(Clone, Copy, Drop)]
 pub enum FlowFails {
     /// The first link of the part that doesn't join two junctions, or was named before in it.
     Name {
