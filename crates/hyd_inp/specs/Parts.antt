@@ -52,5 +52,5 @@ pub record AreParts (rows : List Row) (parts : Parts) : Type 0 where
 -- what has all parts of a file's network is its network
 abbrev pub AreAll : Ids → Parts → Options → Times → Project → Type 0
 AreAll ids parts options times project =
-    (rows : List Row) → ids.nodes ≡ node_ids rows → ids.links ≡ link_ids rows → AreParts rows parts → IsOptions rows options → IsTimes rows times
+    (rows : List Row) (numbers : Numbers) → AreNumbers rows numbers → AreIds numbers ids → AreParts rows parts → IsOptions rows options → IsTimes rows times
     → IsProject rows project

@@ -6,3 +6,4 @@ pub mod LoopLemmas
 pub mod PrintLemmas
 pub mod ReportLemmas
 pub mod StopLemmas
+pub mod FlowPieces

@@ -1,5 +1,5 @@
-//! What puts out the report of a period, the last line of a run or of a check, and the one line of an input file that
-//! is refused.
+//! What puts out the report of a period, the lines of the flows of named links, the last line of a run or of a check,
+//! and the one line of an input file that is refused.
 //!
 //! Tested by the runs of `hyd_stored_runs`.
 #![tactic(auto)]
@@ -7,6 +7,7 @@
 mod changes;
 mod done_partial_and_refused_end;
 mod events;
+mod flow_lines;
 mod ids;
 mod junctions;
 mod line_pieces;
@@ -24,7 +25,9 @@ mod stops;
 mod tanks;
 
 pub use done_partial_and_refused_end::{put_done, put_partial, put_refused_end};
+pub use flow_lines::{put_flow_line, put_refused_flow};
 pub use refused_records::put_refused;
 pub use refused_text::put_refused_text;
 pub use report::put_report;
+pub use report_time::is_report_time;
 pub use stops::put_stop;

@@ -25,7 +25,7 @@ pub(crate) fn put_time<D: Desk>(time: u32, pen: &mut Pen, desk: &mut D) -> Resul
 
 /// Whether a period that begins at a time, in seconds, is reported: the report start plus a multiple of the report
 /// step.
-pub(crate) fn is_report_time(project: &Project, time: u32) -> bool
+pub fn is_report_time(project: &Project, time: u32) -> bool
     requires { IsSound project.now }
     ensures { result ≡ is_report_time project.now time }
 {
