@@ -1,5 +1,5 @@
 -- Edges that can be printed.
-use Rattle.std.specs.Prelude.{ℕ, ◌≤◌, ◌^◌, unsigned_abs, ⊤}
+use Rattle.std.specs.Prelude.{◌≤◌, ◌^◌, unsigned_abs, ⊤}
 use Rattle.hyd_spec_pressure_targets.specs.declared.Edge.{Edge}
 use Rattle.hyd_spec_pressure_targets.specs.declared.Edge.TheVariants.{Flow, NoCertificate, RoundsSpent}
 

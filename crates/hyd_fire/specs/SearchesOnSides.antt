@@ -1,6 +1,6 @@
 -- What a search for the tight vector of a side gives, with or without a junction held.
 -- Source: this program's.
-use Rattle.std.specs.Prelude.{◌≡◌, ℕ, ◌<◌, ℤ, List, length, slice_set, slice_get, Option, Some, None}
+use Rattle.std.specs.Prelude.{ℕ, ℤ, List, length, slice_set, Option, Some, None}
 use Rattle.hyd_spec_certificates.specs.declared.Problem.TheVariants.{Main}
 use Rattle.hyd_spec_certificates.specs.declared.Side.{Side}
 use Rattle.hyd_spec_certificates.specs.declared.HeldJunction.{HeldJunction}

@@ -1,6 +1,6 @@
 -- What a closure leaves: a vector for each side, and what was found of it.
 -- Source: this program's.
-use Rattle.std.specs.Prelude.{◌≡◌, ◌⊎◌, ℕ, ◌<◌, ◌≤ℤ◌, ℤ, List, length, slice_get, Some, Bool, true, false, IsTrue}
+use Rattle.std.specs.Prelude.{◌≡◌, ◌⊎◌, ℕ, ◌≤ℤ◌, ℤ, List, length, slice_get, Some, Bool, true, false, IsTrue}
 use Rattle.hyd_spec.specs.Assignment.{head_at}
 use Rattle.hyd_spec_certificates.specs.declared.Problem.TheVariants.{Main}
 use Rattle.hyd_spec_certificates.specs.declared.Side.{Side}

@@ -1,7 +1,7 @@
 //! The bracket of what may be drawn at a junction.
 #![tactic(auto)]
 
-ghost use Rattle.std.specs.Prelude.{◌≡◌, ◌<◌, ◌≤◌, ◌^◌, length, unsigned_abs, All, Some, slice_get};
+ghost use Rattle.std.specs.Prelude.{◌≡◌, ◌<◌, ◌≤◌, ◌*◌, ◌^◌, length, unsigned_abs, All, Some, slice_get};
 ghost use Rattle.hyd_spec_certificates.specs.declared.Problem.TheVariants.{Main};
 ghost use Rattle.hyd_spec_certificates.specs.declared.Side.TheVariants.{Upper, Lower};
 ghost use Rattle.hyd_spec_certificates.specs.PeriodNetwork.{GridJunction};
@@ -9,6 +9,7 @@ ghost use Rattle.hyd_spec_certificates.specs.Certificate.{IsInBox};
 ghost use Rattle.hyd_spec_certificates.specs.BoxesWithHeldJunction.{passing_draw};
 ghost use Rattle.hyd_spec_pressure_targets.specs.BracketOfDraws.{IsEdge, IsBracket};
 ghost use Rattle.hyd_period_network.specs.NetAsPeriodNetwork.{grid_of};
+ghost use Rattle.hyd_vector_check.specs.NetOutflowBySide.{net_outflow};
 ghost use Rattle.hyd_fire.specs.SearchesOnSides.{IsSought};
 ghost use Rattle.hyd_fire.specs.EdgesInRange.{IsSmallEdge};
 
@@ -21,6 +22,21 @@ use hyd_spec_pressure_targets::{Bracket, Edge};
 use hyd_sweep::{Swept, begin};
 use hyd_vector_check::{flows_out, head_of, outflow};
 
+// What flows out of a junction on balance at its head: at most for UPPER, at least for LOWER.
+fn net_outflow(net: &Net, side: Side, u: &[i64], i: u32) -> i128
+    requires one_each { length u.now ≡ length net.now.junctions }
+    requires in_box { All IsInBox u.now }
+    requires inside { i < length u.now }
+    ensures value { (here : GridJunction) → slice_get (grid_of net.now).junctions i ≡ Some here
+        → result ≡ net_outflow side (grid_of net.now) Main u.now i here }
+    ensures small { unsigned_abs result ≤ 965 * 10 ^ 24 }
+{
+    let _junctions = net.junctions();
+    let _nodes = net.nodes();
+    let head = head_of(u, i);
+    flows_out(net, Problem::Main, side, u, i, head) + outflow(net, side, i, head)
+}
+
 // The draw with which a junction would pass at its head.
 fn passing_draw(net: &Net, side: Side, u: &[i64], i: u32) -> i128
     requires one_each { length u.now ≡ length net.now.junctions }
@@ -30,14 +46,11 @@ fn passing_draw(net: &Net, side: Side, u: &[i64], i: u32) -> i128
         → result ≡ passing_draw (grid_of net.now) side u.now i here }
     ensures small { unsigned_abs result ≤ 10 ^ 27 }
 {
-    let _junctions = net.junctions();
-    let _nodes = net.nodes();
-    let head = head_of(u, i);
-    let leaves = flows_out(net, Problem::Main, side, u, i, head) + outflow(net, side, i, head);
+    let leaves = net_outflow(net, side, u, i);
     let needed = i128::from(net.margin(i)) + 1;
     match side {
         Side::Upper => needed - leaves,
-        Side::Lower => -needed - leaves,
+        Side::Lower => -(needed + leaves),
     }
 }
 

@@ -194,6 +194,7 @@ impl Study {
         ensures upper { IsTrue (result.0) → IsCertificate (grid_of net.now) Main Upper self.new.upper }
         ensures lower { IsTrue (result.1) → IsCertificate (grid_of net.now) Main Lower self.new.lower }
         ensures each { length self.new.upper ≡ length self.old.upper }
+        ensures lower_each { length self.new.lower ≡ length self.old.upper }
         ensures told { F.told finder.new ≡ F.told finder.old }
     {
         let upper = propose(net, finder, Side::Upper, &mut self.upper);

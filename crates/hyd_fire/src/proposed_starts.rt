@@ -9,6 +9,7 @@ ghost use Rattle.hyd_spec_certificates.specs.Certificate.{IsInBox};
 ghost use Rattle.hyd_spec_certificates.specs.StartsRaisesAndLeaps.{IsStart};
 ghost use Rattle.hyd_theorems_on_definitions.specs.Sides.{near_end};
 ghost use Rattle.hyd_period_network.specs.NetAsPeriodNetwork.{grid_of};
+ghost use Rattle.hyd_sweep.specs.Leaps.{nearer};
 ghost use Rattle.hyd_sweep.specs.Sweeps.{IsFree, IsHeldAt, HoldsInBox};
 ghost use Rattle.hyd_fire.specs.TurnsWithHeldJunction.{FirstHead, IsBeforeTurns, AreInTurn, StandsHeld};
 
