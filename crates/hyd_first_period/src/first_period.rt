@@ -1,8 +1,9 @@
 //! The network of the first period.
 #![tactic(auto)]
 
-ghost use Rattle.std.specs.Prelude.{◌≡◌, ◌<◌, length, IfOk, IfErr, OnOk};
+ghost use Rattle.std.specs.Prelude.{◌≡◌, ◌<◌, length, slice_set, IfOk, IfErr, OnOk};
 ghost use Rattle.hyd_net.specs.Sound.{IsSound};
+ghost use Rattle.hyd_spec.specs.ProgramTypes.{Closed};
 ghost use Rattle.hyd_spec_certificates.specs.PeriodNetwork.{IsGrid};
 ghost use Rattle.hyd_spec_certificates.specs.RecordAndStanding.{initial_standing};
 ghost use Rattle.hyd_spec_certificates.specs.Valid.{DemandsAreInRange};
@@ -41,6 +42,22 @@ fn first_stocks(alloc: Global, project: &Project) -> Result<TankStart, OutOfMemo
     Ok(stocks)
 }
 
+// Puts states of links in place of others.
+fn put_states(states: &[LinkState], links: &mut [LinkState])
+    requires { length links.old ≡ length states.now }
+    ensures { links.new ≡ states.now }
+{
+    links.copy_from_slice(states);
+}
+
+// Closes one link.
+fn put_closed(links: &mut [LinkState], link: u32)
+    requires { link < length links.old }
+    ensures { links.new ≡ slice_set links.old link Closed }
+{
+    links[link as usize] = LinkState::Closed;
+}
+
 impl FirstPeriod {
     /// Takes all the memory that setting a network to its first period takes. The net isn't set yet.
     pub fn open(alloc: Global, project: &Project) -> Result<FirstPeriod, OutOfMemory>
@@ -77,7 +94,7 @@ impl FirstPeriod {
         ensures in_range { OnOk result (DemandsAreInRange project.now 0) }
         ensures refused { IfErr result (λ fault. IsFirstDemand project.now 0 fault.junction fault.value) }
     {
-        self.links.copy_from_slice(&self.started);
+        self.restore();
         self.set(project)
     }
 
@@ -91,11 +108,33 @@ impl FirstPeriod {
         ensures grid { IsFirstGridWithShut project.now link (grid_of self.new.net) }
         ensures order { TanksInOrder (grid_of self.new.net) }
     {
-        self.links.copy_from_slice(&self.started);
-        self.links[link as usize] = LinkState::Closed;
+        self.restore();
+        self.close(link);
         if self.set(project).is_err() {
             unreachable!()
         }
+    }
+
+    // Puts the states with which the period starts in place of those at hand.
+    fn restore(&mut self)
+        requires { length self.old.links.items ≡ length self.old.started.items }
+        ensures links { self.new.links.items ≡ self.old.started.items }
+        ensures started { self.new.started ≡ self.old.started }
+        ensures net { self.new.net ≡ self.old.net }
+        ensures stocks { self.new.stocks ≡ self.old.stocks }
+    {
+        put_states(&self.started, &mut self.links);
+    }
+
+    // Closes one of the links at hand.
+    fn close(&mut self, link: u32)
+        requires { link < length self.old.links.items }
+        ensures links { self.new.links.items ≡ slice_set self.old.links.items link Closed }
+        ensures started { self.new.started ≡ self.old.started }
+        ensures net { self.new.net ≡ self.old.net }
+        ensures stocks { self.new.stocks ≡ self.old.stocks }
+    {
+        put_closed(&mut self.links, link);
     }
 
     // Sets the net to the states of links that are at hand.
