@@ -1,0 +1,4 @@
+mod TurnsShowStarts
+mod SearchesGive
+mod DrawsOfHeldJunctions
+mod WordsBySides

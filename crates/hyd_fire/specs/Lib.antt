@@ -1,0 +1,5 @@
+pub mod TurnsWithHeldJunction
+pub mod SearchesOnSides
+pub mod StudyView
+pub mod EdgesInRange
+pub mod SidesOfClosures

@@ -1,0 +1,68 @@
+-- What a closure leaves: a vector for each side, and what was found of it.
+-- Source: this program's.
+use Rattle.std.specs.Prelude.{◌≡◌, ◌⊎◌, ℕ, ◌≤ℤ◌, ℤ, List, length, slice_get, Some, Bool, true, false, IsTrue}
+use Rattle.hyd_spec.specs.Assignment.{head_at}
+use Rattle.hyd_spec_certificates.specs.declared.Problem.TheVariants.{Main}
+use Rattle.hyd_spec_certificates.specs.declared.Side.{Side}
+use Rattle.hyd_spec_certificates.specs.declared.Side.TheVariants.{Upper, Lower}
+use Rattle.hyd_spec_certificates.specs.declared.LevelSpan.{LevelSpan}
+use Rattle.hyd_spec_certificates.specs.PeriodNetwork.{Grid}
+use Rattle.hyd_spec_certificates.specs.Certificate.{IsCertificate, IsTight}
+use Rattle.hyd_spec_pressure_targets.specs.ClosureWords.{HasNoneOn, AreSpentOn}
+use Rattle.hyd_spec_pressure_targets.specs.declared.ClosureWord.{ClosureWord}
+use Rattle.hyd_spec_pressure_targets.specs.declared.ClosureWord.TheVariants.{Unsure, NoCertificate as NoWord}
+use Rattle.hyd_spec_pressure_targets.specs.declared.ClosureWord.TheVariants.{RoundsSpent as SpentWord}
+use Rattle.hyd_fire.specs.declared.answers.Found.{Found}
+use Rattle.hyd_fire.specs.declared.answers.Found.TheVariants.{Tight, Passing, NoCertificate, RoundsSpent}
+use Rattle.hyd_fire.specs.declared.answers.Sides.{Sides}
+use Rattle.hyd_fire.specs.StudyView.{StudyView}
+
+-- ---- one side
+
+-- what was found is so of the vector that stands there
+abbrev pub IsFoundOn : Grid → ℕ → Side → List ℤ → Found → Type 0
+IsFoundOn grid rounds side u Tight = IsTight grid Main side u
+IsFoundOn grid rounds side u Passing = IsCertificate grid Main side u
+IsFoundOn grid rounds side u NoCertificate = HasNoneOn grid side
+IsFoundOn grid rounds side u RoundsSpent = AreSpentOn grid rounds side
+
+-- a vector stands there
+abbrev pub has_vector : Found → Bool
+has_vector Tight = true
+has_vector Passing = true
+has_vector NoCertificate = false
+has_vector RoundsSpent = false
+
+-- ---- both sides
+
+-- the vectors that stand there show the word of junction j with the target between two heads: SAFE or LOW
+abbrev pub IsShownBy : StudyView → Sides → ℕ → LevelSpan → Type 0
+IsShownBy left sides j target = (IsTrue (has_vector sides.lower) × (target.hi ≤ℤ head_at left.lower j))
+    ⊎ (IsTrue (has_vector sides.upper) × (head_at left.upper j ≤ℤ target.lo))
+
+-- they show that of each junction
+abbrev pub AreAllShown : StudyView → Sides → List LevelSpan → Type 0
+AreAllShown left sides targets =
+    (j : ℕ) (target : LevelSpan) → slice_get targets j ≡ Some target → IsShownBy left sides j target
+
+-- what a closure leaves
+pub record IsLeft (grid : Grid) (rounds : ℕ) (targets : List LevelSpan) (left : StudyView) (sides : Sides) : Type 0
+  where
+    pub upper_each : length left.upper ≡ length grid.junctions
+    pub lower_each : length left.lower ≡ length grid.junctions
+    pub upper : IsFoundOn grid rounds Upper left.upper sides.upper
+    pub lower : IsFoundOn grid rounds Lower left.lower sides.lower
+    pub upper_passing : sides.upper ≡ Passing → AreAllShown left sides targets ⊎ AreSpentOn grid rounds Upper
+    pub lower_passing : sides.lower ≡ Passing → AreAllShown left sides targets ⊎ AreSpentOn grid rounds Lower
+
+-- the word of a junction of which the vectors show none: that there is no certificate where one side has none and the
+-- other has none or its tight vector, and that it is unsure where both are tight
+abbrev pub word_without : Sides → ClosureWord
+word_without sides = by sides.upper sides.lower
+  where
+    by : Found → Found → ClosureWord
+    by Tight Tight = Unsure
+    by NoCertificate Tight = NoWord
+    by Tight NoCertificate = NoWord
+    by NoCertificate NoCertificate = NoWord
+    by upper lower = SpentWord

@@ -1,0 +1,118 @@
+//! By how much junctions pass at given heads.
+#![tactic(auto)]
+
+ghost use Rattle.std.specs.Prelude.{◌≡◌, ◌<◌, ◌≤◌, ◌*◌, length, unsigned_abs};
+ghost use Rattle.hyd_spec_certificates.specs.Certificate.{box_limit};
+
+use crate::places::number_at;
+use hyd_law::{Law, OutLaw};
+use hyd_period_network::{Net, Tie};
+use hyd_spec_certificates::{BOX_LIMIT, Side};
+use hyd_vector_check::{is_in_box, outflow};
+
+/// The greatest head difference at which a law is asked: that of the ends of the box, in head ticks.
+const WIDEST: i64 = 2 * BOX_LIMIT;
+
+/// The greatest flow that is reckoned with, in flow ticks.
+const GREATEST_RECKONED_FLOW: i128 = 1_000_000_000_000_000_000;
+
+// The nearest head difference at which a law is asked.
+fn within_reach(difference: i64) -> i64
+    ensures { unsigned_abs result ≤ 2 * box_limit }
+{
+    difference.clamp(-WIDEST, WIDEST)
+}
+
+// A flow in 64 bits.
+fn narrowed(flow: i128) -> i64 {
+    flow.clamp(-GREATEST_RECKONED_FLOW, GREATEST_RECKONED_FLOW) as i64
+}
+
+// The high flow of a link at a head difference, or the low one.
+fn flow(net: &Net, link: u32, high: bool, difference: i64) -> i64
+    requires { link < length net.now.ends }
+{
+    let _links = net.links();
+    let law = net.law(link);
+    let near = within_reach(difference);
+    if high {
+        return narrowed(law.high(near));
+    }
+    narrowed(law.low(near))
+}
+
+fn is_lower(side: Side) -> bool {
+    match side {
+        Side::Upper => false,
+        Side::Lower => true,
+    }
+}
+
+/// The head so many ticks nearer.
+pub(crate) fn nearer(side: Side, head: i64, ticks: i64) -> i64 {
+    match side {
+        Side::Upper => head.saturating_sub(ticks),
+        Side::Lower => head.saturating_add(ticks),
+    }
+}
+
+/// A number of flow ticks as it counts on a side: for UPPER what flows out, for LOWER what flows in.
+fn counted(side: Side, ticks: i64) -> i64 {
+    match side {
+        Side::Upper => ticks,
+        Side::Lower => ticks.saturating_neg(),
+    }
+}
+
+/// What a link end adds to what a junction at a head passes by, with its other node at another head.
+pub(crate) fn part(net: &Net, side: Side, tie: Tie, head: i64, other: i64) -> i64 {
+    if tie.link >= net.links() {
+        return 0;
+    }
+    let difference = head.saturating_sub(other);
+    let leaves = if tie.out {
+        flow(net, tie.link, is_lower(side), difference)
+    } else {
+        flow(net, tie.link, !is_lower(side), difference.saturating_neg()).saturating_neg()
+    };
+    counted(side, leaves)
+}
+
+/// What a junction's demand and emitter add to that.
+pub(crate) fn own_part(net: &Net, side: Side, junction: u32, head: i64) -> i64 {
+    if junction >= net.junctions() || !is_in_box(head) {
+        return 0;
+    }
+    counted(side, narrowed(outflow(net, side, junction, head)))
+}
+
+/// Whether that is the same at every head.
+pub(crate) fn is_flat(net: &Net, junction: u32) -> bool {
+    if junction >= net.junctions() {
+        return true;
+    }
+    matches!(net.demand_law(junction), OutLaw::Fixed(_)) && net.emitter_law(junction).is_none()
+}
+
+/// The link end seen from its other node.
+pub(crate) fn turned(tie: Tie, junction: u32) -> Tie {
+    Tie {
+        link: tie.link,
+        other: junction,
+        out: !tie.out,
+    }
+}
+
+/// By how much a junction passes with all nodes at given heads: less than 0 where it falls short.
+pub(crate) fn over(net: &Net, side: Side, heads: &[i64], junction: u32) -> i64 {
+    if junction >= net.junctions() {
+        return 0;
+    }
+    let _nodes = net.nodes();
+    let head = number_at(heads, junction);
+    let mut sum = own_part(net, side, junction, head);
+    for tie in net.row(junction) {
+        sum = sum.saturating_add(part(net, side, *tie, head, number_at(heads, tie.other)));
+    }
+    sum.saturating_sub(net.margin(junction)).saturating_sub(1)
+}

@@ -1,0 +1,11 @@
+//! Proposals of tight vectors, with or without a junction held: from a certificate, sets of junctions step nearer
+//! together. Nothing is promised of a proposal: whoever takes one checks it.
+#![tactic(auto)]
+
+mod descent;
+mod flows;
+mod places;
+mod steps;
+mod strides;
+
+pub use descent::Descent;

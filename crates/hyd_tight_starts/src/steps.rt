@@ -1,0 +1,256 @@
+//! Steps nearer, of all junctions but those that fall short then.
+#![tactic(auto)]
+
+ghost use Rattle.std.specs.Prelude.{◌≡◌, length};
+
+use crate::flows::{nearer, over, own_part, part, turned};
+use crate::places::{add_at, is_marked, mark, number_at, put_at};
+use crate::strides::{put_rim, reach};
+use hyd_period_network::Net;
+use hyd_spec_certificates::Side;
+use std::alloc::{AllocError as OutOfMemory, Global};
+
+/// Room for steps in nets of one size, opened once.
+#[derive(Drop)]
+pub(crate) struct Steps {
+    /// The heads of all nodes where a certificate stands, junctions first.
+    pub(crate) heads: Vec<i64>,
+    /// By how much each junction passes there.
+    over: Vec<i64>,
+    /// By how much it passes where it stands while others stand nearer.
+    now: Vec<i64>,
+    /// Which junctions stay: a held one, and those that went back.
+    back: Vec<bool>,
+    /// The junctions that went back, in this order.
+    order: Vec<u32>,
+    /// How many these are.
+    count: u32,
+    /// Which of the others pass by more or less when they all come nearer.
+    rim: Vec<bool>,
+}
+
+impl Steps {
+    /// Takes all the memory that they take.
+    pub(crate) fn open(alloc: Global, net: &Net) -> Result<Steps, OutOfMemory> {
+        let nodes = net.nodes() as usize;
+        let junctions = net.junctions() as usize;
+        Ok(Steps {
+            heads: vec![in alloc; 0i64; nodes]?,
+            over: vec![in alloc; 0i64; junctions]?,
+            now: vec![in alloc; 0i64; junctions]?,
+            back: vec![in alloc; false; junctions]?,
+            order: vec![in alloc; 0u32; junctions]?,
+            count: 0,
+            rim: vec![in alloc; false; junctions]?,
+        })
+    }
+
+    /// Begins at the heads of a certificate.
+    pub(crate) fn begin(&mut self, net: &Net, side: Side) {
+        for junction in 0..net.junctions() {
+            let over = over(net, side, &self.heads, junction);
+            put_at(&mut self.over, junction, over);
+        }
+    }
+
+    /// Copies the order of the junctions that went back last.
+    pub(crate) fn copy_order(&self, into: &mut [u32])
+        ensures { length into.new ≡ length into.old }
+    {
+        for (entry, junction) in into.iter_mut().zip(&self.order) {
+            *entry = *junction;
+        }
+    }
+
+    // Whether a node keeps its head when the others step.
+    fn stays(&self, net: &Net, node: u32) -> bool {
+        node >= net.junctions() || is_marked(&self.back, node)
+    }
+
+    // By how much a junction passes that steps with all others but those that stay from the beginning.
+    fn over_stepped(&self, net: &Net, side: Side, junction: u32, step: i64) -> i64 {
+        if junction >= net.junctions() {
+            return 0;
+        }
+        let _nodes = net.nodes();
+        let head = number_at(&self.heads, junction);
+        let there = nearer(side, head, step);
+        let own = own_part(net, side, junction, there).saturating_sub(own_part(
+            net, side, junction, head,
+        ));
+        let mut sum = number_at(&self.over, junction).saturating_add(own);
+        for tie in net.row(junction) {
+            if self.stays(net, tie.other) {
+                let other = number_at(&self.heads, tie.other);
+                let more = part(net, side, *tie, there, other).saturating_sub(part(
+                    net, side, *tie, head, other,
+                ));
+                sum = sum.saturating_add(more);
+            }
+        }
+        sum
+    }
+
+    // Puts a junction back, whose turn it is.
+    fn put_back(&mut self, junction: u32) {
+        mark(&mut self.back, junction, true);
+        if let Some(entry) = self.order.get_mut(self.count as usize) {
+            *entry = junction;
+        }
+        self.count = self.count.saturating_add(1);
+    }
+
+    // Steps with all junctions but a held one, and puts those back that fall short then.
+    fn step_all(&mut self, net: &Net, side: Side, held: u32, step: i64) {
+        self.count = 0;
+        for junction in 0..net.junctions() {
+            mark(&mut self.back, junction, junction == held);
+        }
+        for junction in 0..net.junctions() {
+            let over = self.over_stepped(net, side, junction, step);
+            put_at(&mut self.now, junction, over);
+        }
+        for junction in 0..net.junctions() {
+            if junction != held && number_at(&self.now, junction) < 0 {
+                self.put_back(junction);
+            }
+        }
+    }
+
+    // Puts those back that fall short because a junction went back.
+    fn put_back_beside(&mut self, net: &Net, side: Side, junction: u32, step: i64) {
+        if junction >= net.junctions() {
+            return;
+        }
+        let _nodes = net.nodes();
+        let head = number_at(&self.heads, junction);
+        let stepped = nearer(side, head, step);
+        for tie in net.row(junction) {
+            if !self.stays(net, tie.other) {
+                let there = nearer(side, number_at(&self.heads, tie.other), step);
+                let seen = turned(*tie, junction);
+                let more = part(net, side, seen, there, head).saturating_sub(part(
+                    net, side, seen, there, stepped,
+                ));
+                add_at(&mut self.now, tie.other, more);
+                if number_at(&self.now, tie.other) < 0 {
+                    self.put_back(tie.other);
+                }
+            }
+        }
+    }
+
+    // Adds to what the junctions pass by that stay beside those that come nearer by so many ticks.
+    fn add_beside(&mut self, net: &Net, side: Side, junction: u32, ticks: i64) {
+        if junction >= net.junctions() {
+            return;
+        }
+        let _nodes = net.nodes();
+        let head = number_at(&self.heads, junction);
+        for tie in net.row(junction) {
+            if !self.stays(net, tie.other) {
+                let other = number_at(&self.heads, tie.other);
+                let more = part(net, side, *tie, head, nearer(side, other, ticks)).saturating_sub(
+                    part(net, side, *tie, head, other),
+                );
+                add_at(&mut self.over, junction, more);
+            }
+        }
+    }
+
+    // Moves the junctions that don't stay so many ticks nearer.
+    fn move_rest(&mut self, net: &Net, side: Side, ticks: i64) {
+        for junction in 0..net.junctions() {
+            if is_marked(&self.back, junction) {
+                self.add_beside(net, side, junction, ticks);
+            }
+        }
+        for junction in 0..net.junctions() {
+            if !is_marked(&self.back, junction) {
+                let head = nearer(side, number_at(&self.heads, junction), ticks);
+                put_at(&mut self.heads, junction, head);
+            }
+        }
+    }
+
+    // Moves the rest one step, by which it passes as was found.
+    fn take_step(&mut self, net: &Net, side: Side, step: i64) {
+        self.move_rest(net, side, step);
+        for junction in 0..net.junctions() {
+            if !is_marked(&self.back, junction) {
+                let over = number_at(&self.now, junction);
+                put_at(&mut self.over, junction, over);
+            }
+        }
+    }
+
+    // Goes on with the rest in whole steps, as far as it passes.
+    fn go_on(&mut self, net: &Net, side: Side, step: i64) {
+        put_rim(net, &self.back, &mut self.rim);
+        let ticks = reach(
+            net,
+            side,
+            &self.heads,
+            &self.over,
+            &self.back,
+            &self.rim,
+            step,
+        );
+        if ticks == 0 {
+            return;
+        }
+        for junction in 0..net.junctions() {
+            if is_marked(&self.rim, junction) {
+                let over = self.over_stepped(net, side, junction, ticks);
+                put_at(&mut self.now, junction, over);
+            } else {
+                let over = number_at(&self.over, junction);
+                put_at(&mut self.now, junction, over);
+            }
+        }
+        self.take_step(net, side, ticks);
+    }
+
+    // One step, and on; how many junctions moved.
+    fn go_once(&mut self, net: &Net, side: Side, held: u32, step: i64) -> u32 {
+        self.step_all(net, side, held, step);
+        for place in 0..net.junctions() {
+            if place >= self.count {
+                break;
+            }
+            let junction = self.order.get(place as usize).copied().unwrap_or(0);
+            self.put_back_beside(net, side, junction, step);
+        }
+        let free = net
+            .junctions()
+            .saturating_sub(u32::from(held < net.junctions()));
+        let moved = free.saturating_sub(self.count);
+        if moved > 0 {
+            self.take_step(net, side, step);
+            self.go_on(net, side, step);
+        }
+        moved
+    }
+
+    /// Goes at a step until none moves, and tells whether that came before so many junctions had stepped as were left.
+    pub(crate) fn go_at(
+        &mut self,
+        net: &Net,
+        side: Side,
+        held: u32,
+        step: i64,
+        left: &mut u64,
+    ) -> bool {
+        for _ in 0..*left {
+            if self.go_once(net, side, held, step) == 0 {
+                return true;
+            }
+            let junctions = u64::from(net.junctions());
+            if *left < junctions {
+                return false;
+            }
+            *left -= junctions;
+        }
+        false
+    }
+}
