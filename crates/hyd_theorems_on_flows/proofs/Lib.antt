@@ -1,0 +1,4 @@
+pub mod HeldVectors
+pub mod IntervalsInOrder
+pub mod FlowsOfHistories
+pub mod OneCause
