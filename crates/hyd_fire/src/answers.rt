@@ -2,7 +2,7 @@
 #![tactic(auto)]
 
 /// What was found on a side.
-#[derive(Debug, Clone, Copy, PartialEq, Eq, Drop)]
+#[derive(Clone, Copy, Drop)]
 pub enum Found {
     /// The tight vector.
     Tight,
@@ -15,7 +15,7 @@ pub enum Found {
 }
 
 /// What was found on both sides.
-#[derive(Debug, Clone, Copy, PartialEq, Eq, Drop)]
+#[derive(Clone, Copy, Drop)]
 pub struct Sides {
     pub upper: Found,
     pub lower: Found,

@@ -6,7 +6,7 @@ use Rattle.hyd_spec_certificates.specs.SpansAsIntervals.{levels_of}
 use Rattle.hyd_spec_certificates.specs.RecordAndStanding.{initial_standing}
 use Rattle.hyd_spec_certificates.specs.Decided.{links_at}
 use Rattle.hyd_period_network.specs.NetsSetToPeriods.{IsNetOf}
-use Rattle.hyd_period_stocks.specs.declared.tanks_at_start.TankStart.{TankStart}
+use Rattle.hyd_period_facts.specs.declared.tanks_at_start.TankStart.{TankStart}
 use Rattle.hyd_first_period.specs.declared.first_period.FirstPeriod.{FirstPeriod}
 
 -- the levels and the states of tanks are those of the start of a run

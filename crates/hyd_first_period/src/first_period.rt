@@ -16,8 +16,8 @@ ghost use Rattle.hyd_first_period.specs.FirstPeriods.{IsFirst, IsReady};
 
 use crate::links_at_start::states_at_start;
 use hyd_net::{LinkState, OutOfMemory, Project};
+use hyd_period_facts::TankStart;
 use hyd_period_network::{Net, PeriodDemand};
-use hyd_period_stocks::TankStart;
 use std::alloc::Global;
 
 /// The network of the first period of a network, and what sets it: the stocks of tanks and the states of links with

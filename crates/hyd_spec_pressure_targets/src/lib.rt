@@ -3,7 +3,7 @@
 #![tactic(auto)]
 
 /// One edge of the bracket of what may be drawn at a junction.
-#[derive(Debug, Clone, Copy, PartialEq, Eq, Drop)]
+#[derive(Clone, Copy, Drop)]
 pub enum Edge {
     /// The draw of the tight vector that holds the junction, in flow ticks.
     Flow(i128),
@@ -15,7 +15,7 @@ pub enum Edge {
 
 /// How much may be drawn at a junction beside its demand, with a target pressure there (available fire flow, AWWA
 /// Manual M31).
-#[derive(Debug, Clone, Copy, PartialEq, Eq, Drop)]
+#[derive(Clone, Copy, Drop)]
 pub struct Bracket {
     /// With a draw from 0 to this the pressure is above the target.
     pub below: Edge,
@@ -24,7 +24,7 @@ pub struct Bracket {
 }
 
 /// What is known of the pressure at a junction while a pipe is shut.
-#[derive(Debug, Clone, Copy, PartialEq, Eq, Drop)]
+#[derive(Clone, Copy, Drop)]
 pub enum ClosureWord {
     /// It is above the target.
     Safe,

@@ -21,7 +21,7 @@ use Rattle.hyd_spec_pressure_targets.specs.BracketOfDraws.{IsEdge, IsTightDraw}
 use Rattle.hyd_spec_pressure_targets.specs.ClosureWords.{IsShownSafe, IsShownLow, IsWord, HasNoneOn, HasTight}
 use Rattle.hyd_theorems_on_definitions.specs.SoundLawsAndGrids.{IsSteady, TanksInOrder}
 use Rattle.hyd_lemmas.proofs.ListsOptionsAndResults.{item_there}
-use Rattle.hyd_theorems_on_nesting.proofs.TwoSides.{lower-below}
+use Rattle.hyd_theorems_on_definitions.proofs.TwoSides.{lower-below}
 use Rattle.hyd_theorems_on_raises.proofs.SearchStarts.{main-fixed}
 
 -- ---- words
