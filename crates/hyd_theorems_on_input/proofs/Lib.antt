@@ -19,6 +19,7 @@ pub mod PatternRows
 pub mod RoundedForms
 pub mod RowsToProject
 pub mod OneFault
+pub mod FaultOrNone
 pub mod OneProject
 pub mod ExampleText
 pub mod MatchedLists

@@ -1,5 +1,5 @@
 -- Lists that match item by item.
-use Rattle.std.proofs.Common.{◌+◌, ◌++◌, List, [], ◌∷◌, ◌≡◌, map, refl, ap₂, sym, ◌∙◌}
+use Rattle.std.proofs.Common.{◌++◌, List, [], ◌∷◌, ◌≡◌, map, refl, ap₂, sym, ◌∙◌}
 use Rattle.hyd_spec_input.specs.Project.{Match}
 use Rattle.std.proofs.lemmas.List.{map-id}
 

@@ -1,6 +1,6 @@
 -- The options and times that a file has in force, and what keywords stand for.
 use Rattle.std.proofs.Common.{◌≡◌, ℕ, suc, Bool, true, List, [], ◌∷◌, map, Option, Some, None, refl, sym, ap, subst}
-use Rattle.std.proofs.Common.{inl, inr, true≢false, ◌+◌, ◌++◌, ◌∙◌}
+use Rattle.std.proofs.Common.{inl, inr, true≢false, ◌++◌, ◌∙◌}
 use Rattle.std.specs.Prelude.{slice_get, if◌then◌else◌}
 use Rattle.std.specs.Char.{to_ascii_lowercase}
 use Rattle.std.specs.Str.{bytes_eq}

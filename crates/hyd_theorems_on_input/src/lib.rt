@@ -1,6 +1,6 @@
 //! The network of a text without a fault is sound: whatever rows say, the network that they describe meets every range
-//! that the computation rests on. A text has one fault at most, and then it isn't one without; its rows describe one
-//! network at most. Each part is the contract of a small function, on the definitions alone.
+//! that the computation rests on. A text has one fault or none, and one with a fault isn't one without; its rows describe
+//! one network at most. Each part is the contract of a small function, on the definitions alone.
 #![tactic(auto)]
 
 ghost use Rattle.std.specs.Prelude.{◌≡◌, ℕ, List, All};
@@ -112,6 +112,11 @@ pub fn one_fault()
 /// A text that has a fault isn't one without.
 pub fn no_fault_beside()
     ensures { (text : List ℕ) (line : ℕ) (cause : Cause) → IsFault text line cause → HasNoFault text → ⊥ }
+{}
+
+/// Each text has a fault or none: one in which nothing is a fault is one without.
+pub fn fault_or_none()
+    ensures { (text : List ℕ) → ((line : ℕ) (cause : Cause) → IsFault text line cause → ⊥) → HasNoFault text }
 {}
 
 /// Rows describe one network: any two of the same rows are the same, as networks are compared (apart from the
