@@ -1,5 +1,5 @@
 -- What the steps of a run find and put in.
-use Rattle.std.proofs.Common.{◌≡◌, suc, ◌<◌, ◌^◌, true, false, length, Option, Some, refl, sym, ap, subst, ◌∙◌}
+use Rattle.std.proofs.Common.{◌≡◌, suc, ◌<◌, ◌^◌, true, false, Option, Some, refl, sym, ap, subst, ◌∙◌}
 use Rattle.std.specs.Prelude.{IfSome}
 use Rattle.hyd_spec.specs.ProgramTypes.{Project}
 use Rattle.hyd_spec_certificates.specs.RecordAndStanding.{Standing}
