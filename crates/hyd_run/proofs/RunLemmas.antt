@@ -1,6 +1,6 @@
 -- Runs as far as they have gone, and what is put out of them.
 use Rattle.std.proofs.Common.{◌≡◌, ℕ, ◌<◌, ◌^◌, List, [], ◌∷◌, ◌++◌, length, length-append, map, Option, Some, None}
-use Rattle.std.proofs.Common.{refl, sym, ap, subst, ◌∙◌, arith, append-nil, append_assoc, Bool, true, false}
+use Rattle.std.proofs.Common.{refl, sym, ap, subst, ◌∙◌, arith, append-nil, append_assoc, Bool, true, false, inl, inr}
 use Rattle.std.specs.Prelude.{All, if◌then◌else◌, ◌≤◌}
 use Rattle.std.proofs.lemmas.List.Elements.{All-push}
 use Rattle.hyd_net.specs.Sound.{IsSound}
@@ -26,8 +26,9 @@ use Rattle.hyd_io.specs.declared.output.OutFault.{OutFault}
 use Rattle.hyd_io.specs.DeskBytes.{append_known, Moves, PutOut}
 use Rattle.hyd_io.proofs.MovedBytesLemmas.{moves_whole}
 use Rattle.hyd_sim.specs.declared.settings.Settings.{Settings}
-use Rattle.hyd_run.specs.Pens.{RunMoment, PutIn, IsCutOff}
+use Rattle.hyd_run.specs.Pens.{RunMoment, PutIn, IsCutOff, IsCutInOrder, IsCutAtEnd}
 use Rattle.hyd_run.specs.Runs.{sharpness_of, first_line, IsStep, IsSoFar, IsWhole, IsCutShort, IsPutOut, IsBrokenOff}
+use Rattle.hyd_run.specs.Runs.{EndNames, EndsInOrder}
 use Rattle.hyd_run.proofs.PenLemmas.{put-then, cut-off-then}
 
 -- ---- texts
@@ -83,10 +84,80 @@ report-more project left next founds found =
 pub put-as : (a b a' b' : List ℕ) (m n : RunMoment) → a ≡ a' → b ≡ b' → PutIn a b m n → PutIn a' b' m n
 put-as a b a' b' m n e f put = subst (λ (x : List ℕ). PutIn x b' m n) e (subst (λ (y : List ℕ). PutIn a y m n) f put)
 
-pub cut-off-as : (why : OutFault) (a b a' b' : List ℕ) (m n : RunMoment) → a ≡ a' → b ≡ b' → IsCutOff why a b m n
+abbrev pub cut-off-as : (why : OutFault) (a b a' b' : List ℕ) (m n : RunMoment) → a ≡ a' → b ≡ b' → IsCutOff why a b m n
     → IsCutOff why a' b' m n
-cut-off-as why a b a' b' m n e f cut_off = subst (λ (x : List ℕ). IsCutOff why x b' m n) e (subst (λ (y : List ℕ).
-    IsCutOff why a y m n) f cut_off)
+cut-off-as why a b a' b' m n e f cut_off = record {
+  written = (
+    cut_off.written.0,
+    record {
+      front = cut_off.written.1.front;
+      whole = ap (λ (xs : List ℕ). m.certificate.held ++ xs) (sym e) ∙ cut_off.written.1.whole;
+      out = cut_off.written.1.out;
+    },
+  );
+  printed = (
+    cut_off.printed.0,
+    record {
+      front = cut_off.printed.1.front;
+      whole = ap (λ (xs : List ℕ). m.report.held ++ xs) (sym f) ∙ cut_off.printed.1.whole;
+      out = cut_off.printed.1.out;
+    },
+  );
+  rose = cut_off.rose;
+  leaves = cut_off.leaves;
+}
+
+-- ---- the order of what went out
+
+-- what went out and what is held are what was put in, where nothing was held before
+out-and-held : (held a front left : List ℕ) → held ≡ [] → held ++ a ≡ front ++ left → front ++ left ≡ a
+out-and-held held a front left e w = sym w ∙ ap (λ (xs : List ℕ). xs ++ a) e
+
+-- nothing is put out of nothing
+nothing-out : (front held : List ℕ) → [] ≡ front ++ held → front ≡ []
+nothing-out [] held e = refl
+nothing-out (c ∷ front) held e = absurd (cc)
+
+module _ (project : Project) (settings : Settings) (outcome : Outcome) (start before now : RunMoment)
+    (c : start.certificate.held ≡ []) (r : start.report.held ≡ []) where
+  -- the last lines were cut off
+  at-end-in-order : (left : Standing) (fault : OutFault)
+      (so_far : IsSoFar project (sharpness_of settings) left start before)
+      (cut : IsCutAtEnd fault (end_line (length so_far.founds) (is_finished outcome))
+      (last_line project left (length so_far.founds) outcome) before now)
+      → EndsInOrder project so_far.founds left (Some outcome)
+      (so_far.put.written.front ++ cut.cut_off.written.1.front)
+      (so_far.put.printed.front ++ cut.cut_off.printed.1.front)
+  at-end-in-order left fault so_far cut = elim cut.in_order [
+    | inl nothing ↦ (let printed = so_far.put.printed.front in
+        inl (
+          before.report.held,
+          ap (λ (xs : List ℕ). (printed ++ xs) ++ before.report.held) nothing
+              ∙ (ap (λ (xs : List ℕ). xs ++ before.report.held) (append-nil printed)
+              ∙ out-and-held start.report.held (report_so_far project left so_far.founds None) printed
+              before.report.held r so_far.put.printed.whole),
+        ))
+    | inr all ↦ (let written = so_far.put.written.front in
+        let end = end_line (length so_far.founds) (is_finished outcome) in
+        inr (ap (λ (xs : List ℕ). written ++ xs) all
+        ∙ (sym (append_assoc written before.certificate.held end)
+        ∙ (ap (λ (xs : List ℕ). xs ++ end) (out-and-held start.certificate.held
+        (certificate_so_far project so_far.founds None) written before.certificate.held c so_far.put.written.whole)
+        ∙ certificate-last project so_far.founds outcome))))
+  ]
+
+  -- the pens were being emptied
+  emptied-in-order : (fault : OutFault) (whole : IsWhole project settings outcome start before)
+      (cut : IsCutOff fault [] [] before now)
+      → EndsInOrder project whole.founds whole.left (Some outcome)
+      (whole.put.written.front ++ cut.written.1.front) (whole.put.printed.front ++ cut.printed.1.front)
+  emptied-in-order fault whole cut =
+      let written = whole.put.written.front in
+      let all = certificate_so_far project whole.founds (Some outcome) in
+      let none : cut.written.1.front ≡ [] = nothing-out cut.written.1.front cut.written.0
+      (ap (λ (xs : List ℕ). xs ++ []) (sym whole.emptied) ∙ cut.written.1.whole) in
+      inr (ap (λ (xs : List ℕ). written ++ xs) (none ∙ sym whole.emptied)
+      ∙ out-and-held start.certificate.held all written before.certificate.held c whole.put.written.whole)
 
 -- ---- a run so far
 
@@ -141,44 +212,62 @@ so-far-more project sharpness left next start before now found step put so_far =
 pub so-far-cut-off : (project : Project) (settings : Settings) (fault : OutFault) (left next : Standing) (start before
     now : RunMoment) (found : Found)
     → IsStep project (sharpness_of settings) left next found
-    → IsCutOff fault (record_text found.row) (texts project found.lines) before now
+    → IsCutInOrder fault (record_text found.row) (texts project found.lines) before now
     → IsSoFar project (sharpness_of settings) left start before → IsCutShort project settings fault start now
-so-far-cut-off project settings fault left next start before now found step cut_off so_far = record {
-  founds = so_far.founds ++ (found ∷ []);
-  left = next;
-  is_run = run-with project so_far.founds left next (sharpness_of settings) found step so_far.is_run;
-  sharp = all-more (IsSharpFound project (sharpness_of settings)) so_far.founds found so_far.sharp step.sharp;
-  last = None;
-  ends_so = tt;
-  cut_off = cut-off-as fault _ _ _ _ start now (certificate-more project so_far.founds found) (report-more project left
-      next so_far.founds found)
-      (cut-off-then fault _ _ _ _ start before now so_far.put cut_off);
-}
+so-far-cut-off project settings fault left next start before now found step cut so_far =
+    let founds = so_far.founds ++ (found ∷ []) in
+    let off = cut-off-as fault _ _ _ _ start now (certificate-more project so_far.founds found) (report-more project
+    left next so_far.founds found) (cut-off-then fault _ _ _ _ start before now so_far.put cut.cut_off) in
+    record {
+      founds = founds;
+      left = next;
+      is_run = run-with project so_far.founds left next (sharpness_of settings) found step so_far.is_run;
+      sharp = all-more (IsSharpFound project (sharpness_of settings)) so_far.founds found so_far.sharp step.sharp;
+      last = None;
+      ends_so = tt;
+      names = tt;
+      cut_off = off;
+      in_order = λ c r. inl (
+        off.printed.0,
+        out-and-held start.report.held (report_so_far project next founds None) off.printed.1.front off.printed.0 r
+            off.printed.1.whole,
+      );
+    }
 
 pub first-cut-short : (project : Project) (settings : Settings) (fault : OutFault) (before now : RunMoment)
-    → IsCutOff fault (header_line (version_of project) (junction_count project) (tank_count project)) first_line
+    → IsCutInOrder fault (header_line (version_of project) (junction_count project) (tank_count project)) first_line
     before now
     → IsCutShort project settings fault before now
-first-cut-short project settings fault before now cut_off = record {
-  founds = [];
-  left = initial_standing project;
-  is_run = IsRunFrom.none;
-  sharp = tt;
-  last = None;
-  ends_so = tt;
-  cut_off = cut-off-as fault _ _ _ _ before now
-      (sym (append-nil (header_line (version_of project) (junction_count project) (tank_count project)))) (sym
-      (append-nil first_line)) cut_off;
-}
+first-cut-short project settings fault before now cut =
+    let off = cut-off-as fault _ _ _ _ before now
+    (sym (append-nil (header_line (version_of project) (junction_count project) (tank_count project))))
+    (sym (append-nil first_line)) cut.cut_off in
+    record {
+      founds = [];
+      left = initial_standing project;
+      is_run = IsRunFrom.none;
+      sharp = tt;
+      last = None;
+      ends_so = tt;
+      names = tt;
+      cut_off = off;
+      in_order = λ c r. inl (
+        off.printed.0,
+        out-and-held before.report.held (report_so_far project (initial_standing project) [] None)
+            off.printed.1.front off.printed.0 r off.printed.1.whole,
+      );
+    }
 
 -- ---- its end
 
 pub is-whole : (project : Project) (settings : Settings) (outcome : Outcome) (left : Standing) (start before now :
     RunMoment) (records : ℕ)
     → records ≡ left.number → records < 2 ^ 32 → EndsSo project left settings.rounds outcome
+    → EndNames project left settings.rounds outcome
     → PutIn (end_line records (is_finished outcome)) (last_line project left records outcome) before now
+    → now.certificate.held ≡ []
     → IsSoFar project (sharpness_of settings) left start before → IsWhole project settings outcome start now
-is-whole project settings outcome left start before now records counted few ends put so_far =
+is-whole project settings outcome left start before now records counted few ends names put emptied so_far =
     let same : records ≡ length so_far.founds = counted ∙ sym so_far.each in
     record {
       founds = so_far.founds;
@@ -188,6 +277,8 @@ is-whole project settings outcome left start before now records counted few ends
       fit = so_far.fit;
       few = subst (λ (n : ℕ). n < 2 ^ 32) same few;
       ends_so = ends;
+      names = names;
+      emptied = emptied;
       put = put-as _ _ _ _ start now (certificate-last project so_far.founds outcome) (report-last project left
           so_far.founds outcome)
           (put-then _ _ _ _ start before now so_far.put
@@ -198,10 +289,15 @@ is-whole project settings outcome left start before now records counted few ends
 pub last-cut-short : (project : Project) (settings : Settings) (fault : OutFault) (outcome : Outcome) (left :
     Standing) (start before now : RunMoment) (records : ℕ)
     → records ≡ left.number → EndsSo project left settings.rounds outcome
-    → IsCutOff fault (end_line records (is_finished outcome)) (last_line project left records outcome) before now
+    → EndNames project left settings.rounds outcome
+    → IsCutAtEnd fault (end_line records (is_finished outcome)) (last_line project left records outcome) before now
     → IsSoFar project (sharpness_of settings) left start before → IsCutShort project settings fault start now
-last-cut-short project settings fault outcome left start before now records counted ends cut_off so_far =
+last-cut-short project settings fault outcome left start before now records counted ends names at_end so_far =
     let same : records ≡ length so_far.founds = counted ∙ sym so_far.each in
+    let cut : IsCutAtEnd fault (end_line (length so_far.founds) (is_finished outcome))
+    (last_line project left (length so_far.founds) outcome) before now =
+    subst (λ (n : ℕ). IsCutAtEnd fault (end_line n (is_finished outcome)) (last_line project left n outcome)
+    before now) same at_end in
     record {
       founds = so_far.founds;
       left = left;
@@ -209,18 +305,18 @@ last-cut-short project settings fault outcome left start before now records coun
       sharp = so_far.sharp;
       last = Some outcome;
       ends_so = ends;
+      names = names;
       cut_off = cut-off-as fault _ _ _ _ start now (certificate-last project so_far.founds outcome) (report-last project
           left so_far.founds outcome)
-          (cut-off-then fault _ _ _ _ start before now so_far.put
-          (subst (λ (n : ℕ). IsCutOff fault (end_line n (is_finished outcome)) (last_line project left n outcome)
-          before now) same cut_off));
+          (cut-off-then fault _ _ _ _ start before now so_far.put cut.cut_off);
+      in_order = λ c r. at-end-in-order project settings outcome start before now c r left fault so_far cut;
     }
 
 -- the pens are emptied, or a fault cuts that off
 pub whole-emptied : (project : Project) (settings : Settings) (outcome : Outcome) (start before now : RunMoment)
-    → IsWhole project settings outcome start before → PutIn [] [] before now
+    → IsWhole project settings outcome start before → PutIn [] [] before now → now.certificate.held ≡ []
     → IsWhole project settings outcome start now
-whole-emptied project settings outcome start before now whole put = record {
+whole-emptied project settings outcome start before now whole put emptied = record {
   founds = whole.founds;
   left = whole.left;
   is_run = whole.is_run;
@@ -228,7 +324,9 @@ whole-emptied project settings outcome start before now whole put = record {
   fit = whole.fit;
   few = whole.few;
   ends_so = whole.ends_so;
+  names = whole.names;
   put = put-as _ _ _ _ start now (append-nil _) (append-nil _) (put-then _ _ _ _ start before now whole.put put);
+  emptied = emptied;
 }
 
 pub whole-cut-off : (project : Project) (settings : Settings) (fault : OutFault) (outcome : Outcome) (start before now :
@@ -242,8 +340,10 @@ whole-cut-off project settings fault outcome start before now whole cut_off = re
   sharp = whole.sharp;
   last = Some outcome;
   ends_so = whole.ends_so;
+  names = whole.names;
   cut_off = cut-off-as fault _ _ _ _ start now (append-nil _) (append-nil _) (cut-off-then fault _ _ _ _ start before
       now whole.put cut_off);
+  in_order = λ c r. emptied-in-order project settings outcome start before now c r fault whole cut_off;
 }
 
 -- ---- what is put out
@@ -306,6 +406,7 @@ put-out project settings outcome start now sound c r c' r' whole =
         report = refl;
         every_history = every_history project sound whole.founds whole.left whole.is_run;
       };
+      names = whole.names;
       written = moved-whole start.told.written now.told.written start.certificate.held a now.certificate.held c c'
           whole.put.written;
       printed = moved-whole start.told.printed now.told.printed start.report.held b now.report.held r r'
@@ -316,10 +417,8 @@ pub broken-off : (project : Project) (settings : Settings) (fault : OutFault) (s
     → start.certificate.held ≡ [] → start.report.held ≡ [] → IsCutShort project settings fault start now
     → IsBrokenOff project settings start.told now.told
 broken-off project settings fault start now sound c r short =
-    let w = out-whole start.told.written now.told.written start.certificate.held
-    (certificate_so_far project short.founds short.last) c short.cut_off.written in
-    let p = out-whole start.told.printed now.told.printed start.report.held
-    (report_so_far project short.left short.founds short.last) r short.cut_off.printed in
+    let w = short.cut_off.written in
+    let p = short.cut_off.printed in
     record {
       certificate = w.1.front;
       report = p.1.front;
@@ -331,11 +430,15 @@ broken-off project settings fault start now sound c r short =
         last = short.last;
         ends_so = short.ends_so;
         unwritten = w.0;
-        front_of_certificate = sym w.1.whole;
+        front_of_certificate = sym w.1.whole
+            ∙ ap (λ (xs : List ℕ). xs ++ certificate_so_far project short.founds short.last) c;
         unprinted = p.0;
-        front_of_report = sym p.1.whole;
+        front_of_report = sym p.1.whole
+            ∙ ap (λ (xs : List ℕ). xs ++ report_so_far project short.left short.founds short.last) r;
         every_history = every_history project sound short.founds short.left short.is_run;
       };
+      names = short.names;
+      in_order = short.in_order c r;
       written = w.1.out;
       printed = p.1.out;
     }

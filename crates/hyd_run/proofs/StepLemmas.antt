@@ -1,5 +1,5 @@
 -- What the steps of a run find and put in.
-use Rattle.std.proofs.Common.{◌≡◌, suc, ◌<◌, ◌^◌, true, false, length, Option, Some, refl, sym, ap, subst, ◌∙◌}
+use Rattle.std.proofs.Common.{◌≡◌, suc, ◌<◌, ◌^◌, true, false, Option, Some, refl, sym, ap, subst, ◌∙◌}
 use Rattle.std.specs.Prelude.{IfSome}
 use Rattle.hyd_spec.specs.ProgramTypes.{Project}
 use Rattle.hyd_spec_certificates.specs.RecordAndStanding.{Standing}
@@ -13,6 +13,7 @@ use Rattle.hyd_report.specs.PeriodLines.{AreTankFacts, lines_of}
 use Rattle.hyd_report.proofs.ReportLemmas.{lines_are_report}
 use Rattle.hyd_io.specs.declared.output.OutFault.{OutFault}
 use Rattle.hyd_sim.specs.RunView.{SimView, IsSim, standing_of}
+use Rattle.hyd_sim.specs.NarrowRecordsAndStops.{NamesStuck}
 use Rattle.hyd_sim.specs.Steps.{IsPeriod}
 use Rattle.hyd_sim.specs.declared.settings.Settings.{Settings}
 use Rattle.hyd_net.specs.Sound.{IsSound}
@@ -23,8 +24,8 @@ use Rattle.hyd_period_facts.specs.declared.facts.Facts.{Facts}
 use Rattle.hyd_period_network.specs.NetView.{NetView}
 use Rattle.hyd_period_network.specs.LawsInSettings.{AreStates}
 use Rattle.hyd_report.specs.NodeAndLinkLines.{texts}
-use Rattle.hyd_run.specs.Pens.{RunMoment, PutIn, IsCutOff}
-use Rattle.hyd_run.specs.Runs.{sharpness_of, IsStep, IsSoFar, IsCutShort, DidPeriod, LostPeriod, IsOver}
+use Rattle.hyd_run.specs.Pens.{RunMoment, PutIn, IsCutInOrder}
+use Rattle.hyd_run.specs.Runs.{sharpness_of, EndNames, IsStep, IsSoFar, IsCutShort, DidPeriod, LostPeriod, IsOver}
 use Rattle.hyd_spec_reports.specs.PromisesOfRunsAndChecks.{Outcome}
 use Rattle.hyd_run.proofs.PeriodLemmas.{tank-facts-of, row-fits, grid-count, number-next, each-link, fewer-left}
 use Rattle.hyd_run.proofs.RunLemmas.{so-far-more, so-far-cut-off}
@@ -72,6 +73,7 @@ pub over-finished : (before now : SimView) (moment : RunMoment) → (standing_of
 over-finished before now moment finished same = record {
   stays = ap standing_of same;
   ends_so = ap (λ (s : SimView). (standing_of s).finished) same ∙ finished;
+  names = tt;
   nothing = refl;
 }
 
@@ -83,6 +85,8 @@ over-stopped before now cause moment is stopped same = record {
   stays = same;
   ends_so = subst (λ (o : Option StopCause). IfSome o (λ (c : StopCause). (now.here.finished ≡ false)
       × Stops now.project (standing_of now) now.settings.rounds c)) stopped is.stopped;
+  names = subst (λ (o : Option StopCause). IfSome o (NamesStuck now.project (standing_of now) now.settings.rounds))
+      stopped is.stuck;
   nothing = refl;
 }
 
@@ -123,6 +127,13 @@ pub steps-end : (project : Project) (settings : Settings) (outcome : Outcome) (b
 steps-end project settings outcome before now m n of_project same over =
     subst (λ (p : Project). EndsSo p (standing_of now) settings.rounds outcome) of_project
     (subst (λ (s : Settings). EndsSo now.project (standing_of now) s.rounds outcome) same over.ends_so)
+
+pub steps-names : (project : Project) (settings : Settings) (outcome : Outcome) (before now : SimView) (m n : RunMoment)
+    → now.project ≡ project → now.settings ≡ settings → IsOver outcome before now m n
+    → EndNames project (standing_of now) settings.rounds outcome
+steps-names project settings outcome before now m n of_project same over =
+    subst (λ (p : Project). EndNames p (standing_of now) settings.rounds outcome) of_project
+    (subst (λ (s : Settings). EndNames now.project (standing_of now) s.rounds outcome) same over.names)
 
 pub steps-over : (project : Project) (settings : Settings) (outcome : Outcome) (before now : SimView) (start m n :
     RunMoment)
@@ -175,7 +186,7 @@ module _ (before now : SimView) (is : IsSim now) (period : IsPeriod before now) 
   }
 
   pub lost-there : (fault : OutFault) (m o : RunMoment) → row.number < 2 ^ 32 → row.time < 2 ^ 32 → row.length < 2 ^ 32
-      → IsCutOff fault (record_text (row_of row)) (texts project (lines_of project (grid_of net) (states_of net)
+      → IsCutInOrder fault (record_text (row_of row)) (texts project (lines_of project (grid_of net) (states_of net)
       (row_of row) facts)) m o
       → LostPeriod fault before now m o
   lost-there fault m o number time seconds cut_off = record {

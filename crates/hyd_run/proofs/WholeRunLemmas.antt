@@ -13,9 +13,9 @@ use Rattle.hyd_io.specs.declared.output.OutFault.{OutFault}
 use Rattle.hyd_io.specs.Output.{PenState}
 use Rattle.hyd_sim.specs.RunView.{header_for}
 use Rattle.hyd_sim.specs.declared.settings.Settings.{Settings}
-use Rattle.hyd_run.specs.Pens.{Told, RunMoment, moment, AreOpen, PutIn, IsCutOff, OneRose, LeavesRest}
+use Rattle.hyd_run.specs.Pens.{Told, RunMoment, moment, AreOpen, PutIn, IsCutInOrder, IsCutAtEnd, OneRose, LeavesRest}
 use Rattle.hyd_run.specs.Runs.{sharpness_of, fresh, first_line, IsSoFar, IsWhole, IsCutShort, IsPutOut, IsBrokenOff}
-use Rattle.hyd_run.specs.Runs.{RunPuts, outcome_of}
+use Rattle.hyd_run.specs.Runs.{EndNames, RunPuts, outcome_of}
 use Rattle.hyd_run.specs.declared.outcome.RunEnd.{RunEnd}
 use Rattle.hyd_run.proofs.RunLemmas.{so-far-begins, first-cut-short, is-whole, last-cut-short, put-out, broken-off}
 
@@ -48,31 +48,34 @@ begun project settings left header before now same start put =
 pub begun-cut-off : (project : Project) (settings : Settings) (fault : OutFault) (header : Header)
     (before now : RunMoment)
     → header ≡ header_for project
-    → IsCutOff fault (header_text header) first_line before now → IsCutShort project settings fault before now
-begun-cut-off project settings fault header before now same cut_off =
+    → IsCutInOrder fault (header_text header) first_line before now → IsCutShort project settings fault before now
+begun-cut-off project settings fault header before now same cut =
     first-cut-short project settings fault before now
-    (subst (λ (h : Header). IsCutOff fault (header_text h) first_line before now) same cut_off)
+    (subst (λ (h : Header). IsCutInOrder fault (header_text h) first_line before now) same cut)
 
 -- the last lines were put in, or a fault cut them off
 pub ended : (project shown : Project) (settings : Settings) (outcome : Outcome) (left : Standing) (start before
     now : RunMoment) (records : ℕ)
     → shown ≡ project → records ≡ left.number → left.number < 2 ^ 32 → EndsSo project left settings.rounds outcome
+    → EndNames project left settings.rounds outcome
     → PutIn (end_line records (is_finished outcome)) (last_line shown left records outcome) before now
+    → now.certificate.held ≡ []
     → IsSoFar project (sharpness_of settings) left start before → IsWhole project settings outcome start now
-ended project shown settings outcome left start before now records same counted few ends put =
-    is-whole project settings outcome left start before now records counted (omega (arith, counted, few)) ends
+ended project shown settings outcome left start before now records same counted few ends names put =
+    is-whole project settings outcome left start before now records counted (omega (arith, counted, few)) ends names
     (subst (λ (p : Project). PutIn (end_line records (is_finished outcome)) (last_line p left records outcome)
     before now) same put)
 
 pub ended-cut-off : (project shown : Project) (settings : Settings) (fault : OutFault) (outcome : Outcome) (left :
     Standing) (start before now : RunMoment) (records : ℕ)
     → shown ≡ project → records ≡ left.number → EndsSo project left settings.rounds outcome
-    → IsCutOff fault (end_line records (is_finished outcome)) (last_line shown left records outcome) before now
+    → EndNames project left settings.rounds outcome
+    → IsCutAtEnd fault (end_line records (is_finished outcome)) (last_line shown left records outcome) before now
     → IsSoFar project (sharpness_of settings) left start before → IsCutShort project settings fault start now
-ended-cut-off project shown settings fault outcome left start before now records same counted ends cut_off =
-    last-cut-short project settings fault outcome left start before now records counted ends
-    (subst (λ (p : Project). IsCutOff fault (end_line records (is_finished outcome)) (last_line p left records
-    outcome) before now) same cut_off)
+ended-cut-off project shown settings fault outcome left start before now records same counted ends names cut =
+    last-cut-short project settings fault outcome left start before now records counted ends names
+    (subst (λ (p : Project). IsCutAtEnd fault (end_line records (is_finished outcome)) (last_line p left records
+    outcome) before now) same cut)
 
 -- ---- what a run gives
 
@@ -115,12 +118,12 @@ module _ (project : Project) (settings : Settings) (start now : RunMoment) (soun
 -- what the last lines make of a run, as of the one that was begun
 pub ending-puts : (project p : Project) (settings s : Settings) (left : Standing) (outcome : Outcome)
     (result : Result RunEnd OutFault) (start before now : RunMoment) → p ≡ project → s ≡ settings
-    → (EndsSo p left s.rounds outcome → (x : RunMoment) → IsSoFar p (sharpness_of s) left x before
-    → RunPuts result p s x now)
-    → EndsSo project left settings.rounds outcome → IsSoFar project (sharpness_of settings) left start before
-    → RunPuts result project settings start now
-ending-puts project p settings s left outcome result start before now e f puts ends so_far =
-    subst (λ (t : Settings). EndsSo project left t.rounds outcome → (x : RunMoment)
-    → IsSoFar project (sharpness_of t) left x before → RunPuts result project t x now) f
-    (subst (λ (q : Project). EndsSo q left s.rounds outcome → (x : RunMoment)
-    → IsSoFar q (sharpness_of s) left x before → RunPuts result q s x now) e puts) ends start so_far
+    → (EndsSo p left s.rounds outcome → EndNames p left s.rounds outcome → (x : RunMoment)
+    → IsSoFar p (sharpness_of s) left x before → RunPuts result p s x now)
+    → EndsSo project left settings.rounds outcome → EndNames project left settings.rounds outcome
+    → IsSoFar project (sharpness_of settings) left start before → RunPuts result project settings start now
+ending-puts project p settings s left outcome result start before now e f puts ends names so_far =
+    subst (λ (t : Settings). EndsSo project left t.rounds outcome → EndNames project left t.rounds outcome
+    → (x : RunMoment) → IsSoFar project (sharpness_of t) left x before → RunPuts result project t x now) f
+    (subst (λ (q : Project). EndsSo q left s.rounds outcome → EndNames q left s.rounds outcome → (x : RunMoment)
+    → IsSoFar q (sharpness_of s) left x before → RunPuts result q s x now) e puts) ends names start so_far

@@ -1,6 +1,7 @@
 -- Two pens at one desk: what is put in at both, and what goes out of it.
 -- Source: this program's.
-use Rattle.std.specs.Prelude.{◌≡◌, ◌≢◌, ◌⊎◌, ℕ, Bool, IsTrue, List, ◌++◌, Option, Some, None, is_some, Result, Ok, Err}
+use Rattle.std.specs.Prelude.{◌≡◌, ◌≢◌, ◌⊎◌, ℕ, Bool, IsTrue, List, [], ◌++◌, Option, Some, None, is_some, Result, Ok}
+use Rattle.std.specs.Prelude.{Err}
 use Rattle.hyd_io.specs.declared.desk.Faults.{Faults}
 use Rattle.hyd_io.specs.declared.desk.Openings.{Openings}
 use Rattle.hyd_io.specs.declared.output.Channel.TheVariants.{Cert, Report}
@@ -89,3 +90,28 @@ pub record IsCutOff (fault : OutFault) (certificate report : List ℕ) (before n
 abbrev pub PutsIn : List ℕ → List ℕ → Result (Unit {0}) OutFault → RunMoment → RunMoment → Type 0
 PutsIn certificate report (Ok done) before now = PutIn certificate report before now
 PutsIn certificate report (Err fault) before now = IsCutOff fault certificate report before now
+
+-- One call failed, and nothing was put in for the report before the certificate's text: nothing of the report went out,
+-- or what didn't go out of the certificate's text is held by its pen.
+pub record IsCutInOrder (fault : OutFault) (certificate report : List ℕ) (before now : RunMoment) : Type 0 where
+  pub cut_off : IsCutOff fault certificate report before now
+  pub in_order : (cut_off.printed.1.front ≡ []) ⊎ (cut_off.written.0 ≡ now.certificate.held)
+
+-- What a call says that puts a text in at each pen, the certificate's first.
+abbrev pub PutsInOrder : List ℕ → List ℕ → Result (Unit {0}) OutFault → RunMoment → RunMoment → Type 0
+PutsInOrder certificate report (Ok done) before now = PutIn certificate report before now
+PutsInOrder certificate report (Err fault) before now = IsCutInOrder fault certificate report before now
+
+-- One call failed, and nothing of the report went out unless all did of what the certificate's pen held and of the text
+-- for it.
+pub record IsCutAtEnd (fault : OutFault) (certificate report : List ℕ) (before now : RunMoment) : Type 0 where
+  pub cut_off : IsCutOff fault certificate report before now
+  pub in_order : (cut_off.printed.1.front ≡ [])
+      ⊎ (cut_off.written.1.front ≡ before.certificate.held ++ certificate)
+
+-- What a call says that puts the last text in at each pen, and empties the certificate's before anything is put in for
+-- the report.
+abbrev pub PutsLast : List ℕ → List ℕ → Result (Unit {0}) OutFault → RunMoment → RunMoment → Type 0
+PutsLast certificate report (Ok done) before now =
+    PutIn certificate report before now × (now.certificate.held ≡ [])
+PutsLast certificate report (Err fault) before now = IsCutAtEnd fault certificate report before now

@@ -1,4 +1,5 @@
-//! The first lines put in at one pen, and at both, and the emptying of one pen or both.
+//! The first lines put in at one pen, and at both, and the emptying of one pen or both. Of both the certificate's comes
+//! first.
 #![tactic(auto)]
 
 ghost use Rattle.std.specs.Prelude.{◌≡◌, [], IsTrue, OnOk};
@@ -6,7 +7,7 @@ ghost use Rattle.hyd_io.specs.Output.{OnCert};
 ghost use Rattle.hyd_cert.specs.Lines.{header_text};
 ghost use Rattle.hyd_cert.specs.RecordView.{header_of};
 ghost use Rattle.hyd_io.specs.TextPutIn.{Puts};
-ghost use Rattle.hyd_run.specs.Pens.{told, moment, AreOpen, PutsIn};
+ghost use Rattle.hyd_run.specs.Pens.{told, moment, AreOpen, PutsIn, PutsInOrder};
 ghost use Rattle.hyd_run.specs.Runs.{first_line};
 
 use hyd_cert::{Record, put_header};
@@ -31,7 +32,7 @@ pub fn empty<D: Desk>(pen: &mut Pen, desk: &mut D) -> Result<(), OutFault>
     pen.flush(desk)
 }
 
-/// Puts the header of a certificate and the first line of a report.
+/// Puts the header of a certificate, and then the first line of a report.
 pub(crate) fn put_front<D: Desk>(
     row: &Record,
     certificate: &mut Pen,
@@ -40,7 +41,7 @@ pub(crate) fn put_front<D: Desk>(
 ) -> Result<(), OutFault>
     requires { AreOpen (moment certificate.old report.old
         (told D.files D.rest D.written D.printed D.target D.ready D.counts D.openings desk.old)) }
-    ensures { PutsIn (header_text (header_of row.now)) first_line result
+    ensures { PutsInOrder (header_text (header_of row.now)) first_line result
         (moment certificate.old report.old
         (told D.files D.rest D.written D.printed D.target D.ready D.counts D.openings desk.old))
         (moment certificate.new report.new

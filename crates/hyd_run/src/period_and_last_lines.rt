@@ -1,7 +1,9 @@
-//! The record and the report of one period, and the last lines of a run.
+//! The record and the report of one period, and the last lines of a run. What is for the certificate comes first, and all
+//! of it is out before the last line of the report is put in: a full disk leaves no whole report beside a part of its
+//! certificate.
 #![tactic(auto)]
 
-ghost use Rattle.std.specs.Prelude.{◌≡◌, ◌<◌};
+ghost use Rattle.std.specs.Prelude.{◌≡◌, ◌<◌, [], OnOk};
 ghost use Rattle.hyd_io.specs.Output.{OnCert};
 ghost use Rattle.std.specs.Prelude.{IsTrue};
 ghost use Rattle.hyd_net.specs.Sound.{IsSound};
@@ -17,9 +19,10 @@ ghost use Rattle.hyd_period_network.specs.LawsInSettings.{AreStates};
 ghost use Rattle.hyd_report.specs.NodeAndLinkLines.{texts};
 ghost use Rattle.hyd_report.specs.PeriodLines.{AreTankFacts, lines_of};
 ghost use Rattle.hyd_io.specs.TextPutIn.{Puts};
-ghost use Rattle.hyd_run.specs.Pens.{told, moment, AreOpen, PutsIn};
+ghost use Rattle.hyd_run.specs.Pens.{told, moment, AreOpen, PutsInOrder, PutsLast};
 ghost use Rattle.hyd_run.specs.Runs.{outcome_of};
 
+use crate::first_lines_and_emptied_pens::empty;
 use crate::outcome::{RunEnd, is_finished};
 use hyd_cert::{Record, put_end, put_record};
 use hyd_io::{Desk, OutFault, Pen};
@@ -28,8 +31,8 @@ use hyd_period_facts::Facts;
 use hyd_period_network::Net;
 use hyd_report::{put_done, put_report, put_stop};
 
-/// Puts the record of a period and its report. Net, record and facts are those of one period, and the vectors are its
-/// certificates.
+/// Puts the record of a period, and then its report. Net, record and facts are those of one period, and the vectors are
+/// its certificates.
 pub(crate) fn put_period<D: Desk>(
     project: &Project,
     net: &Net,
@@ -48,7 +51,7 @@ pub(crate) fn put_period<D: Desk>(
     requires links { states_of net.now ≡ facts.now.links.list }
     requires unbroken { AreOpen (moment certificate.old report.old
         (told D.files D.rest D.written D.printed D.target D.ready D.counts D.openings desk.old)) }
-    ensures { PutsIn (record_text (row_of row.now))
+    ensures { PutsInOrder (record_text (row_of row.now))
         (texts project.now (lines_of project.now (grid_of net.now) (states_of net.now) (row_of row.now) facts.now))
         result
         (moment certificate.old report.old
@@ -86,7 +89,27 @@ pub fn put_last_line<D: Desk>(
     }
 }
 
-/// Puts the END line and the last line of a report, with the number of records and the time at which the run stopped.
+// Puts the END line, and empties the pen.
+fn write_end<D: Desk>(
+    records: u32,
+    finished: bool,
+    pen: &mut Pen,
+    desk: &mut D,
+) -> Result<(), OutFault>
+    requires { OnCert pen.old.to (IsTrue (D.ready desk.old)) }
+    ensures puts { Puts D.files D.rest D.written D.printed D.target D.ready D.counts D.openings
+        (end_line records finished) result pen.old pen.new desk.old desk.new }
+    ensures empty { OnOk result (pen.new.held ≡ []) }
+{
+    match put_end(records, finished, pen, desk) {
+        Ok(()) => {}
+        Err(fault) => return Err(fault),
+    }
+    empty(pen, desk)
+}
+
+/// Puts the END line, which goes out, and then the last line of a report, with the number of records and the time at
+/// which the run stopped.
 pub(crate) fn put_last<D: Desk>(
     project: &Project,
     time: u32,
@@ -100,14 +123,14 @@ pub(crate) fn put_last<D: Desk>(
     requires unbroken { AreOpen (moment certificate.old report.old
         (told D.files D.rest D.written D.printed D.target D.ready D.counts D.openings desk.old)) }
     ensures { (standing : Standing) → standing.time ≡ time
-        → PutsIn (end_line records (is_finished (outcome_of end)))
+        → PutsLast (end_line records (is_finished (outcome_of end)))
         (last_line project.now standing records (outcome_of end)) result
         (moment certificate.old report.old
         (told D.files D.rest D.written D.printed D.target D.ready D.counts D.openings desk.old))
         (moment certificate.new report.new
         (told D.files D.rest D.written D.printed D.target D.ready D.counts D.openings desk.new)) }
 {
-    match put_end(records, is_finished(end), certificate, desk) {
+    match write_end(records, is_finished(end), certificate, desk) {
         Ok(()) => {}
         Err(fault) => return Err(fault),
     }

@@ -10,7 +10,8 @@ ghost use Rattle.hyd_spec.specs.ProgramTypes.{Project};
 ghost use Rattle.hyd_spec_reports.specs.PromisesOfRunsAndChecks.{EndsSo};
 ghost use Rattle.hyd_sim.specs.declared.settings.Settings.{Settings};
 ghost use Rattle.hyd_run.specs.Pens.{RunMoment, told, moment, AreOpen, OneRose, LeavesRest};
-ghost use Rattle.hyd_run.specs.Runs.{fresh, outcome_of, sharpness_of, IsSoFar, IsWhole, IsPutOut, IsBrokenOff, RunPuts};
+ghost use Rattle.hyd_run.specs.Runs.{fresh, outcome_of, sharpness_of, EndNames, IsSoFar, IsWhole, IsPutOut, IsBrokenOff};
+ghost use Rattle.hyd_run.specs.Runs.{RunPuts};
 
 use crate::first_lines_and_emptied_pens::{empty_both, put_front};
 use crate::outcome::RunEnd;
@@ -31,6 +32,7 @@ fn put_ending<D: Desk>(
     requires { AreOpen (moment certificate.old report.old
         (told D.files D.rest D.written D.printed D.target D.ready D.counts D.openings desk.old)) }
     ensures { EndsSo sim.now.project (standing_of sim.now) sim.now.settings.rounds (outcome_of end)
+        → EndNames sim.now.project (standing_of sim.now) sim.now.settings.rounds (outcome_of end)
         → (start : RunMoment)
         → IsSoFar sim.now.project (sharpness_of sim.now.settings) (standing_of sim.now) start
         (moment certificate.old report.old
@@ -115,7 +117,7 @@ fn finish<D: Desk>(
 /// - `Stalled`: such a call took nothing, and the stalls rose by one.
 ///
 /// After either nothing more is called, and what was written and printed are fronts of the certificate and of the
-/// report of the run as far as it went.
+/// report of the run as far as it went. Of the last line nothing is printed unless all of the certificate was written.
 pub fn run<D: Desk, F: Finder>(
     sim: &mut Sim,
     finder: &mut F,

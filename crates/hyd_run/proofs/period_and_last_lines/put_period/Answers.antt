@@ -2,7 +2,7 @@
 use Rattle.std.proofs.Common.{subst, sym}
 use Rattle.std.specs.Prelude.{IsTrue}
 use Rattle.hyd_cert.specs.RecordView.{row_of}
-use Rattle.hyd_run.proofs.PenLemmas.{on_any, both-put, first-cut-off}
+use Rattle.hyd_run.proofs.PenLemmas.{on_any, both-put-in-order, cut-off-in-order}
 use Rattle.hyd_run.proofs.PeriodLemmas.{bounds-of}
 use Rattle.hyd_run.proofs.period_and_last_lines.put_period.Goals as goal
 
@@ -20,7 +20,8 @@ put_report-requires-clause-ready g c = on_any _ _ (subst IsTrue (sym c.in-Ok.ens
     c.requires.unbroken.ready)
 
 pub returns-in-Err : goal.returns-in-Err
-returns-in-Err g c = first-cut-off _ _ c.in-Err.fault _ _ _ _ _ c.requires.unbroken c.in-Err.ensures
+returns-in-Err g c = cut-off-in-order _ _ c.in-Err.fault _ _ _ _ _ c.requires.unbroken c.in-Err.ensures
 
 pub returns : goal.returns
-returns g c = both-put _ _ _ _ _ _ _ _ _ _ c.requires.unbroken c.in-Ok.ensures c.put_report.ensures.puts
+returns g c =
+    both-put-in-order _ _ _ _ _ _ _ _ _ _ c.requires.unbroken c.in-Ok.ensures c.put_report.ensures.puts

@@ -1,6 +1,6 @@
 -- One step after another.
 use Rattle.std.proofs.Common.{◌∙◌}
-use Rattle.hyd_run.proofs.StepLemmas.{steps-more, steps-cut-off, steps-end, steps-over}
+use Rattle.hyd_run.proofs.StepLemmas.{steps-more, steps-cut-off, steps-end, steps-names, steps-over}
 use Rattle.hyd_run.proofs.steps.put_steps.Goals as goal
 
 pub returns-in-Ok-Some-clause-puts : goal.returns-in-Ok-Some-clause-puts
@@ -10,7 +10,10 @@ returns-in-Ok-Some-clause-puts g c =
     let s = c.put_step.ensures.settings ∙ i.settings in
     let over = rw c.in-Ok-Some.field-0-is at c.in-Ok-Some.ensures.puts in (
       steps-end _ _ _ _ _ _ _ p s over,
-      λ start so_far. steps-over _ c.args.sim.now.settings _ _ _ start _ _ over (i.so_far start so_far),
+      (
+        steps-names _ _ _ _ _ _ _ p s over,
+        λ start so_far. steps-over _ c.args.sim.now.settings _ _ _ start _ _ over (i.so_far start so_far),
+      ),
     )
 
 pub returns-in-Err-clause-puts : goal.returns-in-Err-clause-puts

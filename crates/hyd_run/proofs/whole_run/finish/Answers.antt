@@ -7,6 +7,7 @@ use Rattle.hyd_run.proofs.whole_run.finish.Goals as goal
 pub returns-in-Ok-clause-puts : goal.returns-in-Ok-clause-puts
 returns-in-Ok-clause-puts g c = λ project settings start whole.
     whole-emptied project settings (outcome_of c.args.end) start _ _ whole c.in-Ok.ensures.puts
+    c.in-Ok.ensures.certificate
 
 pub returns-in-Ok-clause-certificate : goal.returns-in-Ok-clause-certificate
 returns-in-Ok-clause-certificate g c =

@@ -14,15 +14,16 @@ put_last-requires g c = record {
 }
 
 pub returns-in-Ok : goal.returns-in-Ok
-returns-in-Ok g c = λ ends start so_far.
+returns-in-Ok g c = λ ends names start so_far.
     ended _ c.project.result.now c.args.sim.now.settings (outcome_of c.args.end) (standing_of c.args.sim.now) start
     _ _ c.number.result
-    c.project.ensures.project c.number.ensures (small-number _ c.project.ensures.is_sim) ends
-    (c.in-Ok.ensures (standing_of c.args.sim.now) (sym c.time.ensures)) so_far
+    c.project.ensures.project c.number.ensures (small-number _ c.project.ensures.is_sim) ends names
+    (c.in-Ok.ensures (standing_of c.args.sim.now) (sym c.time.ensures)).0
+    (c.in-Ok.ensures (standing_of c.args.sim.now) (sym c.time.ensures)).1 so_far
 
 pub returns-in-Err : goal.returns-in-Err
-returns-in-Err g c = λ ends start so_far.
+returns-in-Err g c = λ ends names start so_far.
     ended-cut-off _ c.project.result.now c.args.sim.now.settings c.in-Err.fault (outcome_of c.args.end) (standing_of
     c.args.sim.now) start _ _ c.number.result
-    c.project.ensures.project c.number.ensures ends
+    c.project.ensures.project c.number.ensures ends names
     (c.in-Err.ensures (standing_of c.args.sim.now) (sym c.time.ensures)) so_far

@@ -29,7 +29,7 @@ returns-in-Ok-put_steps-clause-puts g c =
     ending-puts c.args.sim.now.project c.put_steps.new.sim.project c.args.sim.now.settings
     c.put_steps.new.sim.settings
     (standing_of c.put_steps.new.sim) (outcome_of c.in-Ok-put_steps.end) c.put_ending.result _ _ _
-    c.put_steps.ensures.project c.put_steps.ensures.settings c.put_ending.ensures steps.0
-    (steps.1 _
+    c.put_steps.ensures.project c.put_steps.ensures.settings c.put_ending.ensures steps.0 steps.1.0
+    (steps.1.1 _
     (begun _ c.args.sim.now.settings _ _ _ _ (ap header_of c.row.ensures ∙ c.project-project.ensures.is_sim.header)
     c.requires.start c.in-Ok.ensures))
