@@ -1,6 +1,7 @@
 -- What a closure leaves: a vector for each side, and what was found of it.
 -- Source: this program's.
 use Rattle.std.specs.Prelude.{◌≡◌, ◌⊎◌, ℕ, ◌≤ℤ◌, ℤ, List, length, slice_get, Some, Bool, true, false, IsTrue}
+use Rattle.std.specs.Prelude.{◌&&◌, int_le, if◌then◌else◌}
 use Rattle.hyd_spec.specs.Assignment.{head_at}
 use Rattle.hyd_spec_certificates.specs.declared.Problem.TheVariants.{Main}
 use Rattle.hyd_spec_certificates.specs.declared.Side.{Side}
@@ -10,6 +11,7 @@ use Rattle.hyd_spec_certificates.specs.PeriodNetwork.{Grid}
 use Rattle.hyd_spec_certificates.specs.Certificate.{IsCertificate, IsTight}
 use Rattle.hyd_spec_pressure_targets.specs.ClosureWords.{HasNoneOn, AreSpentOn}
 use Rattle.hyd_spec_pressure_targets.specs.declared.ClosureWord.{ClosureWord}
+use Rattle.hyd_spec_pressure_targets.specs.declared.ClosureWord.TheVariants.{Safe as SafeWord, Low as LowWord}
 use Rattle.hyd_spec_pressure_targets.specs.declared.ClosureWord.TheVariants.{Unsure, NoCertificate as NoWord}
 use Rattle.hyd_spec_pressure_targets.specs.declared.ClosureWord.TheVariants.{RoundsSpent as SpentWord}
 use Rattle.hyd_fire.specs.declared.answers.Found.{Found}
@@ -66,3 +68,10 @@ word_without sides = by sides.upper sides.lower
     by Tight NoCertificate = NoWord
     by NoCertificate NoCertificate = NoWord
     by upper lower = SpentWord
+
+-- the word of junction j with the target between two heads, by the vectors that stand there: SAFE before LOW
+abbrev pub word_by : StudyView → Sides → ℕ → LevelSpan → ClosureWord
+word_by left sides j target =
+    if has_vector sides.lower && int_le target.hi (head_at left.lower j) then SafeWord
+    else if has_vector sides.upper && int_le (head_at left.upper j) target.lo then LowWord
+    else word_without sides

@@ -1,12 +1,12 @@
 //! The word of a junction while a pipe is shut.
 #![tactic(auto)]
 
-ghost use Rattle.std.specs.Prelude.{◌≡◌, ◌<◌, ◌≤ℤ◌, ◌↔◌, ℕ, List, length, Some, slice_get, IsTrue};
+ghost use Rattle.std.specs.Prelude.{◌≡◌, ◌<◌, ◌≤ℤ◌, ◌↔◌, ℕ, List, length, Some, slice_get, IsTrue, ◌&&◌, int_le};
 ghost use Rattle.hyd_spec.specs.Assignment.{head_at};
 ghost use Rattle.hyd_spec_certificates.specs.declared.LevelSpan.{LevelSpan};
 ghost use Rattle.hyd_spec_certificates.specs.PeriodNetwork.{Grid};
 ghost use Rattle.hyd_spec_pressure_targets.specs.ClosureWords.{IsWord};
-ghost use Rattle.hyd_fire.specs.SidesOfClosures.{has_vector, word_without, IsLeft};
+ghost use Rattle.hyd_fire.specs.SidesOfClosures.{has_vector, word_without, word_by, IsLeft};
 
 use crate::answers::{Found, Sides};
 use crate::study::Study;
@@ -27,7 +27,8 @@ pub(crate) fn has_vector(found: Found) -> bool
 /// Whether a LOWER vector, if one stands there, has the upper head of a target at a junction, or more.
 pub(crate) fn is_safe(found: Found, lower: &[i64], junction: u32, target: LevelSpan) -> bool
     requires { junction < length lower.now }
-    ensures { IsTrue result ↔ (IsTrue (has_vector found) × (target.hi ≤ℤ head_at lower.now junction)) }
+    ensures value { result ≡ has_vector found && int_le target.hi (head_at lower.now junction) }
+    ensures shows { IsTrue result ↔ (IsTrue (has_vector found) × (target.hi ≤ℤ head_at lower.now junction)) }
 {
     has_vector(found) && target.hi <= head_of(lower, junction)
 }
@@ -35,7 +36,8 @@ pub(crate) fn is_safe(found: Found, lower: &[i64], junction: u32, target: LevelS
 /// Whether an UPPER vector, if one stands there, has the lower head of a target at a junction, or less.
 pub(crate) fn is_low(found: Found, upper: &[i64], junction: u32, target: LevelSpan) -> bool
     requires { junction < length upper.now }
-    ensures { IsTrue result ↔ (IsTrue (has_vector found) × (head_at upper.now junction ≤ℤ target.lo)) }
+    ensures value { result ≡ has_vector found && int_le (head_at upper.now junction) target.lo }
+    ensures shows { IsTrue result ↔ (IsTrue (has_vector found) × (head_at upper.now junction ≤ℤ target.lo)) }
 {
     has_vector(found) && head_of(upper, junction) <= target.lo
 }
@@ -57,7 +59,8 @@ fn word_without(sides: Sides) -> ClosureWord
 /// junction. The answer is SAFE before it is LOW. No memory is taken.
 pub fn word_of(study: &Study, sides: Sides, junction: u32, target: LevelSpan) -> ClosureWord
     requires { junction < length study.now.upper }
-    ensures { (grid : Grid) (rounds : ℕ) (targets : List LevelSpan) → IsLeft grid rounds targets study.now sides
+    ensures value { result ≡ word_by study.now sides junction target }
+    ensures word { (grid : Grid) (rounds : ℕ) (targets : List LevelSpan) → IsLeft grid rounds targets study.now sides
         → slice_get targets junction ≡ Some target → IsWord grid rounds junction target.lo target.hi result }
 {
     if is_safe(sides.lower, &study.lower, junction, target) {

@@ -7,8 +7,8 @@ use Rattle.hyd_fire.specs.StudyView.{StudyView}
 use Rattle.hyd_fire.proofs.WordsBySides.{left-without}
 use Rattle.hyd_fire.proofs.words.word_of.Goals as goal
 
-pub returns : goal.returns
-returns c grid rounds targets left at =
+pub returns-clause-word : goal.returns-clause-word
+returns-clause-word c grid rounds targets left at =
     let j = c.args.junction in
     let target = c.args.target in
     let study = c.args.study.now in
@@ -19,7 +19,7 @@ returns c grid rounds targets left at =
     let inside : j < length grid.junctions = (let a = c.requires in let b = left.upper_each in omega (arith, a, b)) in
     subst (λ (word : ClosureWord). IsWord grid rounds j target.lo target.hi word) (sym c.word_without.ensures)
     (left-without grid rounds j target study inside targets c.args.sides left at
-    (λ safe. false≢true (sym c.if-is_safe.false ∙ c.is_safe.ensures.1
+    (λ safe. false≢true (sym c.if-is_safe.false ∙ c.is_safe.ensures.shows.1
     (safe.0, subst (λ (u : List ℤ). target.hi ≤ℤ head_at u j) (sym lower) safe.1)))
-    (λ low. false≢true (sym c.if-is_low.false ∙ c.is_low.ensures.1
+    (λ low. false≢true (sym c.if-is_low.false ∙ c.is_low.ensures.shows.1
     (low.0, subst (λ (u : List ℤ). head_at u j ≤ℤ target.lo) (sym upper) low.1))))
