@@ -92,7 +92,10 @@ fn word(net: &Net, link: u32, low: &[i64], high: &[i64]) -> Option<StatusWord> {
 // Whether links have these words.
 fn are_words(net: &Net, rows: &'static [Row], words: &[(u32, StatusWord)]) -> bool {
     for row in words {
-        if word(net, row.0, vector(rows, 1), vector(rows, 0)) != Some(row.1) {
+        let Some(found) = word(net, row.0, vector(rows, 1), vector(rows, 0)) else {
+            return false;
+        };
+        if found != row.1 {
             return false;
         }
     }

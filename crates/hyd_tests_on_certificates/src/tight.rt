@@ -88,7 +88,7 @@ fn is_found(alloc: Global, net: &Net, row: Row) -> Result<bool, OutOfMemory> {
         return Ok(false);
     }
     let (found, heads) = swept(alloc, net, row.0, row.1, 200)?;
-    if found != Swept::Least || heads.as_slice() != row.2 {
+    if !matches!(found, Swept::Least) || heads.as_slice() != row.2 {
         return Ok(false);
     }
     is_sharp(alloc, net, row.0, row.1, row.2)
@@ -107,7 +107,7 @@ pub(crate) fn are_found(alloc: Global, net: &Net, rows: &[Row]) -> Result<bool, 
 // Whether sweeps spend 200 rounds.
 fn is_spent(alloc: Global, net: &Net, side: Side) -> Result<bool, OutOfMemory> {
     let (found, _heads) = swept(alloc, net, Problem::Main, side, 200)?;
-    Ok(found == Swept::RoundsSpent)
+    Ok(matches!(found, Swept::RoundsSpent))
 }
 
 /// Whether sweeps spend 200 rounds on both sides.

@@ -38,6 +38,21 @@ struct Aim {
     ghost target_range: { unsigned_abs target ≤ 2 * 10 ^ 17 },
 }
 
+// Both ends of a level interval.
+fn ends(level: LevelSpan) -> (i64, i64) {
+    (level.lo, level.hi)
+}
+
+// The word of how full a tank is.
+fn fullness(state: Option<TankState>) -> &'static str {
+    match state {
+        Some(TankState::Full) => "full",
+        Some(TankState::Empty) => "empty",
+        Some(TankState::Between) => "between",
+        None => "open",
+    }
+}
+
 /// 20 metres across, from 1 to 10 metres.
 fn tank() -> Tank
     ensures cylinder { IsCylinder result }
@@ -174,8 +189,14 @@ fn levels_are_rounded_widened_and_held(rt: HostRuntime) {
             lo: row.inflow,
             hi: row.inflow,
         };
-        assert_eq!(rt; next_level(&tank, level, inflow, row.seconds), row.next);
-        assert_eq!(rt; level_at(&tank, level, inflow, row.seconds), row.carried);
+        assert_eq!(rt;
+            ends(next_level(&tank, level, inflow, row.seconds)),
+            ends(row.next)
+        );
+        assert_eq!(rt;
+            ends(level_at(&tank, level, inflow, row.seconds)),
+            ends(row.carried)
+        );
     }
 }
 
@@ -306,27 +327,27 @@ fn intervals_keep_both_ends(rt: HostRuntime) {
         hi: 30_000_000_000,
     };
     assert_eq!(rt;
-        next_level(&tank, level, inflow, 7),
-        span(50_002_578_899_530, 50_007_736_699_632)
+        ends(next_level(&tank, level, inflow, 7)),
+        (50_002_578_899_530, 50_007_736_699_632)
     );
     let seconds = first_second(&tank, level, inflow, 51_000_000_000_000, true, 1_000_000);
     assert_eq!(rt; seconds, (905, 2715));
 
     // The bands of 0.0005 foot at the two bounds, and one tick beside them.
     assert_eq!(rt;
-        state_of(&tank, span(99_998_476_000_000, 100_000_000_000_000)),
-        Some(TankState::Full)
+        fullness(state_of(&tank, span(99_998_476_000_000, 100_000_000_000_000))),
+        "full"
     );
     assert_eq!(rt;
-        state_of(&tank, span(99_998_475_999_999, 100_000_000_000_000)),
-        None
+        fullness(state_of(&tank, span(99_998_475_999_999, 100_000_000_000_000))),
+        "open"
     );
     assert_eq!(rt;
-        state_of(&tank, span(10_001_524_000_001, 99_998_475_999_999)),
-        Some(TankState::Between)
+        fullness(state_of(&tank, span(10_001_524_000_001, 99_998_475_999_999))),
+        "between"
     );
     assert_eq!(rt;
-        state_of(&tank, span(10_000_000_000_000, 10_001_524_000_000)),
-        Some(TankState::Empty)
+        fullness(state_of(&tank, span(10_000_000_000_000, 10_001_524_000_000))),
+        "empty"
     );
 }

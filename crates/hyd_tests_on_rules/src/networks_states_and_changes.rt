@@ -72,8 +72,19 @@ pub(crate) fn are_states(states: &[LinkState], expected: &[To]) -> bool {
     true
 }
 
+// Whether two changes have one source.
+fn is_source(source: Source, expected: Source) -> bool {
+    match (source, expected) {
+        (Source::Control(number), Source::Control(other)) => number == other,
+        (Source::Rule(number), Source::Rule(other)) => number == other,
+        _ => false,
+    }
+}
+
 fn is_change(change: &Change, expected: &By) -> bool {
-    change.source == expected.0 && change.link == expected.1 && told(&change.to) == Some(expected.2)
+    is_source(change.source, expected.0)
+        && change.link == expected.1
+        && told(&change.to) == Some(expected.2)
 }
 
 /// Whether changes are these.

@@ -167,6 +167,17 @@ static STARTS: [Start; 10] = [
     },
 ];
 
+// Whether a control is open as is said, or none is.
+fn is_open(found: Option<LevelOpen>, expected: Option<LevelOpen>) -> bool {
+    match (found, expected) {
+        (Some(open), Some(other)) => {
+            open.control == other.control && open.lo == other.lo && open.hi == other.hi
+        }
+        (None, None) => true,
+        _ => false,
+    }
+}
+
 // Whether the period of a row begins as it says.
 fn begins(
     alloc: Global,
@@ -183,7 +194,7 @@ fn begins(
     let level = levels(row.level);
     let settled = settle(project, row.time, &[level], states, &mut changes);
     Ok(
-        settled.err() == row.open
+        is_open(settled.err(), row.open)
             && are_states(states, row.states)
             && are_changes(changes.rows(), row.changes),
     )

@@ -254,12 +254,29 @@ fn known(project: &Project, states: &[LinkState], row: &Instant) -> Option<Truth
     Some(decide(project, row.0, &low, &high, &flows, &[level], states, row.1))
 }
 
+// Whether this is known.
+fn is_truth(known: Option<Truth>, expected: Truth) -> bool {
+    match (known, expected) {
+        (Some(Truth::True), Truth::True) => true,
+        (Some(Truth::False), Truth::False) => true,
+        (
+            Some(Truth::Open { clause, lo, hi }),
+            Truth::Open {
+                clause: other,
+                lo: low,
+                hi: high,
+            },
+        ) => clause == other && lo == low && hi == high,
+        _ => false,
+    }
+}
+
 // The first of some rows of which something else is known.
 fn first_wrong(project: &Project, states: &[LinkState], rows: &[Instant]) -> Option<usize>
     requires { IsSound project.now }
 {
     for (number, row) in rows.iter().enumerate() {
-        if known(project, states, row) != Some(row.5) {
+        if !is_truth(known(project, states, row), row.5) {
             return Some(number);
         }
     }
@@ -310,10 +327,10 @@ pub(crate) fn wrong_group(alloc: Global, project: &Project) -> Result<Option<usi
     requires { IsSound project.now }
 {
     let states = starts(alloc, project)?;
-    if known_at(project, &states, 3_600) != Some(Truth::False) {
+    if !is_truth(known_at(project, &states, 3_600), Truth::False) {
         return Ok(Some(0));
     }
-    if known_at(project, &states, 18_000) != Some(Truth::True) {
+    if !is_truth(known_at(project, &states, 18_000), Truth::True) {
         return Ok(Some(1));
     }
     Ok(None)

@@ -596,13 +596,28 @@ fn moved(
     ))
 }
 
+// Whether a stock is this content.
+fn is_content(stock: &Stock, content: Content) -> bool {
+    stock.level.lo == content.0.0
+        && stock.level.hi == content.0.1
+        && stock.volume.lo == content.1.0
+        && stock.volume.hi == content.1.1
+}
+
+// Whether the stock moved is the one content, and the stock at an instant the other.
+fn are_contents(answer: Option<(Stock, Stock)>, next: Content, carried: Content) -> bool {
+    let Some((moved, at)) = answer else {
+        return false;
+    };
+    is_content(&moved, next) && is_content(&at, carried)
+}
+
 #[test]
 fn stocks_move_along_the_curve(rt: HostRuntime) -> Result<(), Fail> {
     let project = read(rt.alloc(), TEXT)?;
     for (place, row) in MOVES.iter().enumerate() {
-        let expected = Some((stock(row.3), stock(row.4)));
         let answer = moved(&project, row.0, row.1, row.2);
-        assert_eq!(rt; answer, expected, "row {place}");
+        assert!(rt; are_contents(answer, row.3, row.4), "row {place}");
     }
     Ok(())
 }
