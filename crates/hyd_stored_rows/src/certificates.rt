@@ -126,10 +126,15 @@ pub(crate) fn put_failing_read(
     let mut answer = String::new(alloc);
     let call = asked.parse::<u32>().unwrap_or(0);
     put_answers(alloc, text.as_bytes(), call, &mut row, &mut answer)?;
-    out.push_str(match answer.as_str().rsplit_once("; ") {
-        Some((_, end)) => end,
-        None => answer.as_str(),
-    })
+    out.push_str(last_part(answer.as_str()))
+}
+
+/// What stands behind the last semicolon, or all.
+fn last_part(text: &str) -> &str {
+    match text.rsplit_once("; ") {
+        Some((_, last)) => last,
+        None => text,
+    }
 }
 
 /// Puts the numbers and the heads of the text into a record, and tells whether they are found there.

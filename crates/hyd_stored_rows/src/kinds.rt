@@ -4,12 +4,14 @@ use crate::capacities::{put_emitter, put_pipe, put_pressure_demand, put_pump, pu
 use crate::certificates::{
     put_cut, put_failing_read, put_first_version, put_printed, put_second_version,
 };
+use crate::desks_and_pens::{put_answers_of_pen, put_calls_of_pen, put_copy};
 use crate::faults_of_texts::{
     put_fault_behind, put_fault_of_bytes, put_fault_of_many, put_first_row, put_kept,
     put_text_fault,
 };
 use crate::lines::{put_first_word, put_lines, put_long_line};
 use crate::lines_of_sections::{Reader, put_line};
+use crate::lists_and_factors::{put_great_loads, put_grid, put_many_items, put_two_nodes};
 use crate::numbers::{
     put_decimal, put_factor, put_order, put_pair, put_root, put_roots_of_products, put_three_halves,
 };
@@ -24,6 +26,7 @@ pub(crate) enum Kind {
     Number(OfNumbers),
     Quantity(OfQuantities),
     Text(OfTexts),
+    Other(OfOthers),
     /// What the reader of the lines of a section says of one under its heading.
     Line(&'static str, Reader),
 }
@@ -74,8 +77,20 @@ pub(crate) enum OfTexts {
     FaultOfBytes,
 }
 
+/// What a row of desks, pens, lists and factors asks for.
+#[derive(Clone, Copy, Drop)]
+pub(crate) enum OfOthers {
+    Copy,
+    CallsOfPen,
+    AnswersOfPen,
+    ManyItems,
+    Grid,
+    TwoNodes,
+    GreatLoads,
+}
+
 /// The files of rows, and what they ask for.
-pub(crate) const KINDS: [(&str, Kind); 49] = [
+pub(crate) const KINDS: [(&str, Kind); 56] = [
     ("decimals", Kind::Number(OfNumbers::Decimal)),
     ("pairs", Kind::Number(OfNumbers::Pair)),
     ("whole-roots", Kind::Number(OfNumbers::Root)),
@@ -158,6 +173,22 @@ pub(crate) const KINDS: [(&str, Kind); 49] = [
     ),
     ("limits-of-rows", Kind::Text(OfTexts::FaultOfMany)),
     ("limits-of-bytes", Kind::Text(OfTexts::FaultOfBytes)),
+    ("copies-whose-calls-fail", Kind::Other(OfOthers::Copy)),
+    ("calls-of-pens", Kind::Other(OfOthers::CallsOfPen)),
+    (
+        "pens-that-answered-a-fault",
+        Kind::Other(OfOthers::AnswersOfPen),
+    ),
+    (
+        "lists-and-names-of-many-items",
+        Kind::Other(OfOthers::ManyItems),
+    ),
+    ("factors-of-chains-and-grids", Kind::Other(OfOthers::Grid)),
+    ("factors-of-two-nodes", Kind::Other(OfOthers::TwoNodes)),
+    (
+        "factors-under-great-loads",
+        Kind::Other(OfOthers::GreatLoads),
+    ),
 ];
 
 /// Writes what is worked out for what a row asks.
@@ -171,6 +202,7 @@ pub(crate) fn write_answer(
         Kind::Number(of) => write_number(of, asked, out),
         Kind::Quantity(of) => write_quantity(of, asked, out),
         Kind::Text(of) => write_text(alloc, of, asked, out),
+        Kind::Other(of) => write_other(alloc, of, asked, out),
         Kind::Line(heading, reader) => put_line(alloc, heading, reader, asked, out),
     }
 }
@@ -221,5 +253,23 @@ fn write_text(alloc: Global, of: OfTexts, asked: &str, out: &mut String) -> Resu
         OfTexts::FaultBehind => put_fault_behind(alloc, asked, out),
         OfTexts::FaultOfMany => put_fault_of_many(alloc, asked, out),
         OfTexts::FaultOfBytes => put_fault_of_bytes(alloc, asked, out),
+    }
+}
+
+/// The same of desks, pens, lists and factors.
+fn write_other(
+    alloc: Global,
+    of: OfOthers,
+    asked: &str,
+    out: &mut String,
+) -> Result<(), AllocError> {
+    match of {
+        OfOthers::Copy => put_copy(alloc, asked, out),
+        OfOthers::CallsOfPen => put_calls_of_pen(alloc, asked, out),
+        OfOthers::AnswersOfPen => put_answers_of_pen(alloc, asked, out),
+        OfOthers::ManyItems => put_many_items(alloc, asked, out),
+        OfOthers::Grid => put_grid(alloc, asked, out),
+        OfOthers::TwoNodes => put_two_nodes(alloc, out),
+        OfOthers::GreatLoads => put_great_loads(alloc, out),
     }
 }

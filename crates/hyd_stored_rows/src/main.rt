@@ -5,10 +5,12 @@
 
 mod capacities;
 mod certificates;
+mod desks_and_pens;
 mod faults_of_texts;
 mod kinds;
 mod lines;
 mod lines_of_sections;
+mod lists_and_factors;
 mod network_rows;
 mod networks;
 mod numbers;

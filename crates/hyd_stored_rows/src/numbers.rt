@@ -27,7 +27,7 @@ fn ratio_at(asked: &str, place: usize) -> Option<Pair>
 {
     const LIMIT: u128 = 1 << 100;
     let p = natural_at(asked, place);
-    let q = natural_at(asked, place + 1);
+    let q = natural_at(asked, place.saturating_add(1));
     if p >= 1 && p < LIMIT && q >= 1 && q < LIMIT {
         return Some(ratio(p, q));
     }

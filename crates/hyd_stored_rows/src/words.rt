@@ -25,11 +25,13 @@ pub(crate) fn small_at(asked: &str, place: usize) -> u32 {
     word_at(asked, place).parse::<u32>().unwrap_or(0)
 }
 
-/// The word at a place as a decimal, given in billionths.
+/// The word at a place as a decimal, given in billionths, or 0.
 pub(crate) fn decimal_at(asked: &str, place: usize) -> Decimal {
-    Decimal {
-        nano: number_at(asked, place),
+    let nano = number_at(asked, place);
+    if nano.unsigned_abs() > 1_000_000_000_000_000_000_000 {
+        return Decimal { nano: 0 };
     }
+    Decimal { nano }
 }
 
 /// Whether the word at a place says that units are US customary.
@@ -134,7 +136,10 @@ pub(crate) fn put_refused(out: &mut String, cause: Cause) -> Result<(), AllocErr
 pub(crate) fn bytes_of(alloc: Global, text: &str) -> Result<Vec<u8>, AllocError> {
     let mut bytes = Vec::new(alloc);
     let mut rest = text.as_bytes();
-    while let [first, behind @ ..] = rest {
+    for _ in 0..text.len() {
+        let [first, behind @ ..] = rest else {
+            break;
+        };
         let (byte, length) = byte_at(*first, behind);
         bytes.push(byte)?;
         rest = behind.get(length..).unwrap_or(&[]);
