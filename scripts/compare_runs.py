@@ -182,7 +182,8 @@ def accepted(cli, sim, options, cert):
         if item[0] == 'END':
             return b''.join(printed), item
         before = copy.copy(sim)
-        period = sim.accept(*item[1:5])
+        number, time, length, vectors = item[1:5]
+        period = sim.accept(number, time, 0, (length, length), vectors)
         if not is_narrow(period, options.get('width', '0.01')) and not is_tight(cli, before, period.vectors):
             raise Unsharp
         printed.append(cli.put_report(sim.project, period))

@@ -54,9 +54,9 @@ fn put_calls(desk: &mut MemDesk, row: &mut Record, out: &mut String) -> Result<(
     for _ in 0..10 {
         let answer = reader.next(desk, row);
         put_next(answer, row, out)?;
-        if answer != Ok(CertNext::Record) {
+        if !matches!(answer, Ok(CertNext::Record)) {
             let again = reader.next(desk, row);
-            return if again == answer {
+            return if is_same(again, answer) {
                 Ok(())
             } else {
                 out.push_str(", then another")
@@ -64,6 +64,24 @@ fn put_calls(desk: &mut MemDesk, row: &mut Record, out: &mut String) -> Result<(
         }
     }
     Ok(())
+}
+
+/// Whether two answers are the same.
+fn is_same(answer: Result<CertNext, CertFault>, other: Result<CertNext, CertFault>) -> bool {
+    match (answer, other) {
+        (Ok(CertNext::Record), Ok(CertNext::Record)) => true,
+        (
+            Ok(CertNext::End { periods, finished }),
+            Ok(
+                CertNext::End {
+                    periods: records,
+                    finished: whole,
+                },
+            ),
+        ) => periods == records && finished == whole,
+        (Err(fault), Err(another)) => fault == another,
+        _ => false,
+    }
 }
 
 /// Writes what a reader answers.

@@ -128,6 +128,18 @@ pub(crate) fn put_first_row(
     }
 }
 
+/// Whether this fault was found.
+fn is_found(found: Option<Found>, expected: Found) -> bool {
+    match found {
+        Some(fault) => {
+            fault.place == expected.place
+                && fault.line == expected.line
+                && fault.cause == expected.cause
+        }
+        None => false,
+    }
+}
+
 /// Whether of two faults that are found the first one is kept, and the one that stands first is the least.
 pub(crate) fn put_kept(out: &mut String) -> Result<(), AllocError> {
     let early = Found {
@@ -140,10 +152,10 @@ pub(crate) fn put_kept(out: &mut String) -> Result<(), AllocError> {
         line: 9,
         cause: Cause::Range,
     };
-    let is_kept = kept(None, 1, 3, Some(Cause::Syntax)) == Some(early)
-        && kept(Some(early), 4, 9, Some(Cause::Range)) == Some(early)
+    let is_kept = is_found(kept(None, 1, 3, Some(Cause::Syntax)), early)
+        && is_found(kept(Some(early), 4, 9, Some(Cause::Range)), early)
         && kept(None, 4, 9, None).is_none();
-    let is_least = least(Some(late), Some(early)) == Some(early)
-        && least(None, Some(late)) == Some(late);
+    let is_least = is_found(least(Some(late), Some(early)), early)
+        && is_found(least(None, Some(late)), late);
     write!(out, "{is_kept} {is_least}")
 }
