@@ -182,8 +182,8 @@ def accepted(cli, sim, options, cert):
         if item[0] == 'END':
             return b''.join(printed), item
         before = copy.copy(sim)
-        number, time, length, vectors = item[1:5]
-        period = sim.accept(number, time, 0, (length, length), vectors)
+        *place, vectors, _part = item[1:]
+        period = sim.accept(*place, vectors)
         if not is_narrow(period, options.get('width', '0.01')) and not is_tight(cli, before, period.vectors):
             raise Unsharp
         printed.append(cli.put_report(sim.project, period))
