@@ -47,18 +47,18 @@ fn answers(sim: &mut Sim, wrong: &Record, right: &Record) -> [Answer; 3]
     [first, second, third]
 }
 
-/// A record that is wrong and one that is right, handed to a run, and what it answers.
+/// A record that is wrong and one that is right, handed to a run. It passes where the first is refused, the second is
+/// accepted, and that one again is refused.
 #[derive(Drop)]
 struct HandedIn<'a> {
     wrong: &'a Record,
     right: &'a Record,
-    answers: Option<[Answer; 3]>,
 }
 
 impl<'a> Trial for HandedIn<'a> {
     fn passes(&mut self, sim: &mut Sim) -> bool {
-        self.answers = Some(answers(sim, self.wrong, self.right));
-        true
+        let three = answers(sim, self.wrong, self.right);
+        fails_at_first(three[0]) && is_accepted(three[1]) && is_behind_the_end(three[2])
     }
 }
 
@@ -69,27 +69,40 @@ const NO_SEARCH: Settings = Settings {
     tight: false,
 };
 
-// Whether the first record is refused, which fails at its junction, the second is accepted, and the third is refused as
-// one behind the end.
-fn are_as_expected(answers: &Option<[Answer; 3]>) -> bool {
-    let Some(three) = answers else {
-        return false;
-    };
-    let fails = matches!(
-        three[0],
+// Whether a record is refused, since its upper vector fails at the first junction, and no period is done behind it.
+fn fails_at_first(answer: Answer) -> bool {
+    match answer {
         (
-            Some(Err(CertRefused::Fails {
-                period: 0,
-                problem: Problem::Main,
-                side: Side::Upper,
-                junction: 0
-            })),
-            0
-        )
-    );
-    let accepted = matches!(three[1], (Some(Ok(())), 1));
-    let behind = matches!(three[2], (Some(Err(CertRefused::After { period: 1 })), 1));
-    fails && accepted && behind
+            Some(
+                Err(
+                    CertRefused::Fails {
+                        period,
+                        problem: Problem::Main,
+                        side: Side::Upper,
+                        junction,
+                    },
+                ),
+            ),
+            done,
+        ) => period == 0 && junction == 0 && done == 0,
+        _ => false,
+    }
+}
+
+// Whether a record is accepted, and one period is done behind it.
+fn is_accepted(answer: Answer) -> bool {
+    match answer {
+        (Some(Ok(())), done) => done == 1,
+        _ => false,
+    }
+}
+
+// Whether a record is refused as one behind the end, and one period is done.
+fn is_behind_the_end(answer: Answer) -> bool {
+    match answer {
+        (Some(Err(CertRefused::After { period })), done) => period == 1 && done == 1,
+        _ => false,
+    }
 }
 
 #[test]
@@ -100,9 +113,7 @@ fn a_record_that_is_refused_leaves_the_run_where_it_was(rt: HostRuntime) -> Resu
     let mut records = HandedIn {
         wrong: &wrong,
         right: &right,
-        answers: None,
     };
     assert!(rt; passes(alloc, IDLE, NO_SEARCH, &mut records));
-    assert!(rt; are_as_expected(&records.answers));
     Ok(())
 }
