@@ -11,7 +11,7 @@ use Rattle.hyd_spec_summary.specs.Summary.{RunSums, SumsBreakOff}
 use Rattle.hyd_run.specs.Runs.{sharpness_of}
 use Rattle.hyd_sim.specs.declared.settings.Settings.{Settings}
 use Rattle.hyd_command_words.specs.CommandGrammar.{GenOrder, TwoFiles, default_rounds, default_width}
-use Rattle.hyd_cli.specs.DeskContents.{Seen, IsUntouched, NothingPut}
+use Rattle.hyd_cli.specs.DeskContents.{Seen, IsUntouched}
 use Rattle.hyd_cli.specs.Answers.{OfNetwork}
 use Rattle.hyd_cli.specs.Statuses.{number_of}
 use Rattle.hyd_cli.specs.declared.status.Status.{Status}
@@ -74,18 +74,19 @@ pub record GeneratedShort (project : Project) (text : List ℕ) (names : TwoFile
 abbrev pub CertStays : TwoFiles → Seen → Seen → Type 0
 CertStays names before now = file_at now.files names.cert ≡ file_at before.files names.cert
 
--- What a fault of output leaves: `create` was called once, and nothing could be written, or NET holds a front of its
--- text, and CERT is as it was; or it was called twice, NET holds the text, and CERT couldn't be created, or the run was
--- broken off: CERT holds a front of its certificate, and a front of the summary was printed. Where a file couldn't be
--- created none can be written to, and what that call left of the file isn't told.
+-- What a fault of output leaves: `create` was called once, and NET couldn't be created, so that all is as it was, or it
+-- holds a front of its text, and CERT is as it was; or `create` was called twice, NET holds the text, and CERT couldn't be
+-- created and is as it was, or the run was broken off: CERT holds a front of its certificate, and a front of the summary
+-- was printed. Where a file couldn't be created none can be written to.
 pub data GenBreaksOff (project : Project) (text : List ℕ) (names : TwoFiles) (before now : Seen)
     (opened opens : Openings) (writable : Bool) : Type 0 where
-  nothing : NothingPut before now → CertStays names before now → opens ≡ with_created opened → writable ≡ false
+  nothing : IsUntouched before now → opens ≡ with_created opened → writable ≡ false
       → GenBreaksOff project text names before now opened opens writable
   in_network : TextCutShort text names.net before now → CertStays names before now → opens ≡ with_created opened
       → GenBreaksOff project text names before now opened opens writable
-  no_certificate : TextWritten text names.net before now → opens ≡ with_created (with_created opened)
-      → writable ≡ false → GenBreaksOff project text names before now opened opens writable
+  no_certificate : TextWritten text names.net before now → CertStays names before now
+      → opens ≡ with_created (with_created opened) → writable ≡ false
+      → GenBreaksOff project text names before now opened opens writable
   in_run : GeneratedShort project text names before now → opens ≡ with_created (with_created opened)
       → GenBreaksOff project text names before now opened opens writable
 

@@ -14,7 +14,7 @@ use Rattle.hyd_cli.specs.declared.status.Status.{Status}
 use Rattle.hyd_cli.specs.declared.status.Status.TheVariants.{Done, OutOfMemory, Usage, ReadFault, WriteFault}
 use Rattle.hyd_cli.specs.declared.status.Status.TheVariants.{InputRefused, Undecided, RoundsSpent, Demand}
 use Rattle.hyd_cli.specs.declared.status.Status.TheVariants.{CertificateRefused, Stalled}
-use Rattle.hyd_cli.specs.DeskContents.{Seen, IsUntouched, NothingPut}
+use Rattle.hyd_cli.specs.DeskContents.{Seen, IsUntouched, FilesStay}
 use Rattle.hyd_cli.specs.Answers.{OfNetwork}
 
 -- How often a run opens NET and creates CERT: each once at most, so what can be read only once is read whole. NET is
@@ -75,16 +75,16 @@ pub record CutShort (project : Project) (settings : Settings) (cert : List ℕ) 
   pub printed : now.printed ≡ append_known before.printed report
   pub held : file_at now.files cert ≡ now.written
 
--- What an answer says of a network that is run.
+-- What an answer says of a network that is run. Where its file couldn't be created, all is as it was.
 abbrev pub AnswersRun : Project → Settings → List ℕ → Status → Seen → Seen → Type 0
 AnswersRun project settings cert Done before now = Delivered project settings cert Done before now
 AnswersRun project settings cert Undecided before now = Delivered project settings cert Undecided before now
 AnswersRun project settings cert RoundsSpent before now = Delivered project settings cert RoundsSpent before now
 AnswersRun project settings cert Demand before now = Delivered project settings cert Demand before now
 AnswersRun project settings cert OutOfMemory before now = IsUntouched before now
-AnswersRun project settings cert WriteFault before now = NothingPut before now ⊎ CutShort project settings cert before
+AnswersRun project settings cert WriteFault before now = IsUntouched before now ⊎ CutShort project settings cert before
     now
-AnswersRun project settings cert Stalled before now = NothingPut before now ⊎ CutShort project settings cert before now
+AnswersRun project settings cert Stalled before now = IsUntouched before now ⊎ CutShort project settings cert before now
 AnswersRun project settings cert status before now = ⊥
 
 -- What an answer says of a text without a fault: want of memory and a fault of reading leave all untouched.
@@ -94,13 +94,13 @@ AnswersText text settings cert ReadFault before now = IsUntouched before now
 AnswersText text settings cert status before now = OfNetwork text (λ project. AnswersRun project settings cert status
     before now)
 
--- The file of the name CERT holds what was written, at the end of a run and, where something was written, after a
+-- The file of the name CERT holds what was written, at the end of a run and, where any file isn't as it was, after a
 -- fault.
 abbrev pub Holds : Status → List ℕ → Seen → Seen → Type 0
 Holds Done cert before now = file_at now.files cert ≡ now.written
 Holds Undecided cert before now = file_at now.files cert ≡ now.written
 Holds RoundsSpent cert before now = file_at now.files cert ≡ now.written
 Holds Demand cert before now = file_at now.files cert ≡ now.written
-Holds WriteFault cert before now = (now.written ≡ before.written) ⊎ (file_at now.files cert ≡ now.written)
-Holds Stalled cert before now = (now.written ≡ before.written) ⊎ (file_at now.files cert ≡ now.written)
+Holds WriteFault cert before now = FilesStay before now ⊎ (file_at now.files cert ≡ now.written)
+Holds Stalled cert before now = FilesStay before now ⊎ (file_at now.files cert ≡ now.written)
 Holds status cert before now = ⊤
