@@ -22,7 +22,7 @@ use Rattle.hyd_io.proofs.MovedBytesLemmas.{append_known-nil, put_out_more}
 use Rattle.hyd_sim.specs.RunView.{SimView, standing_of, header_for}
 use Rattle.hyd_sim.specs.declared.settings.Settings.{Settings}
 use Rattle.hyd_run.specs.Pens.{RunMoment, PutIn, IsCutOff, OneRose, LeavesRest}
-use Rattle.hyd_run.specs.Runs.{sharpness_of, fresh, outcome_of, IsStep, IsOver}
+use Rattle.hyd_run.specs.Runs.{sharpness_of, fresh, outcome_of, EndNames, IsStep, IsOver}
 use Rattle.hyd_run.specs.declared.outcome.RunEnd.{RunEnd}
 use Rattle.hyd_run.proofs.PenLemmas.{put-then, cut-off-then}
 use Rattle.hyd_summarised_run.specs.SummarisedRuns.{IsSummed, IsSumBrokenOff, SumsSoFar, SumsWhole, SumsCutShort}
@@ -105,6 +105,7 @@ begun-cut-off project settings fault header before now same cut_off = record {
   sharp = tt;
   last = None;
   ends_so = tt;
+  names = tt;
   cut_off = off;
   in_order = inl off;
 }
@@ -149,6 +150,7 @@ more-lost project settings fault before now start m n events p s lost so_far = r
   sharp = all-more (IsSharpFound project (sharpness_of settings)) so_far.founds lost.found so_far.sharp step.sharp;
   last = None;
   ends_so = tt;
+  names = tt;
   cut_off = off;
   in_order = inl off;
 }
@@ -173,6 +175,7 @@ over-stays project settings outcome before now events start m n over so_far =
 
 module _ (project : Project) (settings : Settings) (outcome : Outcome) (left : Standing) (events records : ℕ)
     (start before : RunMoment) (counted : records ≡ left.number) (ends : EndsSo project left settings.rounds outcome)
+    (names : EndNames project left settings.rounds outcome)
     (so_far : SumsSoFar project (sharpness_of settings) left events start before) where
   same : records ≡ length so_far.founds
   same = counted ∙ sym so_far.each
@@ -195,6 +198,7 @@ module _ (project : Project) (settings : Settings) (outcome : Outcome) (left : S
     sharp = so_far.sharp;
     last = Some outcome;
     ends_so = ends;
+    names = names;
     cut_off = cut-off-more fault _ (summary_text project left so_far.founds outcome) start now off;
     in_order = inl off;
   }
@@ -226,6 +230,7 @@ module _ (project : Project) (settings : Settings) (outcome : Outcome) (left : S
     fit = so_far.fit;
     few = subst (λ (n : ℕ). n < 2 ^ 32) same few;
     ends_so = ends;
+    names = names;
     put = put-as _ _ _ _ start now (append-nil (certificate_so_far project so_far.founds (Some outcome))) text-is
         (put-then (certificate_so_far project so_far.founds (Some outcome)) [] [] _ start closed-at now
         (closed closed-at put) summed);
@@ -243,6 +248,7 @@ module _ (project : Project) (settings : Settings) (outcome : Outcome) (left : S
     sharp = so_far.sharp;
     last = Some outcome;
     ends_so = ends;
+    names = names;
     cut_off = cut-off-as fault _ _ _ _ start now (append-nil (certificate_so_far project so_far.founds (Some outcome)))
         text-is
         (cut-off-then fault (certificate_so_far project so_far.founds (Some outcome)) [] [] _ start closed-at now
@@ -254,15 +260,16 @@ module _ (project : Project) (settings : Settings) (outcome : Outcome) (left : S
 -- what the last lines make of a run, as of the one that was begun
 pub ending-sums : (project p : Project) (settings s : Settings) (left : Standing) (events : ℕ) (outcome : Outcome)
     (result : Result RunEnd OutFault) (start before now : RunMoment) → p ≡ project → s ≡ settings
-    → (EndsSo p left s.rounds outcome → (x : RunMoment) → SumsSoFar p (sharpness_of s) left events x before
-    → RunSumsIn result p s x now)
-    → EndsSo project left settings.rounds outcome → SumsSoFar project (sharpness_of settings) left events start before
+    → (EndsSo p left s.rounds outcome → EndNames p left s.rounds outcome → (x : RunMoment)
+    → SumsSoFar p (sharpness_of s) left events x before → RunSumsIn result p s x now)
+    → EndsSo project left settings.rounds outcome → EndNames project left settings.rounds outcome
+    → SumsSoFar project (sharpness_of settings) left events start before
     → RunSumsIn result project settings start now
-ending-sums project p settings s left events outcome result start before now e f puts ends so_far =
-    subst (λ (t : Settings). EndsSo project left t.rounds outcome → (x : RunMoment)
-    → SumsSoFar project (sharpness_of t) left events x before → RunSumsIn result project t x now) f
-    (subst (λ (q : Project). EndsSo q left s.rounds outcome → (x : RunMoment)
-    → SumsSoFar q (sharpness_of s) left events x before → RunSumsIn result q s x now) e puts) ends start so_far
+ending-sums project p settings s left events outcome result start before now e f puts ends names so_far =
+    subst (λ (t : Settings). EndsSo project left t.rounds outcome → EndNames project left t.rounds outcome
+    → (x : RunMoment) → SumsSoFar project (sharpness_of t) left events x before → RunSumsIn result project t x now) f
+    (subst (λ (q : Project). EndsSo q left s.rounds outcome → EndNames q left s.rounds outcome → (x : RunMoment)
+    → SumsSoFar q (sharpness_of s) left events x before → RunSumsIn result q s x now) e puts) ends names start so_far
 
 -- ---- what is put out
 
@@ -296,6 +303,7 @@ module _ (project : Project) (settings : Settings) (start now : RunMoment) (soun
           };
           summary = refl;
         };
+        names = whole.names;
         written = moved-whole start.told.written now.told.written start.certificate.held a now.certificate.held c-held c
             whole.put.written;
         printed = moved-whole start.told.printed now.told.printed start.report.held b now.report.held r-held r
@@ -329,6 +337,7 @@ module _ (project : Project) (settings : Settings) (start now : RunMoment) (soun
           in_order = λ printed. absurd (printed none);
           every_history = every_history project sound short.founds short.left short.is_run;
         };
+        names = short.names;
         written = w.1.out;
         printed = p.1.out;
       }
@@ -358,6 +367,7 @@ module _ (project : Project) (settings : Settings) (start now : RunMoment) (soun
           in_order = λ printed. refl;
           every_history = every_history project sound short.founds short.left short.is_run;
         };
+        names = short.names;
         written = moved-whole start.told.written now.told.written start.certificate.held a [] c-held refl whole;
         printed = p.1.out;
       }

@@ -20,7 +20,7 @@ use Rattle.hyd_io.specs.DeskBytes.{append_known, Moves}
 use Rattle.hyd_sim.specs.declared.settings.Settings.{Settings}
 use Rattle.hyd_sim.specs.RunView.{SimView, standing_of}
 use Rattle.hyd_run.specs.Pens.{Told, RunMoment, moment, PutIn, IsCutOff}
-use Rattle.hyd_run.specs.Runs.{sharpness_of, outcome_of, fresh, IsStep, IsOver, periods_left}
+use Rattle.hyd_run.specs.Runs.{sharpness_of, outcome_of, fresh, EndNames, IsStep, IsOver, periods_left}
 use Rattle.hyd_summarised_run.specs.declared.steps.Ended.{Ended}
 use Rattle.hyd_summarised_run.specs.declared.steps.Turn.{Turn}
 use Rattle.hyd_summarised_run.specs.declared.steps.Turn.TheVariants.{Period, Over}
@@ -37,6 +37,7 @@ pub record IsSummed (project : Project) (settings : Settings) (outcome : Outcome
   pub certificate : List ℕ
   pub summary : List ℕ
   pub sums : RunSums project settings.rounds (sharpness_of settings) outcome certificate summary
+  pub names : EndNames project sums.run.left settings.rounds outcome
   pub written : now.written ≡ append_known before.written certificate
   pub printed : now.printed ≡ append_known before.printed summary
 
@@ -46,6 +47,7 @@ pub record IsSumBrokenOff (project : Project) (settings : Settings) (before now 
   pub certificate : List ℕ
   pub summary : List ℕ
   pub breaks_off : SumsBreakOff project settings.rounds (sharpness_of settings) certificate summary
+  pub names : MatchOption breaks_off.last ⊤ (EndNames project breaks_off.left settings.rounds)
   pub written : now.written ≡ append_known before.written certificate
   pub printed : now.printed ≡ append_known before.printed summary
 
@@ -77,6 +79,7 @@ pub record SumsWhole (project : Project) (settings : Settings) (outcome : Outcom
   pub fit : All (IsRow (junction_count project) (tank_count project)) (rows_of founds)
   pub few : length founds < 2 ^ 32
   pub ends_so : EndsSo project left settings.rounds outcome
+  pub names : EndNames project left settings.rounds outcome
   pub put : PutIn (certificate_so_far project founds (Some outcome)) (summary_so_far project left founds (Some outcome))
       before now
 
@@ -94,6 +97,7 @@ pub record SumsCutShort (project : Project) (settings : Settings) (fault : OutFa
   pub sharp : AllByRecursion (IsSharpFound project (sharpness_of settings)) founds
   pub last : Option Outcome
   pub ends_so : MatchOption last ⊤ (EndsSo project left settings.rounds)
+  pub names : MatchOption last ⊤ (EndNames project left settings.rounds)
   pub cut_off : IsCutOff fault (certificate_so_far project founds last) (summary_so_far project left founds last) before
       now
   pub in_order : IsCutOff fault (certificate_so_far project founds last) [] before now
@@ -127,9 +131,10 @@ StepSums (Err fault) sim now before after = LosesPeriod fault sim now before aft
 -- still, or is cut short.
 abbrev pub StepsSum : Result Ended OutFault → SimView → SimView → RunMoment → RunMoment → Type 0
 StepsSum (Ok ended) sim now before after =
-    EndsSo sim.project (standing_of now) sim.settings.rounds (outcome_of ended.end) × ((start : RunMoment)
+    EndsSo sim.project (standing_of now) sim.settings.rounds (outcome_of ended.end)
+    × (EndNames sim.project (standing_of now) sim.settings.rounds (outcome_of ended.end) × ((start : RunMoment)
     → SumsSoFar sim.project (sharpness_of sim.settings) (standing_of sim) 0 start before
-    → SumsSoFar sim.project (sharpness_of sim.settings) (standing_of now) ended.events start after)
+    → SumsSoFar sim.project (sharpness_of sim.settings) (standing_of now) ended.events start after))
 StepsSum (Err fault) sim now before after = (start : RunMoment)
     → SumsSoFar sim.project (sharpness_of sim.settings) (standing_of sim) 0 start before
     → SumsCutShort sim.project sim.settings fault start after

@@ -12,7 +12,7 @@ ghost use Rattle.hyd_spec_summary.specs.Summary.{summary_line};
 ghost use Rattle.hyd_spec.specs.NodeNumbers.{junction_count};
 ghost use Rattle.hyd_sim.specs.RunView.{standing_of};
 ghost use Rattle.hyd_run.specs.Pens.{RunMoment, told, moment, AreOpen, PutsIn};
-ghost use Rattle.hyd_run.specs.Runs.{fresh, outcome_of, sharpness_of};
+ghost use Rattle.hyd_run.specs.Runs.{fresh, outcome_of, sharpness_of, EndNames};
 ghost use Rattle.hyd_summarised_run.specs.SummarisedRuns.{aside, SumsSoFar, RunSumsIn};
 
 use crate::steps::Ended;
@@ -94,6 +94,7 @@ pub(crate) fn put_ending<D: Desk>(
         (told D.files D.rest D.written D.printed D.target D.ready D.counts D.openings desk.old)) }
     requires report { report.old ≡ fresh Report }
     ensures puts { EndsSo sim.now.project (standing_of sim.now) sim.now.settings.rounds (outcome_of ended.end)
+        → EndNames sim.now.project (standing_of sim.now) sim.now.settings.rounds (outcome_of ended.end)
         → (start : RunMoment)
         → SumsSoFar sim.now.project (sharpness_of sim.now.settings) (standing_of sim.now) ended.events start
         (aside certificate.old (told D.files D.rest D.written D.printed D.target D.ready D.counts D.openings desk.old))

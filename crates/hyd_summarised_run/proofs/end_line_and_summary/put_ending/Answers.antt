@@ -16,16 +16,16 @@ pub print_summary-requires-clause-ready : goal.print_summary-requires-clause-rea
 print_summary-requires-clause-ready g c = on_any _ _ c.in-Ok.ensures.puts.unbroken.ready
 
 pub returns-in-Err-clause-puts : goal.returns-in-Err-clause-puts
-returns-in-Err-clause-puts g c = λ ends start so_far.
+returns-in-Err-clause-puts g c = λ ends names start so_far.
     rw c.requires.report (close-cut-off _ c.args.sim.now.settings (outcome_of c.args.ended.end) (standing_of
     c.args.sim.now)
-    c.args.ended.events c.number-records.result start _ c.number-records.ensures ends so_far c.in-Err.fault _
+    c.args.ended.events c.number-records.result start _ c.number-records.ensures ends names so_far c.in-Err.fault _
     (rw c.is_finished.ensures at c.in-Err.ensures.puts))
 
 pub returns-in-Ok-print_summary-clause-puts : goal.returns-in-Ok-print_summary-clause-puts
-returns-in-Ok-print_summary-clause-puts g c = λ ends start so_far.
+returns-in-Ok-print_summary-clause-puts g c = λ ends names start so_far.
     is-whole _ c.args.sim.now.settings (outcome_of c.args.ended.end) (standing_of c.args.sim.now) c.args.ended.events
-    c.number-records.result start _ c.number-records.ensures ends so_far _ _
+    c.number-records.result start _ c.number-records.ensures ends names so_far _ _
     (rw c.number-records.ensures (small-number _ c.project.ensures.is_sim))
     (rw c.is_finished.ensures at c.in-Ok.ensures.puts)
     (report-put _ _ _ _ _ _ _ c.in-Ok.ensures.puts.unbroken
@@ -33,10 +33,10 @@ returns-in-Ok-print_summary-clause-puts g c = λ ends start so_far.
     (standing_of c.args.sim.now) (sym c.time.ensures))))
 
 pub returns-in-Err-print_summary-clause-puts : goal.returns-in-Err-print_summary-clause-puts
-returns-in-Err-print_summary-clause-puts g c = λ ends start so_far.
+returns-in-Err-print_summary-clause-puts g c = λ ends names start so_far.
     summary-cut-off _ c.args.sim.now.settings (outcome_of c.args.ended.end) (standing_of c.args.sim.now)
     c.args.ended.events
-    c.number-records.result start _ c.number-records.ensures ends so_far c.in-Err-print_summary.fault _ _
+    c.number-records.result start _ c.number-records.ensures ends names so_far c.in-Err-print_summary.fault _ _
     (rw c.is_finished.ensures at c.in-Ok.ensures.puts) c.in-Ok.ensures.empty
     (report-put _ _ _ _ _ _ _ c.in-Ok.ensures.puts.unbroken
     (rw (c.requires.report, c.project.ensures.project) at (c.in-Err-print_summary.ensures.puts

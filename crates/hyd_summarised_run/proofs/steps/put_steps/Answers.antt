@@ -1,6 +1,6 @@
 -- One step after another.
 use Rattle.std.proofs.Common.{◌∙◌, refl, arith}
-use Rattle.hyd_run.proofs.StepLemmas.{steps-end}
+use Rattle.hyd_run.proofs.StepLemmas.{steps-end, steps-names}
 use Rattle.hyd_summarised_run.proofs.RunLemmas.{more-done, more-lost, over-stays}
 use Rattle.hyd_summarised_run.proofs.steps.put_steps.Goals as goal
 
@@ -11,7 +11,10 @@ returns-in-Ok-Over-clause-puts g c =
     let s = c.put_step.ensures.settings ∙ i.settings in
     let over = rw c.in-Ok-Over.field-0-is at c.in-Ok-Over.ensures.puts in (
       steps-end _ _ _ _ _ _ _ p s over,
-      λ start so_far. over-stays _ c.args.sim.now.settings _ _ _ _ start _ _ over (i.so_far start so_far),
+      (
+        steps-names _ _ _ _ _ _ _ p s over,
+        λ start so_far. over-stays _ c.args.sim.now.settings _ _ _ _ start _ _ over (i.so_far start so_far),
+      ),
     )
 
 pub returns-in-Err-clause-puts : goal.returns-in-Err-clause-puts

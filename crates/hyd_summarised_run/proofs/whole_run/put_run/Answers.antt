@@ -40,7 +40,7 @@ returns-in-Ok-put_steps-clause-puts g c =
     c.put_steps.new.sim.settings (standing_of c.put_steps.new.sim) c.in-Ok-put_steps.ended.events
     (outcome_of c.in-Ok-put_steps.ended.end) c.put_ending.result _ _ _
     c.put_steps.ensures.project c.put_steps.ensures.settings c.put_ending.ensures.puts steps.0
-    (steps.1 _
+    steps.1.0 (steps.1.1 _
     (begun _ c.args.sim.now.settings _ _ _ _ (ap header_of c.row.ensures ∙ c.project-project.ensures.is_sim.header)
     c.requires.start (cert-put _ _ _ _ _ _ _ (fresh-open _ _ _ c.requires.certificate refl
     c.requires.ready) c.in-Ok.ensures))))
