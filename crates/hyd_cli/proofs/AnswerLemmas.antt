@@ -349,6 +349,7 @@ delivered project settings cert outcome before created after out begun printed t
       certificate = out.certificate;
       report = out.report;
       run = out.writes;
+      names_junction = out.names;
       status_is = number_of_end outcome;
       written = new_text before.files created.written after.written out.certificate begun out.written;
       printed = printed_since before.printed created.printed after.printed out.report printed out.printed;
@@ -367,6 +368,8 @@ cut_short project settings cert fault before created after out begun printed tar
       certificate = out.certificate;
       report = out.report;
       run = out.breaks_off;
+      names_junction = out.names;
+      in_order = out.in_order;
       written = new_text before.files created.written after.written out.certificate begun out.written;
       printed = printed_since before.printed created.printed after.printed out.report printed out.printed;
       held = new_file before.files after.files after.target after.written cert (leaves.target_stays ∙ target)

@@ -159,6 +159,7 @@ module _ (project : Project) (settings : Settings) (text : List ℕ) (names : Tw
         certificate = out.certificate;
         summary = out.summary;
         run = out.sums;
+        names_junction = out.names;
         status_is = number_of_end outcome;
         written = new_text between.files created.written after.written out.certificate made.begun out.written
             ∙ told_alike between.files before.files out.certificate w.still_told;
@@ -180,6 +181,7 @@ module _ (project : Project) (settings : Settings) (text : List ℕ) (names : Tw
         certificate = out.certificate;
         summary = out.summary;
         run = out.breaks_off;
+        names_junction = out.names;
         written = new_text between.files created.written after.written out.certificate made.begun out.written
             ∙ told_alike between.files before.files out.certificate w.still_told;
         printed = printed_since before.printed created.printed after.printed out.summary (made.printed ∙ w.printed)

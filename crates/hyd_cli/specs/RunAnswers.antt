@@ -1,12 +1,12 @@
 -- What the answers of the command `run` mean.
 -- Source: this program's.
-use Rattle.std.specs.Prelude.{◌≡◌, ℕ, ◌⊎◌, List, ⊤}
+use Rattle.std.specs.Prelude.{◌≡◌, ℕ, ◌⊎◌, List, ⊤, MatchOption}
 use Rattle.hyd_io.specs.declared.desk.Openings.{Openings}
 use Rattle.hyd_io.specs.DeskCounts.{with_opened, with_created}
 use Rattle.hyd_io.specs.DeskBytes.{where_told, append_known, file_at}
 use Rattle.hyd_spec.specs.ProgramTypes.{Project}
 use Rattle.hyd_spec_reports.specs.PromisesOfRunsAndChecks.{Outcome, RunWrites, RunBreaksOff, outcome_number}
-use Rattle.hyd_run.specs.Runs.{sharpness_of}
+use Rattle.hyd_run.specs.Runs.{sharpness_of, EndNames, EndsInOrder}
 use Rattle.hyd_sim.specs.declared.settings.Settings.{Settings}
 use Rattle.hyd_command_words.specs.CommandGrammar.{RunOrder}
 use Rattle.hyd_cli.specs.Statuses.{number_of}
@@ -51,7 +51,8 @@ abbrev pub settings_of : RunOrder → Settings
 settings_of order = record { rounds = order.rounds; width = order.width; tight = order.tight }
 
 -- The certificate of a run of the network was written to the file created in this call, where files are told, its
--- report was printed, and every history agrees with them; the status says how the run ended. The file of the name
+-- report was printed, and every history agrees with them; the status says how the run ended. Where it stopped since no
+-- vector is a certificate, the junction that is named has no value at heads that were reached. The file of the name
 -- CERT holds what was written.
 pub record Delivered (project : Project) (settings : Settings) (cert : List ℕ) (status : Status) (before now : Seen) :
     Type 0 where
@@ -59,6 +60,7 @@ pub record Delivered (project : Project) (settings : Settings) (cert : List ℕ)
   pub certificate : List ℕ
   pub report : List ℕ
   pub run : RunWrites project settings.rounds (sharpness_of settings) outcome certificate report
+  pub names_junction : EndNames project run.left settings.rounds outcome
   pub status_is : number_of status ≡ outcome_number outcome
   pub written : now.written ≡ where_told before.files certificate
   pub printed : now.printed ≡ append_known before.printed report
@@ -66,11 +68,14 @@ pub record Delivered (project : Project) (settings : Settings) (cert : List ℕ)
 
 -- A fault broke a run of the network off: what was written to the file created in this call, where files are told, and
 -- what was printed are fronts of the certificate and of the report of the run as far as it went, and every history
--- agrees with it. The file of the name CERT holds what was written.
+-- agrees with it. Of the last line of the report nothing was printed unless all of the certificate was written. The file
+-- of the name CERT holds what was written.
 pub record CutShort (project : Project) (settings : Settings) (cert : List ℕ) (before now : Seen) : Type 0 where
   pub certificate : List ℕ
   pub report : List ℕ
   pub run : RunBreaksOff project settings.rounds (sharpness_of settings) certificate report
+  pub names_junction : MatchOption run.last ⊤ (EndNames project run.left settings.rounds)
+  pub in_order : EndsInOrder project run.founds run.left run.last certificate report
   pub written : now.written ≡ where_told before.files certificate
   pub printed : now.printed ≡ append_known before.printed report
   pub held : file_at now.files cert ≡ now.written
