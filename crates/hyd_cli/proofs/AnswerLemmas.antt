@@ -19,7 +19,7 @@ use Rattle.hyd_spec_reports.specs.declared.StopCause.TheVariants.{Demand as OutO
 use Rattle.hyd_sim.specs.declared.settings.Settings.{Settings}
 use Rattle.hyd_run.specs.Pens.{Told, OneRose, LeavesRest}
 use Rattle.hyd_run.specs.Runs.{IsPutOut, IsBrokenOff}
-use Rattle.hyd_cli.specs.DeskContents.{Seen, IsUntouched, NothingPut}
+use Rattle.hyd_cli.specs.DeskContents.{Seen, IsUntouched, FilesStay}
 use Rattle.hyd_cli.specs.Answers.{HasCause, status_of_fault}
 use Rattle.hyd_cli.specs.RunAnswers.{Delivered, CutShort, OpensOnce}
 use Rattle.hyd_cli.specs.Answers.{LeavesRun, AnswersRefused}
@@ -114,7 +114,7 @@ opens_of_end outcome before now e =
 -- ---- a fault of output
 
 pub answers_fault : (project : Project) (settings : Settings) (cert : List ℕ) (fault : OutFault) (before now : Seen)
-    → NothingPut before now ⊎ CutShort project settings cert before now
+    → IsUntouched before now ⊎ CutShort project settings cert before now
     → AnswersRun project settings cert (status_of_fault fault) before now
 answers_fault project settings cert Fault before now h = h
 answers_fault project settings cert Stall before now h = h
@@ -153,13 +153,13 @@ refusal_holds line cause Done cert before now h = absurd h
 refusal_holds line cause OutOfMemory cert before now h = tt
 refusal_holds line cause Usage cert before now h = tt
 refusal_holds line cause ReadFault cert before now h = tt
-refusal_holds line cause WriteFault cert before now h = inl h.written
+refusal_holds line cause WriteFault cert before now h = inl (record { files = h.files; written = h.written })
 refusal_holds line cause InputRefused cert before now h = tt
 refusal_holds line cause Undecided cert before now h = absurd h
 refusal_holds line cause RoundsSpent cert before now h = absurd h
 refusal_holds line cause Demand cert before now h = absurd h
 refusal_holds line cause CertificateRefused cert before now h = absurd h
-refusal_holds line cause Stalled cert before now h = inl h.written
+refusal_holds line cause Stalled cert before now h = inl (record { files = h.files; written = h.written })
 
 pub refusal_opens : (line : ℕ) (cause : Cause) (status : Status) (before now : Seen) (start end : Openings)
     → AnswersRefused line cause status before now → status ≢ ReadFault → end ≡ start → OpensCert status start end
@@ -195,11 +195,11 @@ run_leaves project settings cert Demand before now h = tt
 run_leaves project settings cert CertificateRefused before now h = absurd h
 run_leaves project settings cert Stalled before now h = tt
 
--- where nothing or a front was put, nothing was written or the file holds it
+-- where nothing or a front was put, the files stay or the file holds it
 fronts_hold : (project : Project) (settings : Settings) (cert : List ℕ) (before now : Seen)
-    → NothingPut before now ⊎ CutShort project settings cert before now
-    → (now.written ≡ before.written) ⊎ (file_at now.files cert ≡ now.written)
-fronts_hold project settings cert before now (inl h) = inl h.written
+    → IsUntouched before now ⊎ CutShort project settings cert before now
+    → FilesStay before now ⊎ (file_at now.files cert ≡ now.written)
+fronts_hold project settings cert before now (inl h) = inl (record { files = h.files; written = h.written })
 fronts_hold project settings cert before now (inr h) = inr h.held
 
 run_holds : (project : Project) (settings : Settings) (cert : List ℕ) (status : Status) (before now : Seen)
@@ -349,6 +349,7 @@ delivered project settings cert outcome before created after out begun printed t
       certificate = out.certificate;
       report = out.report;
       run = out.writes;
+      names_junction = out.names;
       status_is = number_of_end outcome;
       written = new_text before.files created.written after.written out.certificate begun out.written;
       printed = printed_since before.printed created.printed after.printed out.report printed out.printed;
@@ -367,6 +368,8 @@ cut_short project settings cert fault before created after out begun printed tar
       certificate = out.certificate;
       report = out.report;
       run = out.breaks_off;
+      names_junction = out.names;
+      in_order = out.in_order;
       written = new_text before.files created.written after.written out.certificate begun out.written;
       printed = printed_since before.printed created.printed after.printed out.report printed out.printed;
       held = new_file before.files after.files after.target after.written cert (leaves.target_stays ∙ target)

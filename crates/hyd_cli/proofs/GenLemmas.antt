@@ -1,8 +1,8 @@
 -- How what the command `gen` leaves follows from what the calls in it leave.
 use Rattle.std.proofs.Common.{◌≡◌, ◌≢◌, ℕ, Bool, false, List, [], ◌++◌, Option, None, Some, ◌⊎◌, inl, inr, ◌∙◌, refl}
-use Rattle.std.proofs.Common.{sym, subst, is_some}
+use Rattle.std.proofs.Common.{sym, ap, subst, is_some}
 use Rattle.std.proofs.lemmas.Bool.{false≢true}
-use Rattle.hyd_io.specs.DeskBytes.{where_told, append_known, file_at, content_of, Moves, PutOut}
+use Rattle.hyd_io.specs.DeskBytes.{Files, where_told, append_known, file_at, content_of, Moves, PutOut}
 use Rattle.hyd_io.specs.DeskCounts.{with_created}
 use Rattle.hyd_io.specs.Output.{by_channel}
 use Rattle.hyd_io.specs.declared.desk.Openings.{Openings}
@@ -20,7 +20,7 @@ use Rattle.hyd_sim.specs.declared.settings.Settings.{Settings}
 use Rattle.hyd_run.specs.Pens.{Told, LeavesRest}
 use Rattle.hyd_summarised_run.specs.SummarisedRuns.{IsSummed, IsSumBrokenOff}
 use Rattle.hyd_command_words.specs.CommandGrammar.{TwoFiles}
-use Rattle.hyd_cli.specs.DeskContents.{Seen, NothingPut}
+use Rattle.hyd_cli.specs.DeskContents.{Seen, IsUntouched}
 use Rattle.hyd_cli.specs.Answers.{OfNetwork, LeavesRun, AnswersRefused, status_of_fault}
 use Rattle.hyd_cli.specs.RunAnswers.{OpensCert}
 use Rattle.hyd_cli.specs.GenAnswers.{usual_settings, Generated, TextWritten, TextCutShort, CertStays, GenBreaksOff}
@@ -118,9 +118,9 @@ text_cut_off text net before created after made leaves content printed out = rec
 
 pub text_breaks_off : (project : Project) (text : List ℕ) (names : TwoFiles) (before now : Seen)
     (opened opens : Openings) (writable : Bool) → CertStays names before now → opens ≡ with_created opened
-    → (NothingPut before now × (writable ≡ false)) ⊎ TextCutShort text names.net before now
+    → (IsUntouched before now × (writable ≡ false)) ⊎ TextCutShort text names.net before now
     → GenBreaksOff project text names before now opened opens writable
-text_breaks_off project text names before now opened opens writable stays once (inl h) = nothing h.0 stays once h.1
+text_breaks_off project text names before now opened opens writable stays once (inl h) = nothing h.0 once h.1
 text_breaks_off project text names before now opened opens writable stays once (inr h) = in_network h stays once
 
 -- ---- the run, once the text was written
@@ -134,17 +134,16 @@ text_stays text names before between created after apart w made leaves =
 
 -- the text stays where CERT couldn't be created
 pub text_alone : (project : Project) (text : List ℕ) (names : TwoFiles) (before between now : Seen)
-    (opened opens : Openings) (writable : Bool) → TextWritten text names.net before between → NothingPut between now
-    → file_at now.files names.net ≡ file_at between.files names.net → is_some now.files ≡ is_some between.files
-    → opens ≡ with_created (with_created opened) → writable ≡ false
-    → GenBreaksOff project text names before now opened opens writable
-text_alone project text names before between now opened opens writable w put same told twice closed =
+    (opened opens : Openings) (writable : Bool) → TextWritten text names.net before between
+    → CertStays names before between → IsUntouched between now → opens ≡ with_created (with_created opened)
+    → writable ≡ false → GenBreaksOff project text names before now opened opens writable
+text_alone project text names before between now opened opens writable w stays put twice closed =
     no_certificate (record {
       written = put.written ∙ w.written;
-      held = same ∙ w.held;
+      held = ap (λ (files : Option Files). file_at files names.net) put.files ∙ w.held;
       printed = put.printed ∙ w.printed;
-      still_told = told ∙ w.still_told;
-    }) twice closed
+      still_told = ap (λ (files : Option Files). is_some files) put.files ∙ w.still_told;
+    }) (ap (λ (files : Option Files). file_at files names.cert) put.files ∙ stays) twice closed
 
 module _ (project : Project) (settings : Settings) (text : List ℕ) (names : TwoFiles) (before between : Seen)
     (created after : Told) where
@@ -160,6 +159,7 @@ module _ (project : Project) (settings : Settings) (text : List ℕ) (names : Tw
         certificate = out.certificate;
         summary = out.summary;
         run = out.sums;
+        names_junction = out.names;
         status_is = number_of_end outcome;
         written = new_text between.files created.written after.written out.certificate made.begun out.written
             ∙ told_alike between.files before.files out.certificate w.still_told;
@@ -181,6 +181,7 @@ module _ (project : Project) (settings : Settings) (text : List ℕ) (names : Tw
         certificate = out.certificate;
         summary = out.summary;
         run = out.breaks_off;
+        names_junction = out.names;
         written = new_text between.files created.written after.written out.certificate made.begun out.written
             ∙ told_alike between.files before.files out.certificate w.still_told;
         printed = printed_since before.printed created.printed after.printed out.summary (made.printed ∙ w.printed)

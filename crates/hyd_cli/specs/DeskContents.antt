@@ -43,7 +43,7 @@ pub record OnlyPrintedSome (before now : Seen) : Type 0 where
 abbrev pub ChangesOnly : List ℕ → Seen → Seen → Type 0
 ChangesOnly name before now = (other : List ℕ) → other ≢ name → file_at now.files other ≡ file_at before.files other
 
--- Nothing was written or printed, as where the certificate's file couldn't be created.
-pub record NothingPut (before now : Seen) : Type 0 where
+-- All files are as they were, and what was written.
+pub record FilesStay (before now : Seen) : Type 0 where
+  pub files : now.files ≡ before.files
   pub written : now.written ≡ before.written
-  pub printed : now.printed ≡ before.printed

@@ -1,6 +1,6 @@
 -- What the answers of the command `gen` mean.
 -- Source: this program's.
-use Rattle.std.specs.Prelude.{◌≡◌, ◌≢◌, ℕ, Bool, false, ◌⊎◌, List, ◌++◌, is_some}
+use Rattle.std.specs.Prelude.{◌≡◌, ◌≢◌, ℕ, Bool, false, ◌⊎◌, List, ◌++◌, is_some, ⊤, MatchOption}
 use Rattle.hyd_io.specs.declared.desk.Openings.{Openings}
 use Rattle.hyd_io.specs.DeskCounts.{with_created}
 use Rattle.hyd_io.specs.DeskBytes.{where_told, append_known, file_at}
@@ -8,10 +8,10 @@ use Rattle.hyd_spec.specs.ProgramTypes.{Project}
 use Rattle.hyd_spec_generated.specs.GeneratedText.{generated_text}
 use Rattle.hyd_spec_reports.specs.PromisesOfRunsAndChecks.{Outcome, outcome_number}
 use Rattle.hyd_spec_summary.specs.Summary.{RunSums, SumsBreakOff}
-use Rattle.hyd_run.specs.Runs.{sharpness_of}
+use Rattle.hyd_run.specs.Runs.{sharpness_of, EndNames}
 use Rattle.hyd_sim.specs.declared.settings.Settings.{Settings}
 use Rattle.hyd_command_words.specs.CommandGrammar.{GenOrder, TwoFiles, default_rounds, default_width}
-use Rattle.hyd_cli.specs.DeskContents.{Seen, IsUntouched, NothingPut}
+use Rattle.hyd_cli.specs.DeskContents.{Seen, IsUntouched}
 use Rattle.hyd_cli.specs.Answers.{OfNetwork}
 use Rattle.hyd_cli.specs.Statuses.{number_of}
 use Rattle.hyd_cli.specs.declared.status.Status.{Status}
@@ -29,13 +29,15 @@ abbrev pub usual_settings : Settings
 usual_settings = record { rounds = default_rounds; width = default_width; tight = false }
 
 -- NET holds the text, and CERT the certificate of a run of its network, which was written last, where files are told;
--- the run's summary was printed, and every history agrees with the certificate. The status says how the run ended.
+-- the run's summary was printed, and every history agrees with the certificate. The status says how the run ended, and
+-- where it stopped since no vector is a certificate, the junction that is named has no value at heads that were reached.
 pub record Generated (project : Project) (text : List ℕ) (names : TwoFiles) (status : Status) (before now : Seen) :
     Type 0 where
   pub outcome : Outcome
   pub certificate : List ℕ
   pub summary : List ℕ
   pub run : RunSums project usual_settings.rounds (sharpness_of usual_settings) outcome certificate summary
+  pub names_junction : EndNames project run.run.left usual_settings.rounds outcome
   pub status_is : number_of status ≡ outcome_number outcome
   pub written : now.written ≡ where_told before.files certificate
   pub printed : now.printed ≡ append_known before.printed summary
@@ -65,6 +67,7 @@ pub record GeneratedShort (project : Project) (text : List ℕ) (names : TwoFile
   pub certificate : List ℕ
   pub summary : List ℕ
   pub run : SumsBreakOff project usual_settings.rounds (sharpness_of usual_settings) certificate summary
+  pub names_junction : MatchOption run.last ⊤ (EndNames project run.left usual_settings.rounds)
   pub written : now.written ≡ where_told before.files certificate
   pub printed : now.printed ≡ append_known before.printed summary
   pub held : file_at now.files names.cert ≡ now.written
@@ -74,18 +77,19 @@ pub record GeneratedShort (project : Project) (text : List ℕ) (names : TwoFile
 abbrev pub CertStays : TwoFiles → Seen → Seen → Type 0
 CertStays names before now = file_at now.files names.cert ≡ file_at before.files names.cert
 
--- What a fault of output leaves: `create` was called once, and nothing could be written, or NET holds a front of its
--- text, and CERT is as it was; or it was called twice, NET holds the text, and CERT couldn't be created, or the run was
--- broken off: CERT holds a front of its certificate, and a front of the summary was printed. Where a file couldn't be
--- created none can be written to, and what that call left of the file isn't told.
+-- What a fault of output leaves: `create` was called once, and NET couldn't be created, so that all is as it was, or it
+-- holds a front of its text, and CERT is as it was; or `create` was called twice, NET holds the text, and CERT couldn't be
+-- created and is as it was, or the run was broken off: CERT holds a front of its certificate, and a front of the summary
+-- was printed. Where a file couldn't be created none can be written to.
 pub data GenBreaksOff (project : Project) (text : List ℕ) (names : TwoFiles) (before now : Seen)
     (opened opens : Openings) (writable : Bool) : Type 0 where
-  nothing : NothingPut before now → CertStays names before now → opens ≡ with_created opened → writable ≡ false
+  nothing : IsUntouched before now → opens ≡ with_created opened → writable ≡ false
       → GenBreaksOff project text names before now opened opens writable
   in_network : TextCutShort text names.net before now → CertStays names before now → opens ≡ with_created opened
       → GenBreaksOff project text names before now opened opens writable
-  no_certificate : TextWritten text names.net before now → opens ≡ with_created (with_created opened)
-      → writable ≡ false → GenBreaksOff project text names before now opened opens writable
+  no_certificate : TextWritten text names.net before now → CertStays names before now
+      → opens ≡ with_created (with_created opened) → writable ≡ false
+      → GenBreaksOff project text names before now opened opens writable
   in_run : GeneratedShort project text names before now → opens ≡ with_created (with_created opened)
       → GenBreaksOff project text names before now opened opens writable
 

@@ -1,12 +1,12 @@
 -- What the answers of the command `run` mean.
 -- Source: this program's.
-use Rattle.std.specs.Prelude.{◌≡◌, ℕ, ◌⊎◌, List, ⊤}
+use Rattle.std.specs.Prelude.{◌≡◌, ℕ, ◌⊎◌, List, ⊤, MatchOption}
 use Rattle.hyd_io.specs.declared.desk.Openings.{Openings}
 use Rattle.hyd_io.specs.DeskCounts.{with_opened, with_created}
 use Rattle.hyd_io.specs.DeskBytes.{where_told, append_known, file_at}
 use Rattle.hyd_spec.specs.ProgramTypes.{Project}
 use Rattle.hyd_spec_reports.specs.PromisesOfRunsAndChecks.{Outcome, RunWrites, RunBreaksOff, outcome_number}
-use Rattle.hyd_run.specs.Runs.{sharpness_of}
+use Rattle.hyd_run.specs.Runs.{sharpness_of, EndNames, EndsInOrder}
 use Rattle.hyd_sim.specs.declared.settings.Settings.{Settings}
 use Rattle.hyd_command_words.specs.CommandGrammar.{RunOrder}
 use Rattle.hyd_cli.specs.Statuses.{number_of}
@@ -14,7 +14,7 @@ use Rattle.hyd_cli.specs.declared.status.Status.{Status}
 use Rattle.hyd_cli.specs.declared.status.Status.TheVariants.{Done, OutOfMemory, Usage, ReadFault, WriteFault}
 use Rattle.hyd_cli.specs.declared.status.Status.TheVariants.{InputRefused, Undecided, RoundsSpent, Demand}
 use Rattle.hyd_cli.specs.declared.status.Status.TheVariants.{CertificateRefused, Stalled}
-use Rattle.hyd_cli.specs.DeskContents.{Seen, IsUntouched, NothingPut}
+use Rattle.hyd_cli.specs.DeskContents.{Seen, IsUntouched, FilesStay}
 use Rattle.hyd_cli.specs.Answers.{OfNetwork}
 
 -- How often a run opens NET and creates CERT: each once at most, so what can be read only once is read whole. NET is
@@ -51,7 +51,8 @@ abbrev pub settings_of : RunOrder → Settings
 settings_of order = record { rounds = order.rounds; width = order.width; tight = order.tight }
 
 -- The certificate of a run of the network was written to the file created in this call, where files are told, its
--- report was printed, and every history agrees with them; the status says how the run ended. The file of the name
+-- report was printed, and every history agrees with them; the status says how the run ended. Where it stopped since no
+-- vector is a certificate, the junction that is named has no value at heads that were reached. The file of the name
 -- CERT holds what was written.
 pub record Delivered (project : Project) (settings : Settings) (cert : List ℕ) (status : Status) (before now : Seen) :
     Type 0 where
@@ -59,6 +60,7 @@ pub record Delivered (project : Project) (settings : Settings) (cert : List ℕ)
   pub certificate : List ℕ
   pub report : List ℕ
   pub run : RunWrites project settings.rounds (sharpness_of settings) outcome certificate report
+  pub names_junction : EndNames project run.left settings.rounds outcome
   pub status_is : number_of status ≡ outcome_number outcome
   pub written : now.written ≡ where_told before.files certificate
   pub printed : now.printed ≡ append_known before.printed report
@@ -66,25 +68,28 @@ pub record Delivered (project : Project) (settings : Settings) (cert : List ℕ)
 
 -- A fault broke a run of the network off: what was written to the file created in this call, where files are told, and
 -- what was printed are fronts of the certificate and of the report of the run as far as it went, and every history
--- agrees with it. The file of the name CERT holds what was written.
+-- agrees with it. Of the last line of the report nothing was printed unless all of the certificate was written. The file
+-- of the name CERT holds what was written.
 pub record CutShort (project : Project) (settings : Settings) (cert : List ℕ) (before now : Seen) : Type 0 where
   pub certificate : List ℕ
   pub report : List ℕ
   pub run : RunBreaksOff project settings.rounds (sharpness_of settings) certificate report
+  pub names_junction : MatchOption run.last ⊤ (EndNames project run.left settings.rounds)
+  pub in_order : EndsInOrder project run.founds run.left run.last certificate report
   pub written : now.written ≡ where_told before.files certificate
   pub printed : now.printed ≡ append_known before.printed report
   pub held : file_at now.files cert ≡ now.written
 
--- What an answer says of a network that is run.
+-- What an answer says of a network that is run. Where its file couldn't be created, all is as it was.
 abbrev pub AnswersRun : Project → Settings → List ℕ → Status → Seen → Seen → Type 0
 AnswersRun project settings cert Done before now = Delivered project settings cert Done before now
 AnswersRun project settings cert Undecided before now = Delivered project settings cert Undecided before now
 AnswersRun project settings cert RoundsSpent before now = Delivered project settings cert RoundsSpent before now
 AnswersRun project settings cert Demand before now = Delivered project settings cert Demand before now
 AnswersRun project settings cert OutOfMemory before now = IsUntouched before now
-AnswersRun project settings cert WriteFault before now = NothingPut before now ⊎ CutShort project settings cert before
+AnswersRun project settings cert WriteFault before now = IsUntouched before now ⊎ CutShort project settings cert before
     now
-AnswersRun project settings cert Stalled before now = NothingPut before now ⊎ CutShort project settings cert before now
+AnswersRun project settings cert Stalled before now = IsUntouched before now ⊎ CutShort project settings cert before now
 AnswersRun project settings cert status before now = ⊥
 
 -- What an answer says of a text without a fault: want of memory and a fault of reading leave all untouched.
@@ -94,13 +99,13 @@ AnswersText text settings cert ReadFault before now = IsUntouched before now
 AnswersText text settings cert status before now = OfNetwork text (λ project. AnswersRun project settings cert status
     before now)
 
--- The file of the name CERT holds what was written, at the end of a run and, where something was written, after a
+-- The file of the name CERT holds what was written, at the end of a run and, where any file isn't as it was, after a
 -- fault.
 abbrev pub Holds : Status → List ℕ → Seen → Seen → Type 0
 Holds Done cert before now = file_at now.files cert ≡ now.written
 Holds Undecided cert before now = file_at now.files cert ≡ now.written
 Holds RoundsSpent cert before now = file_at now.files cert ≡ now.written
 Holds Demand cert before now = file_at now.files cert ≡ now.written
-Holds WriteFault cert before now = (now.written ≡ before.written) ⊎ (file_at now.files cert ≡ now.written)
-Holds Stalled cert before now = (now.written ≡ before.written) ⊎ (file_at now.files cert ≡ now.written)
+Holds WriteFault cert before now = FilesStay before now ⊎ (file_at now.files cert ≡ now.written)
+Holds Stalled cert before now = FilesStay before now ⊎ (file_at now.files cert ≡ now.written)
 Holds status cert before now = ⊤

@@ -13,7 +13,7 @@ ghost use Rattle.hyd_run.specs.Pens.{told, OneRose, LeavesRest};
 ghost use Rattle.hyd_run.specs.Runs.{outcome_of};
 ghost use Rattle.hyd_command_words.specs.CommandGrammar.{GenOrder, gen};
 ghost use Rattle.hyd_command_words.specs.CommandView.{files_seen, gen_seen};
-ghost use Rattle.hyd_cli.specs.DeskContents.{seen, NothingPut, ChangesOnly};
+ghost use Rattle.hyd_cli.specs.DeskContents.{seen, IsUntouched, ChangesOnly};
 ghost use Rattle.hyd_cli.specs.Answers.{HasCause, Leaves, AnswersRefused};
 ghost use Rattle.hyd_cli.specs.GenAnswers.{text_of, usual_settings, TextWritten, TextCutShort, Generated};
 ghost use Rattle.hyd_cli.specs.GenAnswers.{GenBreaksOff, AnswersGenerated, AnswersGen, ChangesBoth, CreatesBoth};
@@ -60,7 +60,7 @@ fn write_text<D: Desk>(net: &str, text: &[u8], desk: &mut D) -> Result<(), OutFa
     requires { IsTrue (D.may_create net.now) }
     ensures whole { OnOk result (TextWritten text.now net.now
         (seen D.files D.written D.printed desk.old) (seen D.files D.written D.printed desk.new)) }
-    ensures cut_off { OnErr result ((NothingPut
+    ensures cut_off { OnErr result ((IsUntouched
         (seen D.files D.written D.printed desk.old) (seen D.files D.written D.printed desk.new)
         × (D.ready desk.new ≡ false))
         ⊎ TextCutShort text.now net.now

@@ -28,8 +28,8 @@ returns-in-Err-clause-keeps_cert g c =
 pub returns-then-is_err-clause-broken_off : goal.returns-then-is_err-clause-broken_off
 returns-then-is_err-clause-broken_off g c =
     text_alone c.args.sim.now.project c.args.text.now (files_seen c.args.files) _ _ _ _ _ _ c.in-Ok.ensures.whole
-    (record { written = search rules; printed = c.create.ensures.printed_stays })
-    (c.create.ensures.others c.args.files.net.now c.requires.apart) c.create.ensures.still_told
+    (c.write_text.ensures.others c.args.files.cert.now (λ same. c.requires.apart (sym same)))
+    (record { files = search rules; written = search rules; printed = c.create.ensures.printed_stays })
     (c.create.ensures.creates_once ∙ ap (λ (o : Openings). with_created o) c.write_text.ensures.creates) (search rules)
 
 pub returns-then-is_err-clause-keeps_cert : goal.returns-then-is_err-clause-keeps_cert
