@@ -13,8 +13,6 @@ pub(crate) enum Wrong {
     Fault,
     /// A file didn't hold what it should, or one was there that shouldn't be.
     Content,
-    /// A command in a process of its own ended otherwise, or said something else, than it should.
-    Command,
 }
 
 impl Wrong {
@@ -24,7 +22,6 @@ impl Wrong {
             Wrong::OutOfMemory => 1,
             Wrong::Fault => 2,
             Wrong::Content => 3,
-            Wrong::Command => 4,
         })
     }
 }
