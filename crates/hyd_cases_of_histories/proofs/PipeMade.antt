@@ -1,6 +1,7 @@
 -- The capacity of the pipe of 1000 feet is the one that its numbers stand for. The diameter is one foot, whose
 -- powers and roots are 1.
-use Rattle.std.proofs.Common.{◌≡◌, ℕ, ◌+◌, ◌*◌, ◌^◌, ◌<◌, ◌≤◌, neg_ℤ, pos, Bool, true, inl, inr, refl, sym, subst, arith, lit≤}
+use Rattle.std.proofs.Common.{◌≡◌, ℕ, ◌+◌, ◌*◌, ◌^◌, ◌<◌, ◌≤◌, neg_ℤ, pos, Bool, true, inl, inr, refl, sym, subst}
+use Rattle.std.proofs.Common.{arith, lit≤}
 use Rattle.std.proofs.Common.{lit<, mul-le-mul_right, mul-lt-mul_of_pos_right, lt_of_mul-lt-mul_right}
 use Rattle.std.proofs.lemmas.Bool.{cases_lt}
 use Rattle.std.proofs.lemmas.Nat.{pow_pos}

@@ -23,9 +23,11 @@ use Rattle.hyd_spec_certificates.specs.Decided.{NoRuleMatters, IsFirstMatter, En
 use Rattle.hyd_spec_certificates.specs.Decided.{by_clock, rule_truths, decided_changes, links_at}
 use Rattle.hyd_lemmas.proofs.BooleanTests.{none_below, from, any_of}
 use Rattle.hyd_theorems_on_definitions.proofs.Roots.{root_down-quick, quick_root}
-use Rattle.hyd_cases_of_runs.specs.HillTown.{hill_town, pool, starting, standing_0, standing_1, standing_2, grid_0, grid_1}
+use Rattle.hyd_cases_of_runs.specs.HillTown.{hill_town, pool, starting, standing_0, standing_1, standing_2, grid_0}
+use Rattle.hyd_cases_of_runs.specs.HillTown.{grid_1}
 use Rattle.hyd_cases_of_runs.specs.HillTown.{grid_2, row_0, row_1, row_2}
-use Rattle.hyd_cases_of_runs.proofs.HillTownRecords.{inflow_0, inflow_1, inflow_2, inflow_is_0, inflow_is_1, inflow_is_2}
+use Rattle.hyd_cases_of_runs.proofs.HillTownRecords.{inflow_0, inflow_1, inflow_2, inflow_is_0, inflow_is_1}
+use Rattle.hyd_cases_of_runs.proofs.HillTownRecords.{inflow_is_2}
 
 -- ---- the clock
 

@@ -19,7 +19,8 @@ use Rattle.hyd_spec.specs.PeriodLength.{level_at_start, stock_at_start, exact_af
 use Rattle.hyd_spec.specs.History.{IsHistory, AreNextStocks, ComesAfter}
 use Rattle.hyd_lemmas.proofs.Each.{each_one}
 use Rattle.hyd_lemmas.proofs.BooleanTests.{none_below, from, le-yes, or-left, or-right, and-true}
-use Rattle.hyd_cases_of_runs.specs.HillTown.{hill_town, hill, pool, rise, back, lift, running, period_0, period_1, period_2}
+use Rattle.hyd_cases_of_runs.specs.HillTown.{hill_town, hill, pool, rise, back, lift, running, period_0, period_1}
+use Rattle.hyd_cases_of_runs.specs.HillTown.{period_2}
 use Rattle.hyd_cases_of_runs.specs.HillTown.{period_3, periods}
 use Rattle.hyd_cases_of_runs.proofs.HillTownEnds.{only_control, not_before}
 use Rattle.hyd_cases_of_runs.proofs.VillageLengths.{not_full, not_empty}

@@ -18,7 +18,8 @@ use Rattle.hyd_spec_certificates.specs.Valid.{IsProblem, IsGridAt, AreCertificat
 use Rattle.hyd_theorems_on_definitions.proofs.Roots.{root_down-quick, quick_root}
 use Rattle.hyd_cases_of_histories.proofs.RoundPairs.{twice, ratio, product, quotient}
 use Rattle.hyd_cases_of_runs.specs.HillTown.{hill_town, thirst, grid_hill, standing_0, standing_1}
-use Rattle.hyd_cases_of_runs.specs.HillTown.{standing_2, standing_3, grid_0, grid_1, grid_2, grid_3, row_0, row_1, row_2}
+use Rattle.hyd_cases_of_runs.specs.HillTown.{standing_2, standing_3, grid_0, grid_1, grid_2, grid_3, row_0, row_1}
+use Rattle.hyd_cases_of_runs.specs.HillTown.{row_2}
 use Rattle.hyd_cases_of_runs.specs.HillTown.{row_3}
 use Rattle.hyd_cases_of_runs.proofs.VillageCertificates.{is_certificate, certificate}
 

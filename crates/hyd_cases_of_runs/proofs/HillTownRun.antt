@@ -31,11 +31,13 @@ use Rattle.hyd_spec_reports.specs.declared.EventKind.TheVariants.{Full as Become
 use Rattle.hyd_spec.specs.declared.TankState.{TankState}
 use Rattle.hyd_theorems_on_definitions.proofs.Roots.{root_down-quick, quick_root}
 use Rattle.hyd_cases_of_runs.specs.HillTown.{hill_town, hill, pool, standing_0, standing_1, standing_2}
-use Rattle.hyd_cases_of_runs.specs.HillTown.{standing_3, left, grid_0, grid_1, grid_2, grid_3, row_0, row_1, row_2, row_3}
+use Rattle.hyd_cases_of_runs.specs.HillTown.{standing_3, left, grid_0, grid_1, grid_2, grid_3, row_0, row_1, row_2}
+use Rattle.hyd_cases_of_runs.specs.HillTown.{row_3}
 use Rattle.hyd_cases_of_runs.specs.HillTown.{grid_hill, state_0, state_3, found_0, found_1, found_2, found_3, founds}
 use Rattle.hyd_cases_of_runs.proofs.HillTownRecords.{is_grid_0, is_grid_1, is_grid_2, is_grid_3, certificates_0}
 use Rattle.hyd_cases_of_runs.proofs.HillTownRecords.{certificates_1, certificates_2, certificates_3, inflow_0, inflow_3}
-use Rattle.hyd_cases_of_runs.proofs.HillTownRecords.{inflow_is_0, inflow_is_3, flows_0, flows_3, flows_are_0, flows_are_3}
+use Rattle.hyd_cases_of_runs.proofs.HillTownRecords.{inflow_is_0, inflow_is_3, flows_0, flows_3, flows_are_0}
+use Rattle.hyd_cases_of_runs.proofs.HillTownRecords.{flows_are_3}
 use Rattle.hyd_cases_of_runs.proofs.HillTownEnds.{only_control, ends_0, ends_1, ends_2, pump_stops, changes_1, acted_1}
 use Rattle.hyd_cases_of_runs.proofs.VillageCertificates.{all_inside, all_in_box}
 use Rattle.hyd_cases_of_runs.proofs.VillageReports.{rounds, prints_heads, prints_flows}

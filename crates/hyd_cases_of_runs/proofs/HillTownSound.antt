@@ -109,8 +109,10 @@ quantities = record {
   junctions = All-from_recursion (IsJunction Cmd []) hill_town.junctions.list (
     record {
       elevation = record { at_least = omega (arith, ints); at_most = omega (arith, ints) };
-      demands = All-from_recursion (IsDemand []) hill.demands.list
-          (record { base = record { at_least = omega (arith, ints); at_most = omega (arith, ints) }; pattern = tt }, tt);
+      demands = All-from_recursion (IsDemand []) hill.demands.list (
+        record { base = record { at_least = omega (arith, ints); at_most = omega (arith, ints) }; pattern = tt },
+        tt,
+      );
       emitter = record {
         range = record { at_least = omega (arith, ints); at_most = omega (arith, ints) };
         same_unit = refl;

@@ -8,7 +8,8 @@ use Rattle.std.specs.Int.Signed.{≤ℤ_refl}
 use Rattle.std.proofs.Common.{lit≤}
 use Rattle.hyd_net.specs.ListView.{listed}
 use Rattle.hyd_spec.specs.ProgramTypes.{Project, Junction, Tank, Link, Capacity, Pipe, PressureDemand, PipeLink}
-use Rattle.hyd_spec.specs.ProgramTypes.{CheckPipe, PumpLink, FourThirds, LinkState, Open, Closed, Speed, Control, AtLevel}
+use Rattle.hyd_spec.specs.ProgramTypes.{CheckPipe, PumpLink, FourThirds, LinkState, Open, Closed, Speed, Control}
+use Rattle.hyd_spec.specs.ProgramTypes.{AtLevel}
 use Rattle.hyd_spec.specs.ProgramTypes.{Rule, And, Level, More, Amount, Cmd}
 use Rattle.hyd_spec.specs.declared.TankState.{TankState}
 use Rattle.hyd_spec.specs.declared.TankState.TheVariants.{Between, Full}
@@ -207,8 +208,8 @@ abbrev pub row_with : ℕ → ℕ → ℕ → Vectors → Vectors → Record
 row_with number time length main pinned =
     record { number = number; time = time; length = length; main = main; pinned = pinned ∷ [] }
 
--- The lines of a report time: the hill's head, pressure and outflow, the pool's head, level and inflow, and the flows of
--- the pipe to it and of the pump. The check valve is shut.
+-- The lines of a report time: the hill's head, pressure and outflow, the pool's head, level and inflow, and the flows
+-- of the pipe to it and of the pump. The check valve is shut.
 abbrev pub state_lines : ℕ → Interval → Interval → Interval → Interval → Interval → Interval → Interval → Interval
     → List ReportLine
 state_lines time head pressure outflow pool_head level inflow rising lifted =

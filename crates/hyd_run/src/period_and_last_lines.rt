@@ -1,6 +1,6 @@
-//! The record and the report of one period, and the last lines of a run. What is for the certificate comes first, and all
-//! of it is out before the last line of the report is put in: a full disk leaves no whole report beside a part of its
-//! certificate.
+//! The record and the report of one period, and the last lines of a run. What is for the certificate comes first, and
+//! all of it is out before the last line of the report is put in: a full disk leaves no whole report beside a part of
+//! its certificate.
 #![tactic(auto)]
 
 ghost use Rattle.std.specs.Prelude.{◌≡◌, ◌<◌, [], OnOk};

@@ -10,7 +10,8 @@ ghost use Rattle.hyd_spec.specs.ProgramTypes.{Project};
 ghost use Rattle.hyd_spec_reports.specs.PromisesOfRunsAndChecks.{EndsSo};
 ghost use Rattle.hyd_sim.specs.declared.settings.Settings.{Settings};
 ghost use Rattle.hyd_run.specs.Pens.{RunMoment, told, moment, AreOpen, OneRose, LeavesRest};
-ghost use Rattle.hyd_run.specs.Runs.{fresh, outcome_of, sharpness_of, EndNames, IsSoFar, IsWhole, IsPutOut, IsBrokenOff};
+ghost use Rattle.hyd_run.specs.Runs.{fresh, outcome_of, sharpness_of, EndNames, IsSoFar, IsWhole, IsPutOut};
+ghost use Rattle.hyd_run.specs.Runs.{IsBrokenOff};
 ghost use Rattle.hyd_run.specs.Runs.{RunPuts};
 
 use crate::first_lines_and_emptied_pens::{empty_both, put_front};

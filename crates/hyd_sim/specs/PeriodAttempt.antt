@@ -83,7 +83,8 @@ pub record AreSought (tight : Bool) (told : Option (List ℤ)) (grid : Grid) (ta
   pub each : OfEach (IsSought tight told grid tanks) tanks row
   pub come : OfEach (Comes tight told grid tanks rounds) tanks row
 
--- an attempt that doesn't stop the run found each vector that it sought, or spent its rounds toward the first that lacks
+-- an attempt that doesn't stop the run found each vector that it sought, or spent its rounds toward the first that
+-- lacks
 abbrev pub GoesOn : Option (List ℤ) → Grid → ℕ → ℕ → Record → Type 0
 GoesOn told grid tanks rounds row = AreSought false told grid tanks rounds row
     ⊎ ((lack : Missing) × (IsBySpentRounds lack × LacksFirst false told grid tanks rounds row lack))
