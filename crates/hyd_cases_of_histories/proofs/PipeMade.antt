@@ -1,6 +1,7 @@
 -- The capacity of the pipe of 1000 feet is the one that its numbers stand for. The diameter is one foot, whose
 -- powers and roots are 1.
-use Rattle.std.proofs.Common.{◌≡◌, ℕ, ◌+◌, ◌*◌, ◌^◌, ◌<◌, ◌≤◌, neg_ℤ, pos, inl, inr, refl, sym, subst, arith, lit≤}
+use Rattle.std.proofs.Common.{◌≡◌, ℕ, ◌+◌, ◌*◌, ◌^◌, ◌<◌, ◌≤◌, neg_ℤ, pos, Bool, true, inl, inr, refl, sym, subst}
+use Rattle.std.proofs.Common.{arith, lit≤}
 use Rattle.std.proofs.Common.{lit<, mul-le-mul_right, mul-lt-mul_of_pos_right, lt_of_mul-lt-mul_right}
 use Rattle.std.proofs.lemmas.Bool.{cases_lt}
 use Rattle.std.proofs.lemmas.Nat.{pow_pos}
@@ -10,7 +11,10 @@ use Rattle.hyd_num.specs.declared.pairs.Pair.{Pair}
 use Rattle.hyd_num.specs.BinaryNumbers.{numerator, denominator, IsUp}
 use Rattle.hyd_num.specs.Pairs.{IsProduct, IsPower, once as power_once, even, odd, IsOwnPower, RootsBelow, RootsAbove}
 use Rattle.hyd_num.specs.Pairs.{IsRoot533}
-use Rattle.hyd_num.specs.CapacityPairs.{IsMade}
+use Rattle.hyd_num.specs.declared.decimals.Decimal.{Decimal}
+use Rattle.hyd_num.specs.declared.link_capacities.Origin.TheVariants.{Pipe}
+use Rattle.hyd_num.specs.FileQuantity.{billionths, feet, feet_across}
+use Rattle.hyd_num.specs.CapacityPairs.{IsPairOf, IsMade}
 use Rattle.hyd_num.proofs.RoundingLemmas.{IsUp-exact, IsUp-next}
 use Rattle.hyd_cases_of_histories.specs.Spurs.{long_pipe}
 use Rattle.hyd_lemmas.proofs.PairOperations.{IsDown-near}
@@ -26,10 +30,10 @@ IsUp-near p q s t above lost below next = IsUp-next p q s t above lost below (re
 
 -- ---- one
 
-abbrev one : Scaled
+abbrev pub one : Scaled
 one = record { mant = 4611686018427387904; exp = neg_ℤ (pos 62); normal = lit≤ tt; short = lit< tt }
 
-abbrev ones : Pair
+abbrev pub ones : Pair
 ones = twice one
 
 ones_product : IsProduct ones ones ones
@@ -214,13 +218,22 @@ unit = record { lo = unit_low; hi = unit_high; ordered = lit≤ tt }
 abbrev capacity_back : Scaled
 capacity_back = record { mant = 7239961123724670989; exp = neg_ℤ (pos 34); normal = lit≤ tt; short = lit< tt }
 
-abbrev thousand : Scaled
+abbrev pub thousand : Scaled
 thousand = record { mant = 9007199254740992000; exp = neg_ℤ (pos 53); normal = lit≤ tt; short = lit< tt }
 
 -- ---- the capacity
 
-pub pipe_made : IsMade long_pipe
-pipe_made = record {
+abbrev pub smooth : Decimal
+smooth = record { nano = pos 10000000; bounded = lit≤ tt }
+
+abbrev pub unfitted : Decimal
+unfitted = record { nano = pos 0; bounded = lit≤ tt }
+
+-- that of any pipe as rough, a thousand feet long and one foot across, in feet and inches or in metres and millimetres
+pub made_of : (length diameter : Decimal) (us : Bool) → IsPairOf (feet us (billionths length)) (twice thousand)
+    → IsPairOf (feet_across us (billionths diameter)) ones
+    → IsMade (record long_pipe { origin = Pipe length diameter smooth unfitted us })
+made_of length diameter us long_is across_is = record {
   pair = record { lo = long_pipe.lo; hi = long_pipe.hi; ordered = lit≤ tt };
   low = refl;
   high = refl;
@@ -238,9 +251,9 @@ pipe_made = record {
         high = IsUp-near _ _ rough_back rough_high (lit< tt) (lit< tt) (lit< tt) refl;
       };
       long = twice thousand;
-      long_is = ratio _ _ thousand (lit< tt) refl;
+      long_is = long_is;
       across = ones;
-      across_is = ratio _ _ one (lit< tt) refl;
+      across_is = across_is;
       root = ones;
       root_is = root_of_one;
       once_rough = once;
@@ -276,3 +289,8 @@ pipe_made = record {
     };
   };
 }
+
+pub pipe_made : IsMade long_pipe
+pipe_made = made_of (record { nano = pos 1000000000000; bounded = lit≤ tt })
+    (record { nano = pos 12000000000; bounded = lit≤ tt }) true (ratio _ _ thousand (lit< tt) refl)
+    (ratio _ _ one (lit< tt) refl)

@@ -143,7 +143,7 @@ module _ (basin : Basin) where
 no_number : AreRising []
 no_number i j d before within = absurd (omega (arith, within))
 
-three-rise : (a b c : ℤ) → a <ℤ b → a <ℤ c → b <ℤ c → AreRising (a ∷ b ∷ c ∷ [])
+pub three-rise : (a b c : ℤ) → a <ℤ b → a <ℤ c → b <ℤ c → AreRising (a ∷ b ∷ c ∷ [])
 three-rise a b c p q r =
     AllPairs-cons (λ x y. x <ℤ y) a (b ∷ c ∷ []) (All-from_recursion (λ y. a <ℤ y) (b ∷ c ∷ []) (p, (q, tt)))
     (AllPairs-cons (λ x y. x <ℤ y) b (c ∷ []) (All-from_recursion (λ y. b <ℤ y) (c ∷ []) (r, tt))

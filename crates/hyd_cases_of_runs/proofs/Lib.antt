@@ -22,3 +22,8 @@ pub mod RaisesOnSmallGrid
 pub mod BasinRun
 pub mod BasinHistory
 pub mod BasinSound
+pub mod HillTownSound
+pub mod HillTownRecords
+pub mod HillTownEnds
+pub mod HillTownRun
+pub mod HillTownHistory

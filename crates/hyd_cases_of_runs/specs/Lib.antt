@@ -15,3 +15,4 @@ pub mod VillageRefusals
 pub mod ShallowVillage
 pub mod Rounds
 pub mod Basin
+pub mod HillTown

@@ -4,6 +4,7 @@
 
 pub mod basins;
 pub mod clauses;
+pub mod hill_town;
 pub mod refusals;
 pub mod rounds;
 pub mod run_ends;
