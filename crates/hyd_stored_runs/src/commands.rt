@@ -18,7 +18,7 @@ pub(crate) fn run_all(rt: &HostRuntime) -> io::Result<()> {
 fn run_line(rt: &HostRuntime, line: &str) -> io::Result<()> {
     println!(rt; "$ hyd {line}")?;
     let words = words_in(rt.alloc(), line)?;
-    let status = tool(rt.alloc(), &words, &mut FileDesk::new(rt));
+    let status = tool(rt.alloc(), &words, &mut FileDesk::new(rt.alloc(), rt));
     println!(rt; "status {}", status.number())?;
     if word_at(&words, 0) == "run" {
         return print_certificate(rt, &words);
