@@ -1,4 +1,4 @@
 mod TurnsShowStarts
 mod SearchesGive
 mod DrawsOfHeldJunctions
-mod WordsBySides
+pub mod WordsBySides

@@ -1,6 +1,8 @@
 -- The word by the vectors and what was found of the sides.
+use Rattle.std.proofs.Common.{Bool, true, false, ◌∙◌}
+use Rattle.hyd_lemmas.proofs.BooleanTests.{le-yes, le-from}
 use Rattle.std.proofs.Common.{◌≡◌, ℕ, ◌<◌, ℤ, ◌≤ℤ◌, refl, sym, List, length, inl, inr}
-use Rattle.std.specs.Prelude.{◌⊎◌, Some, slice_get, IsTrue}
+use Rattle.std.specs.Prelude.{◌⊎◌, Some, slice_get, IsTrue, ◌&&◌, int_le, if◌then◌else◌}
 use Rattle.std.proofs.lemmas.Bool.{true≢false}
 use Rattle.hyd_spec.specs.Assignment.{head_at}
 use Rattle.hyd_spec_certificates.specs.declared.Problem.TheVariants.{Main}
@@ -9,6 +11,8 @@ use Rattle.hyd_spec_certificates.specs.declared.Side.TheVariants.{Upper, Lower}
 use Rattle.hyd_spec_certificates.specs.declared.LevelSpan.{LevelSpan}
 use Rattle.hyd_spec_certificates.specs.PeriodNetwork.{Grid}
 use Rattle.hyd_spec_certificates.specs.Certificate.{IsCertificate}
+use Rattle.hyd_spec_pressure_targets.specs.declared.ClosureWord.{ClosureWord}
+use Rattle.hyd_spec_pressure_targets.specs.declared.ClosureWord.TheVariants.{Safe, Low}
 use Rattle.hyd_spec_pressure_targets.specs.ClosureWords.{IsShownSafe, IsShownLow, IsWord}
 use Rattle.hyd_spec_pressure_targets.specs.ClosureWords.{AreSpentOn}
 use Rattle.hyd_theorems_on_pressure_targets.proofs.OneWordAndEdge.{shown-by-lower, shown-by-upper}
@@ -16,7 +20,7 @@ use Rattle.hyd_fire.specs.declared.answers.Found.{Found}
 use Rattle.hyd_fire.specs.declared.answers.Found.TheVariants.{Tight, Passing, NoCertificate, RoundsSpent}
 use Rattle.hyd_fire.specs.declared.answers.Sides.{Sides}
 use Rattle.hyd_fire.specs.StudyView.{StudyView}
-use Rattle.hyd_fire.specs.SidesOfClosures.{IsFoundOn, has_vector, AreAllShown, IsLeft, word_without}
+use Rattle.hyd_fire.specs.SidesOfClosures.{word_by, IsFoundOn, has_vector, AreAllShown, IsLeft, word_without}
 
 -- a vector that stands there is a certificate
 pub stands-passing : (grid : Grid) (rounds : ℕ) (side : Side) (u : List ℤ) (found : Found)
@@ -110,3 +114,29 @@ module _ (grid : Grid) (rounds j : ℕ) (target : LevelSpan) (left : StudyView) 
     certificate = stands-passing grid rounds Upper left.upper sides.upper is.upper has;
     too_little = little;
   }
+
+  -- the word by the vectors is the word of what a closure left
+  pub left-word : (targets : List LevelSpan) (sides : Sides) → IsLeft grid rounds targets left sides
+      → slice_get targets j ≡ Some target → IsWord grid rounds j target.lo target.hi (word_by left sides j target)
+  left-word targets sides is at = by-safe (has_vector sides.lower) (int_le target.hi (head_at left.lower j)) refl refl
+    where
+      Word : ClosureWord → Type 0
+      Word word = IsWord grid rounds j target.lo target.hi word
+
+      by-low : ((IsTrue (has_vector sides.lower) × (target.hi ≤ℤ head_at left.lower j)) → ⊥) → (h l : Bool)
+          → has_vector sides.upper ≡ h → int_le (head_at left.upper j) target.lo ≡ l
+          → Word (if h && l then Low else word_without sides)
+      by-low not-safe true true has less = left-low targets sides is has (le-yes _ _ less)
+      by-low not-safe true false has more = left-without targets sides is at not-safe
+          (λ low. true≢false (sym (le-from _ _ low.1) ∙ more))
+      by-low not-safe false l has less = left-without targets sides is at not-safe
+          (λ low. true≢false (sym low.0 ∙ has))
+
+      by-safe : (h l : Bool) → has_vector sides.lower ≡ h → int_le target.hi (head_at left.lower j) ≡ l
+          → Word (if h && l then Safe else
+          if has_vector sides.upper && int_le (head_at left.upper j) target.lo then Low else word_without sides)
+      by-safe true true has less = left-safe targets sides is has (le-yes _ _ less)
+      by-safe true false has more = by-low (λ safe. true≢false (sym (le-from _ _ safe.1) ∙ more))
+          (has_vector sides.upper) (int_le (head_at left.upper j) target.lo) refl refl
+      by-safe false l has less = by-low (λ safe. true≢false (sym safe.0 ∙ has))
+          (has_vector sides.upper) (int_le (head_at left.upper j) target.lo) refl refl

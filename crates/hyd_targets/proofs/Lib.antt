@@ -1,0 +1,3 @@
+mod TargetsOfJunctions
+mod PiecesInOrder
+mod ClosuresOfPipes

@@ -1,0 +1,12 @@
+//! Questions about a target pressure in the first period of a network, and what is printed of their answers.
+#![tactic(auto)]
+
+mod bracket;
+mod closures;
+mod inquiry;
+mod one_closure;
+mod target_heads;
+
+pub use bracket::put_bracket;
+pub use closures::put_closures;
+pub use inquiry::Inquiry;
