@@ -1,7 +1,8 @@
 //! What a command does on a desk in memory, as a text: what it prints, how it ends, and the files that it makes.
 
-use hyd_cli::Status;
+use hyd_cli::{Status, tool};
 use hyd_io::MemDesk;
+use std::alloc::Global;
 use std::io::Write;
 use std::{fs, io};
 
@@ -68,4 +69,9 @@ pub(crate) fn lies_there(rt: &HostRuntime, name: &str, bytes: &[u8]) -> bool {
         Ok(found) => found.as_slice() == bytes,
         Err(_) => false,
     }
+}
+
+/// The status of a command on a desk in memory.
+pub(crate) fn status_on(alloc: Global, words: &[String], desk: &mut MemDesk) -> Status {
+    tool(alloc, words, desk)
 }

@@ -1,9 +1,8 @@
 //! Cases: commands on desks in memory, each with its answer in a file beside it.
 
-use crate::answers::{lies_there, put_files, write_answer};
+use crate::answers::{lies_there, put_files, status_on, write_answer};
 use crate::checks_behind::holds_behind;
 use crate::files_and_words::{first_word, tell, text_of, words_in};
-use hyd_cli::tool;
 use hyd_io::MemDesk;
 use std::alloc::{AllocError, Global};
 use std::io;
@@ -43,7 +42,7 @@ fn do_command(
     let mut desk = MemDesk::new(rt.alloc());
     put_files(rt, words, &mut desk)?;
     set_fault(&mut desk, fault)?;
-    let status = tool(rt.alloc(), words, &mut desk);
+    let status = status_on(rt.alloc(), words, &mut desk);
     write_answer(rt, words, status, &desk, answer)?;
     Ok(fault != "" || holds_behind(rt.alloc(), words, status, &mut desk)?)
 }

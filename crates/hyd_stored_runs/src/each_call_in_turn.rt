@@ -1,9 +1,9 @@
 //! Each call on a desk fails in turn, and each write and print takes nothing in turn: the status says so, nothing more is
 //! called, and what was written and printed are beginnings of what the command writes and prints without a fault.
 
-use crate::answers::put_files;
+use crate::answers::{put_files, status_on};
 use crate::files_and_words::{first_word, tell, text_of, words_in};
-use hyd_cli::{Status, tool};
+use hyd_cli::Status;
 use hyd_io::{Desk, MemDesk};
 use std::alloc::AllocError;
 use std::io;
@@ -25,7 +25,7 @@ pub(crate) fn try_all(rt: &HostRuntime) -> io::Result<()> {
 fn ends_at_each(rt: &HostRuntime, words: &[String], calls: &[u8]) -> io::Result<bool> {
     let mut whole = MemDesk::new(rt.alloc());
     put_files(rt, words, &mut whole)?;
-    tool(rt.alloc(), words, &mut whole);
+    status_on(rt.alloc(), words, &mut whole);
     let mut number = 0u32;
     for call in calls {
         number = number.saturating_add(1);
@@ -89,7 +89,7 @@ fn ends_so(
     let mut desk = MemDesk::new(rt.alloc());
     put_files(rt, words, &mut desk)?;
     set_calls(&mut desk, number, starves)?;
-    let status = tool(rt.alloc(), words, &mut desk);
+    let status = status_on(rt.alloc(), words, &mut desk);
     Ok(desk.print(b"x").is_err() && status == wanted && holds_fronts(words, &desk, whole))
 }
 
