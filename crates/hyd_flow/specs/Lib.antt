@@ -1,0 +1,2 @@
+pub mod GivenRecords
+pub mod RefusedVectors
