@@ -1,7 +1,7 @@
 -- Command lines as they are typed, and what they ask for.
 use Rattle.std.specs.Prelude.{ℕ, ◌==◌, Bool, List, Option, Some, is_none, ℤ}
 use Rattle.std.specs.List.{slice_split, list_all}
-use Rattle.hyd_command_words.specs.CommandGrammar.{Order, run, check, gen}
+use Rattle.hyd_command_words.specs.CommandGrammar.{Order, run, check, gen, fire, closures}
 
 -- the words of a line, parted by single spaces
 abbrev pub typed : List ℕ → List (List ℕ)
@@ -24,6 +24,13 @@ asks_gen seed junctions net cert = Some (gen (record {
   junctions = junctions;
   files = record { net = net; cert = cert };
 }))
+
+abbrev pub asks_fire : (net junction : List ℕ) (pressure : ℤ) (rounds : ℕ) → Option Order
+asks_fire net junction pressure rounds =
+    Some (fire (record { net = net; junction = junction; pressure = pressure; rounds = rounds }))
+
+abbrev pub asks_closures : (net : List ℕ) (pressure : ℤ) (rounds : ℕ) → Option Order
+asks_closures net pressure rounds = Some (closures (record { net = net; pressure = pressure; rounds = rounds }))
 
 -- none of them is a command
 abbrev pub are_none : List (Option Order) → Bool

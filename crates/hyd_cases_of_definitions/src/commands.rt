@@ -1,9 +1,10 @@
 //! The words of the command line.
 #![tactic(auto)]
 
-ghost use Rattle.std.specs.Prelude.{◌≡◌, pos, true, false, [], ◌∷◌, map, codes};
+ghost use Rattle.std.specs.Prelude.{◌≡◌, pos, neg_ℤ, true, false, [], ◌∷◌, map, codes};
 ghost use Rattle.hyd_command_words.specs.CommandGrammar.{order_of};
 ghost use Rattle.hyd_cases_of_definitions.specs.Commands.{typed, asks_run, asks_check, asks_gen, are_none};
+ghost use Rattle.hyd_cases_of_definitions.specs.Commands.{asks_fire, asks_closures};
 
 /// The words of `run`: its options in each form, and where they stand.
 pub fn runs()
@@ -50,6 +51,27 @@ pub fn others()
         asks_gen 2147483647 10000 (codes "a") (codes "b") ∷ asks_gen 7 1 (codes "a") (codes "-b") ∷ [] }
 {}
 
+/// The words of `fire` and of `closures`: a pressure may be negative behind `--` alone, and a junction may have the
+/// name of the file.
+pub fn targets()
+    ensures fires { map order_of (map typed (
+        codes "fire a J 16.0645975" ∷ codes "fire a a 0" ∷ codes "fire --sweeps=0 a J 1e4" ∷
+        codes "fire a --sweeps 7 J +.5" ∷ codes "fire a J --sweeps 100000 -- -3" ∷ codes "fire -- -a -- -1e4" ∷
+        codes "fire a - 10000.0000000009" ∷ []))
+        ≡
+        asks_fire (codes "a") (codes "J") (pos 16064597500) 200 ∷ asks_fire (codes "a") (codes "a") (pos 0) 200 ∷
+        asks_fire (codes "a") (codes "J") (pos 10000000000000) 0 ∷
+        asks_fire (codes "a") (codes "J") (pos 500000000) 7 ∷
+        asks_fire (codes "a") (codes "J") (neg_ℤ (pos 3000000000)) 100000 ∷
+        asks_fire (codes "-a") (codes "--") (neg_ℤ (pos 10000000000000)) 200 ∷
+        asks_fire (codes "a") (codes "-") (pos 10000000000000) 200 ∷ [] }
+    ensures closes { map order_of (map typed (
+        codes "closures a 43" ∷ codes "closures a 4.3e1 --sweeps 5" ∷ codes "closures a -- -0.5" ∷ []))
+        ≡
+        asks_closures (codes "a") (pos 43000000000) 200 ∷ asks_closures (codes "a") (pos 43000000000) 5 ∷
+        asks_closures (codes "a") (neg_ℤ (pos 500000000)) 200 ∷ [] }
+{}
+
 /// Words that are no command.
 pub fn refused()
     ensures names { are_none (map order_of (map typed (
@@ -71,4 +93,11 @@ pub fn refused()
         codes "gen 7 1 a" ∷ codes "gen 2147483648 1 a b" ∷ codes "gen 7 0 a b" ∷ codes "gen 7 10001 a b" ∷
         codes "gen x 1 a b" ∷ codes "gen 00000000007 1 a b" ∷ codes "gen 7 000001 a b" ∷ codes "gen 7 1 a a" ∷
         codes "gen 7 1 a b --tight" ∷ codes "gen -7 1 a b" ∷ codes "gen 7 1 a b c" ∷ []))) ≡ true }
+    ensures targets { are_none (map order_of (map typed (
+        codes "fire a J" ∷ codes "fire a J 1 2" ∷ codes "fire a J -1" ∷ codes "fire a -J 1" ∷ codes "fire a J x" ∷
+        codes "fire a J 10000.000000001" ∷ codes "fire a J 1e13" ∷ codes "fire a J 1 --tight" ∷
+        codes "fire a J 1 --width 1" ∷ codes "fire a J 1 --sweeps 100001" ∷ codes "fire a J 1 --sweeps 1 --sweeps 1" ∷
+        codes "fire a J -- -10000.000000001" ∷ codes "fire a J -" ∷ codes "Fire a J 1" ∷ codes "closures a" ∷
+        codes "closures a 1 2" ∷ codes "closures a -1" ∷ codes "closures a 1 --tight" ∷
+        codes "closures a 1 --width=1" ∷ codes "closures a 10001" ∷ codes "closures a 1 --sweeps -1" ∷ []))) ≡ true }
 {}

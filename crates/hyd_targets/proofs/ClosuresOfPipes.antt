@@ -8,7 +8,7 @@ use Rattle.hyd_spec.specs.ProgramTypes.{Project, Link, Junction}
 use Rattle.hyd_spec.specs.Lists.{joined, map_from, present}
 use Rattle.hyd_spec_certificates.specs.declared.LevelSpan.{LevelSpan}
 use Rattle.hyd_spec_pressure_targets.specs.declared.ClosureWord.{ClosureWord}
-use Rattle.hyd_spec_pressure_targets.specs.FirstPeriod.{is_pipe}
+use Rattle.hyd_spec_pressure_targets.specs.FirstPeriod.{is_pipe, pipes_of}
 use Rattle.hyd_spec_pressure_targets.specs.LinesOfTargets.{word_line}
 use Rattle.hyd_num.specs.Rational.{Rational}
 use Rattle.hyd_net.specs.Sound.{IsSound}
@@ -16,7 +16,7 @@ use Rattle.hyd_spec_certificates.specs.PeriodNetwork.{Grid}
 use Rattle.hyd_spec_pressure_targets.specs.FirstPeriod.{IsFirstGridWithShut}
 use Rattle.hyd_spec_pressure_targets.specs.TargetHeads.{target_low, target_high}
 use Rattle.hyd_spec_pressure_targets.specs.ClosureWords.{IsWord}
-use Rattle.hyd_spec_pressure_targets.specs.PromisesOfTargets.{Closure, IsClosure}
+use Rattle.hyd_spec_pressure_targets.specs.PromisesOfTargets.{Closure, IsClosure, FindsClosures}
 use Rattle.hyd_theorems_on_pressure_targets.proofs.WordsHold.{word-holds}
 use Rattle.hyd_fire.proofs.WordsBySides.{left-word}
 use Rattle.hyd_fire.specs.SidesOfClosures.{IsLeft}
@@ -24,12 +24,12 @@ use Rattle.hyd_spec.specs.DemandsHeadsAndPumpLifts.{is_us}
 use Rattle.hyd_targets.specs.declared.inquiry.Inquiry.{Inquiry}
 use Rattle.hyd_targets.specs.Inquiries.{target_of, target_for, target_pressure}
 use Rattle.hyd_targets.proofs.TargetsOfJunctions.{target-there}
-use Rattle.std.proofs.lemmas.List.{length-map}
+use Rattle.std.proofs.lemmas.List.{length-map, take_all}
 use Rattle.hyd_fire.specs.StudyView.{StudyView}
 use Rattle.hyd_fire.specs.SidesOfClosures.{word_by}
 use Rattle.hyd_fire.specs.declared.answers.Sides.{Sides}
 use Rattle.hyd_lemmas.proofs.ListsOptionsAndResults.{numbered_at, item_is, item_there, as_long}
-use Rattle.hyd_targets.specs.ClosuresPutOut.{words_by, pipes_among}
+use Rattle.hyd_targets.specs.ClosuresPutOut.{words_by, pipes_among, AreSoFar}
 
 -- ---- lists
 
@@ -222,3 +222,19 @@ on-ok-so P (Err fault) p = tt
 pub if-err-so : {A E : Type 0} (P : Type 0) (result : Result A E) → P → IfErr result (λ fault. P)
 if-err-so P (Ok value) p = tt
 if-err-so P (Err fault) p = p
+
+-- ---- texts
+
+-- the text of all closures is one of those so far
+pub all-so-far : (project : Project) (target : Rational) (rounds : ℕ) (text : List ℕ)
+    → FindsClosures project target rounds text → AreSoFar project target rounds text
+all-so-far project target rounds text finds =
+    let long = zipped-long (IsClosure project target rounds) (pipes_of project) finds.closures finds.each in
+    record {
+      closures = finds.closures;
+      each = subst (λ (ps : List ℕ). AllZip (IsClosure project target rounds) ps finds.closures)
+          (sym (take_all (length finds.closures) (pipes_of project) (omega (arith, long)))) finds.each;
+      is_whole = true;
+      all = λ _. long;
+      is_text = finds.is_text;
+    }

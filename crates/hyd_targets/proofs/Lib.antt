@@ -1,3 +1,3 @@
 mod TargetsOfJunctions
 mod PiecesInOrder
-mod ClosuresOfPipes
+pub mod ClosuresOfPipes

@@ -18,3 +18,7 @@ returns-clause-widths c = refl
 pub returns-clause-others : goal.returns-clause-others
 unfolding kind_of is_numeral nano_of magnitude_of
 returns-clause-others c = refl
+
+pub returns-clause-targets : goal.returns-clause-targets
+unfolding kind_of is_numeral nano_of magnitude_of
+returns-clause-targets c = refl

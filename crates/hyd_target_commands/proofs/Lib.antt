@@ -1,0 +1,3 @@
+pub mod NamesOfJunctions
+pub mod TextsPrinted
+pub mod StatusesOfTargets

@@ -1,0 +1,59 @@
+-- The lines that were put in at a new pen.
+use Rattle.std.proofs.Common.{refl}
+use Rattle.std.proofs.lemmas.Result.{on_ok_weaker, on_err_weaker}
+use Rattle.hyd_spec_pressure_targets.specs.PromisesOfTargets.{FindsClosures}
+use Rattle.hyd_targets.specs.Inquiries.{target_for}
+use Rattle.hyd_targets.proofs.ClosuresOfPipes.{all-so-far}
+use Rattle.hyd_target_commands.proofs.TextsPrinted.{whole-of-flush, front-of-flush, cause-of-flush, steady-by-flush}
+use Rattle.hyd_target_commands.proofs.TextsPrinted.{openings-by-flush, front-of-put, cause-of-put, printed-with}
+use Rattle.hyd_target_commands.proofs.TextsPrinted.{broken-off}
+use Rattle.hyd_target_commands.proofs.command_closures.print_closures.Goals as goal
+
+-- ---- the put failed
+
+pub returns-in-Err-clause-cut_off : goal.returns-in-Err-clause-cut_off
+returns-in-Err-clause-cut_off g c =
+    let one = c.in-Err.ensures.cut_off in
+    broken-off c.args.project.now (target_for c.args.project.now c.args.inquiry.now) c.args.rounds one.0 _ _ one.1.0
+    (front-of-put one.0 _ _ _ _ c.new-pen.ensures c.in-Err.fault one.1.1)
+
+pub returns-in-Err-clause-cause : goal.returns-in-Err-clause-cause
+returns-in-Err-clause-cause g c =
+    let one = c.in-Err.ensures.cut_off in cause-of-put one.0 _ _ _ _ c.new-pen.ensures c.in-Err.fault one.1.1
+
+pub returns-in-Err-clause-openings_stay : goal.returns-in-Err-clause-openings_stay
+returns-in-Err-clause-openings_stay g c = let one = c.in-Err.ensures.cut_off in one.1.1.openings_stay
+
+-- ---- the pen was flushed
+
+pub returns-clause-whole : goal.returns-clause-whole
+returns-clause-whole g c =
+    let one = c.in-Ok.ensures.whole in
+    on_ok_weaker c.flush.result
+    (printed-with (FindsClosures c.args.project.now (target_for c.args.project.now c.args.inquiry.now) c.args.rounds)
+    one.0 _ _ one.1.0)
+    (whole-of-flush one.0 _ _ _ _ c.new-pen.ensures _ _ c.flush.result one.1.1 c.flush.ensures)
+
+pub returns-clause-cut_off : goal.returns-clause-cut_off
+returns-clause-cut_off g c =
+    let target = target_for c.args.project.now c.args.inquiry.now in
+    let one = c.in-Ok.ensures.whole in
+    on_err_weaker c.flush.result
+    (broken-off c.args.project.now target c.args.rounds one.0 _ _
+    (all-so-far c.args.project.now target c.args.rounds one.0 one.1.0))
+    (front-of-flush one.0 _ _ _ _ c.new-pen.ensures _ _ c.flush.result one.1.1 c.flush.ensures)
+
+pub returns-clause-cause : goal.returns-clause-cause
+returns-clause-cause g c =
+    let one = c.in-Ok.ensures.whole in
+    cause-of-flush one.0 _ _ _ _ c.new-pen.ensures _ _ c.flush.result one.1.1 c.flush.ensures
+
+pub returns-clause-steady : goal.returns-clause-steady
+returns-clause-steady g c =
+    let one = c.in-Ok.ensures.whole in
+    steady-by-flush one.0 _ _ _ _ c.new-pen.ensures _ _ c.flush.result one.1.1 c.flush.ensures
+
+pub returns-clause-openings_stay : goal.returns-clause-openings_stay
+returns-clause-openings_stay g c =
+    let one = c.in-Ok.ensures.whole in
+    openings-by-flush one.0 _ _ _ _ c.new-pen.ensures _ _ c.flush.result one.1.1 c.flush.ensures

@@ -1,0 +1,33 @@
+-- A new pen holds nothing and is on standard output.
+use Rattle.std.proofs.lemmas.Result.{on_ok_weaker, on_err_weaker}
+use Rattle.hyd_target_commands.proofs.TextsPrinted.{whole-of-flush, front-of-flush, cause-of-flush, steady-by-flush}
+use Rattle.hyd_target_commands.proofs.TextsPrinted.{openings-by-flush, files-by-flush, written-by-flush}
+use Rattle.hyd_target_commands.proofs.printed_demand.print_demand.Goals as goal
+
+pub returns-clause-whole : goal.returns-clause-whole
+returns-clause-whole g c = on_ok_weaker c.flush.result (λ w. w.printed)
+    (whole-of-flush _ _ _ _ _ c.new-pen.ensures _ _ c.flush.result c.in-Ok.ensures c.flush.ensures)
+
+pub returns-clause-front : goal.returns-clause-front
+returns-clause-front g c = on_err_weaker c.flush.result (λ w. w.printed)
+    (front-of-flush _ _ _ _ _ c.new-pen.ensures _ _ c.flush.result c.in-Ok.ensures c.flush.ensures)
+
+pub returns-clause-cause : goal.returns-clause-cause
+returns-clause-cause g c =
+    cause-of-flush _ _ _ _ _ c.new-pen.ensures _ _ c.flush.result c.in-Ok.ensures c.flush.ensures
+
+pub returns-clause-steady : goal.returns-clause-steady
+returns-clause-steady g c =
+    steady-by-flush _ _ _ _ _ c.new-pen.ensures _ _ c.flush.result c.in-Ok.ensures c.flush.ensures
+
+pub returns-clause-files_stay : goal.returns-clause-files_stay
+returns-clause-files_stay g c =
+    files-by-flush _ _ _ _ _ c.new-pen.ensures _ _ c.flush.result c.in-Ok.ensures c.flush.ensures
+
+pub returns-clause-written_stays : goal.returns-clause-written_stays
+returns-clause-written_stays g c =
+    written-by-flush _ _ _ _ _ c.new-pen.ensures _ _ c.flush.result c.in-Ok.ensures c.flush.ensures
+
+pub returns-clause-openings_stay : goal.returns-clause-openings_stay
+returns-clause-openings_stay g c =
+    openings-by-flush _ _ _ _ _ c.new-pen.ensures _ _ c.flush.result c.in-Ok.ensures c.flush.ensures

@@ -1,0 +1,13 @@
+//! The commands `fire` and `closures`: how much may be drawn at a junction with a target pressure there, and which
+//! junctions keep that pressure while each pipe is shut alone.
+//!
+//! Tested by the commands of `hyd_stored_runs`.
+#![tactic(auto)]
+
+mod command_closures;
+mod command_fire;
+mod junction_names;
+mod printed_demand;
+
+pub use command_closures::close_pipes;
+pub use command_fire::find_bracket;
