@@ -4,13 +4,14 @@ ghost use Rattle.std.specs.Prelude.{◌≡◌, ◌≢◌, Some, None, IfOk, IsOk
 ghost use Rattle.hyd_command_words.specs.CommandGrammar.{Order, RunOrder, GenOrder, TwoFiles, order_of, run, check};
 ghost use Rattle.hyd_command_words.specs.CommandGrammar.{gen};
 ghost use Rattle.hyd_cli.specs.WordsAndUsageLine.{words_behind_name};
-ghost use Rattle.hyd_cli.specs.DeskContents.{seen};
-ghost use Rattle.hyd_cli.specs.Answers.{MayUse, HasCause, Leaves, AnswersUsage};
+ghost use Rattle.hyd_command_answers.specs.DeskContents.{seen};
+ghost use Rattle.hyd_cli.specs.Answers.{MayUse, Leaves, AnswersUsage};
+ghost use Rattle.hyd_command_answers.specs.FaultsAndRefusals.{HasCause};
 ghost use Rattle.hyd_cli.specs.Commands.{DoesRun, DoesCheck, DoesGen};
-ghost use Rattle.hyd_cli.specs.declared.status.Status.TheVariants.{Usage};
+ghost use Rattle.hyd_command_answers.specs.declared.status.Status.TheVariants.{Usage};
 
+use hyd_command_answers::Status;
 use crate::standard_error::say_why;
-use crate::status::Status;
 use crate::whole_command::tool;
 use hyd_io::{Desk, FileDesk};
 use std::alloc::{AllocError, Global};
