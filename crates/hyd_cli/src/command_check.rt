@@ -16,10 +16,10 @@ ghost use Rattle.hyd_cli.specs.CheckAnswers.{AnswersCert, AnswersCheck, ReadsCer
 ghost use Rattle.hyd_cli.specs.CheckAnswers.{status_of_break};
 ghost use Rattle.hyd_command_answers.specs.declared.status.Status.TheVariants.{Usage, InputRefused};
 
-use hyd_command_answers::{Status, Unread, fault_status, read_network, refuse_text};
 use crate::task_with_network::{Task, do_with_network};
 use hyd_cert::{CertReader, Record, version_of};
 use hyd_cert_check::{CheckEnd, CheckFault, check};
+use hyd_command_answers::{Status, Unread, fault_status, read_network, refuse_text};
 use hyd_io::{Channel, Desk, Pen};
 use hyd_net::Project;
 use hyd_sim::Sim;

@@ -22,9 +22,9 @@ ghost use Rattle.hyd_cli.specs.GenAnswers.{KeepsCert, KeepsNet};
 ghost use Rattle.hyd_command_answers.specs.Statuses.{status_of_outcome};
 ghost use Rattle.hyd_command_answers.specs.declared.status.Status.TheVariants.{Usage};
 
-use hyd_command_answers::{Status, Unread, fault_status, network_of, refuse_text};
 use crate::command_run::status_of_end;
 use crate::task_with_network::{Task, do_with_network};
+use hyd_command_answers::{Status, Unread, fault_status, network_of, refuse_text};
 use hyd_command_words::{Files, GenWords};
 use hyd_finders::{Finder, Gradient};
 use hyd_gen::generate;

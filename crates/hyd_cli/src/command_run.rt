@@ -15,8 +15,8 @@ ghost use Rattle.hyd_cli.specs.RunAnswers.{AnswersRun, Holds, AnswersText};
 ghost use Rattle.hyd_command_answers.specs.Statuses.{status_of_outcome};
 ghost use Rattle.hyd_command_answers.specs.declared.status.Status.TheVariants.{Usage};
 
-use hyd_command_answers::{Status, Unread, fault_status, read_network, refuse_text};
 use crate::task_with_network::{Task, do_with_network};
+use hyd_command_answers::{Status, Unread, fault_status, read_network, refuse_text};
 use hyd_finders::{Finder, Gradient};
 use hyd_io::{Channel, Desk, Pen};
 use hyd_run::{RunEnd, run};

@@ -10,9 +10,9 @@ ghost use Rattle.hyd_command_answers.specs.FaultsAndRefusals.{HasCause};
 ghost use Rattle.hyd_cli.specs.Commands.{DoesRun, DoesCheck, DoesGen};
 ghost use Rattle.hyd_command_answers.specs.declared.status.Status.TheVariants.{Usage};
 
-use hyd_command_answers::Status;
 use crate::standard_error::say_why;
 use crate::whole_command::tool;
+use hyd_command_answers::Status;
 use hyd_io::{Desk, FileDesk};
 use std::alloc::{AllocError, Global};
 use std::env::Args;

@@ -8,10 +8,10 @@ ghost use Rattle.hyd_command_answers.specs.DeskContents.{seen};
 ghost use Rattle.hyd_command_answers.specs.FaultsAndRefusals.{HasCause};
 ghost use Rattle.hyd_cli.specs.TaskWithNetwork.{MayDo, settings_for, DoesTask};
 
-use hyd_command_answers::Status;
 use crate::command_check::check_by_run;
 use crate::command_gen::write_and_run;
 use crate::command_run::run_by_gradient;
+use hyd_command_answers::Status;
 use hyd_command_words::{DEFAULT_ROUNDS, DEFAULT_WIDTH, Files};
 use hyd_io::Desk;
 use hyd_net::Project;

@@ -11,12 +11,12 @@ ghost use Rattle.hyd_cli.specs.Answers.{AnswersUsage};
 ghost use Rattle.hyd_cli.specs.Commands.{DoesRun, DoesCheck, DoesGen};
 ghost use Rattle.hyd_command_answers.specs.declared.status.Status.TheVariants.{Usage};
 
-use crate::usage::print_usage;
-use hyd_command_answers::{Status, fault_status};
 use crate::command_check::check_files;
 use crate::command_gen::generate_network;
 use crate::command_run::run_files;
 use crate::run_settings::settings_of;
+use crate::usage::print_usage;
+use hyd_command_answers::{Status, fault_status};
 use hyd_command_words::{Command, read_words};
 use hyd_io::Desk;
 use std::alloc::Global;

@@ -15,6 +15,7 @@ use Rattle.hyd_command_answers.specs.declared.status.Status.{Status}
 use Rattle.hyd_command_answers.specs.declared.status.Status.TheVariants.{OutOfMemory, ReadFault, WriteFault}
 use Rattle.hyd_command_answers.specs.declared.status.Status.TheVariants.{InputRefused, Stalled}
 use Rattle.hyd_command_answers.specs.DeskContents.{Seen, IsUntouched, OnlyPrinted, OnlyPrintedFront}
+
 -- ---- faults
 
 -- A fault comes only where one call failed or stalled: its count is one more (or stands at its last value), the read

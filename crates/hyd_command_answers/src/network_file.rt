@@ -69,11 +69,7 @@ pub fn network_of(alloc: Global, text: &[u8]) -> Result<Project, Unread>
 }
 
 /// Opens and reads the whole of NET: its network, or why there is none.
-pub fn read_network<D: Desk>(
-    alloc: Global,
-    net: &str,
-    desk: &mut D,
-) -> Result<Project, Unread>
+pub fn read_network<D: Desk>(alloc: Global, net: &str, desk: &mut D) -> Result<Project, Unread>
     requires { IsTrue (D.may_open net.now) }
     ensures no_fault { (text : List ℕ) → IsTold (D.files desk.old) net.now text
         → IfOk result (λ _. HasNoFault text) }
