@@ -6,3 +6,4 @@ pub mod WalkEnds
 pub mod WalkGivesCommands
 pub mod WalkSteps
 pub mod WidthLemmas
+pub mod PressureLemmas

@@ -1,5 +1,5 @@
 -- clap's walk over words gives the commands of what they say.
-use Rattle.std.proofs.Common.{◌≡◌, ◌⊎◌, ◌∙◌, ◌==◌, not, ◌&&◌, ◌||◌, Bool, true, false, cond, List, [], ◌∷◌, ◌++◌}
+use Rattle.std.proofs.Common.{◌≡◌, ◌⊎◌, ◌∙◌, ℕ, ◌==◌, not, ◌&&◌, ◌||◌, Bool, true, false, cond, List, [], ◌∷◌, ◌++◌}
 use Rattle.std.proofs.Common.{length, Option, Some, None, IsUtf8, arith, refl, sym, ap, subst, inl, inr, codes}
 use Rattle.std.proofs.Common.{bytes_eq, option_map, option_and_then, ne_eqb}
 use Rattle.clap.specs.Kinds.{Kinds, or_else}
@@ -14,7 +14,8 @@ use Rattle.hyd_command_words.specs.OptionsAndNames.{kind_of, parts_from, parts_w
 use Rattle.hyd_command_words.specs.CommandGrammar.{RunOrder, has_names_alone, is_sound, number_within, width_in_ticks}
 use Rattle.hyd_command_words.specs.CommandGrammar.{once, default_rounds, default_width}
 use Rattle.hyd_command_words.specs.CommandGrammar.{rounds_of}
-use Rattle.hyd_command_words.specs.CommandGrammar.{width_of, run, run_command, check_command, gen_command}
+use Rattle.hyd_command_words.specs.CommandGrammar.{width_of, run, run_command, fire_command, closures_command}
+use Rattle.hyd_command_words.specs.CommandGrammar.{has_rounds_at_most}
 use Rattle.hyd_command_words.proofs.SaidLemmas.{joined}
 use Rattle.hyd_command_words.proofs.MatchRowLemmas.{rules, used_by, sweeps_used, width_used, name_used, tight_used}
 use Rattle.hyd_command_words.proofs.KindsOfWords.{Lexed, closing, plain, short, long, IsPlain, IsLong, and_false}
@@ -27,6 +28,7 @@ use Rattle.hyd_command_words.proofs.WalkSteps.{name_step, name_fault, turn_from,
 use Rattle.hyd_command_words.proofs.WalkSteps.{short_fails}
 use Rattle.hyd_command_words.proofs.WalkSteps.{long_fault_is, long_met_is, closing_turn, closing_step, first_faults}
 use Rattle.hyd_command_words.proofs.WalkEnds.{Comes, IsNeverOrder, IsNoOrder, ends_faulty, ends_whole, go_on, join_part}
+use Rattle.hyd_command_words.proofs.WalkEnds.{fits_none}
 use Rattle.hyd_command_words.proofs.WalkEnds.{next_part, seen, trails, trails_faulty, wrong_here, wrong_word}
 
 -- ---- an option whose value is the next word
@@ -169,14 +171,15 @@ no_run_within false o x f e = refl
 no_run_within true None x f e = refl
 no_run_within {X = X} true (Some y) x f e = ap (λ (p : Option X). option_map run (option_and_then (f y) p)) e
 
-pub no_order_by : (s : Said) → run_command s ≡ None → has_names_alone s ≡ false → IsNoOrder s
-no_order_by s e h word = go (bytes_eq word (codes "run")) (bytes_eq word (codes "check")) (bytes_eq word (codes "gen"))
-  where
-    go : (a b c : Bool) → cond a (run_command s) (cond b (check_command s) (cond c (gen_command s) None)) ≡ None
-    go true b c = e
-    go false true c = rw h refl
-    go false false true = rw h refl
-    go false false false = refl
+-- neither what a wrong value is for, nor where no value is taken
+pub no_order_by : (s : Said) → run_command s ≡ None → has_names_alone s ≡ false → fire_command s ≡ None
+    → closures_command s ≡ None → IsNoOrder s
+no_order_by s e h fire closures = fits_none s e (rw h refl) (rw h refl) fire closures
+
+pub no_rounds : {X : Type 0} (b : Bool) (o : Option ℕ) (f : ℕ → Option X) → o ≡ None
+    → cond b (option_and_then f o) None ≡ None
+no_rounds {X = X} true o f e = ap (λ (p : Option ℕ). option_and_then f p) e
+no_rounds false o f e = refl
 
 pub dash_never : (o : Valued) (s : Said) → IsNeverOrder (joined s (said_by (make_of o dash ∷ [])))
 dash_never of_sweeps s more =
@@ -186,13 +189,18 @@ dash_never of_sweeps s more =
     no_order_by all (no_run (is_sound all) (rounds_of all.sweeps_values) _ none)
     (and_false (not all.has_wrong) _ (and_false (all.tight_count == 0) _
     (ap (λ (b : Bool). b && (length all.width_values == 0)) (stands s.sweeps_values more.sweeps_values dash))))
+    (no_rounds (has_rounds_at_most all) (rounds_of all.sweeps_values) _ none)
+    (no_rounds (has_rounds_at_most all) (rounds_of all.sweeps_values) _ none)
 dash_never of_width s more =
     let all = joined (joined s (said_by (width dash ∷ []))) more in
     let none : width_of all.width_values ≡ None =
     once_never default_width width_in_ticks dash s.width_values more.width_values dash_no_width in
+    let stays = stands s.width_values more.width_values dash in
+    let more_options : has_rounds_at_most all ≡ false =
+    and_false (not all.has_wrong) _ (and_false (all.tight_count == 0) _ stays) in
     no_order_by all (no_run_within (is_sound all) (rounds_of all.sweeps_values) (width_of all.width_values) _ none)
     (and_false (not all.has_wrong) _ (and_false (all.tight_count == 0) _
-    (and_false (length all.sweeps_values == 0) _ (stands s.width_values more.width_values dash))))
+    (and_false (length all.sweeps_values == 0) _ stays))) (rw more_options refl) (rw more_options refl)
 
 pub same_orders : (w : Walk) (words : List Word) (a b : Said) → IsNoOrder a → IsNoOrder b → Comes w words a
     → Comes w words b

@@ -1,5 +1,6 @@
 -- The commands, and which words are one: the name of a command, then its options and names.
 use Rattle.std.specs.Prelude.{ℕ, ◌-◌, ◌^◌, nat_le, ◌==◌, Bool, not, ◌&&◌, List, [], ◌∷◌, length, Option, Some, None}
+use Rattle.std.specs.Prelude.{unsigned_abs}
 use Rattle.std.specs.Prelude.{option_map, option_and_then, bytes_eq, codes, if◌then◌else◌, ℤ, pos, ◌*ℤ◌, int_lt, int_le}
 use Rattle.std.specs.List.{list_all}
 use Rattle.hyd_num.specs.Numeral.{is_digit, is_numeral, nano_of, number}
@@ -23,11 +24,27 @@ pub record GenOrder : Type 0 where
   pub junctions : ℕ
   pub files : TwoFiles
 
+-- `fire`: its file, the junction's name, the target pressure in billionths of the file's pressure unit, and the greatest
+-- number of rounds
+pub record FireOrder : Type 0 where
+  pub net : Word
+  pub junction : Word
+  pub pressure : ℤ
+  pub rounds : ℕ
+
+-- `closures`: its file, the target pressure in billionths of the file's pressure unit, and the greatest number of rounds
+pub record ClosuresOrder : Type 0 where
+  pub net : Word
+  pub pressure : ℤ
+  pub rounds : ℕ
+
 -- a command with its options and names
 pub data Order : Type 0 where
   run : RunOrder → Order
   check : TwoFiles → Order
   gen : GenOrder → Order
+  fire : FireOrder → Order
+  closures : ClosuresOrder → Order
 
 -- ---- numbers
 
@@ -77,6 +94,11 @@ seed_of word = number_within 10 0 (2 ^ 31 - 1) word
 abbrev pub junctions_of : Word → Option ℕ
 junctions_of word = number_within 5 1 10000 word
 
+-- P: a number of at most 10^4 in magnitude, in billionths; what stands behind its ninth decimal is cut off first.
+abbrev pub pressure_of : Word → Option ℤ
+pressure_of word =
+    if is_numeral word && nat_le (unsigned_abs (nano_of word)) (10 ^ 13) then Some (nano_of word) else None
+
 -- ---- names
 
 -- NET and CERT, which differ
@@ -99,6 +121,18 @@ abbrev pub gen_order : List Word → Option GenOrder
 gen_order (seed ∷ junctions ∷ net ∷ cert ∷ []) = gen_of seed junctions net cert
 gen_order names = None
 
+-- NET, J and P and no more; J may be any word.
+abbrev pub fire_order : ℕ → List Word → Option FireOrder
+fire_order rounds (net ∷ junction ∷ pressure ∷ []) =
+    option_map (λ p. record { net = net; junction = junction; pressure = p; rounds = rounds }) (pressure_of pressure)
+fire_order rounds names = None
+
+-- NET and P and no more
+abbrev pub closures_order : ℕ → List Word → Option ClosuresOrder
+closures_order rounds (net ∷ pressure ∷ []) =
+    option_map (λ p. record { net = net; pressure = p; rounds = rounds }) (pressure_of pressure)
+closures_order rounds names = None
+
 -- ---- commands
 
 -- nothing is wrong, and `--tight` stands once at most
@@ -109,6 +143,10 @@ is_sound s = not s.has_wrong && nat_le s.tight_count 1
 abbrev pub has_names_alone : Said → Bool
 has_names_alone s =
     not s.has_wrong && (s.tight_count == 0 && (length s.sweeps_values == 0 && length s.width_values == 0))
+
+-- nothing is wrong, and no option but `--sweeps` stands
+abbrev pub has_rounds_at_most : Said → Bool
+has_rounds_at_most s = not s.has_wrong && (s.tight_count == 0 && length s.width_values == 0)
 
 -- `run NET CERT`, with `--sweeps N`, `--width W` and `--tight` once each at most
 abbrev pub run_order : Said → Option RunOrder
@@ -133,13 +171,29 @@ check_command s = if has_names_alone s then option_map check (two_files s.names)
 abbrev pub gen_command : Said → Option Order
 gen_command s = if has_names_alone s then option_map gen (gen_order s.names) else None
 
+-- `fire NET J P`, with `--sweeps N` once at most
+abbrev pub fire_command : Said → Option Order
+fire_command s =
+    if has_rounds_at_most s
+    then option_and_then (λ n. option_map fire (fire_order n s.names)) (rounds_of s.sweeps_values)
+    else None
+
+-- `closures NET P`, with `--sweeps N` once at most
+abbrev pub closures_command : Said → Option Order
+closures_command s =
+    if has_rounds_at_most s
+    then option_and_then (λ n. option_map closures (closures_order n s.names)) (rounds_of s.sweeps_values)
+    else None
+
 -- the command of this name, if what is said behind it fits
 abbrev pub order_named : Word → Said → Option Order
 order_named word s =
     if bytes_eq word (codes "run") then run_command s
     else (if bytes_eq word (codes "check") then check_command s
     else (if bytes_eq word (codes "gen") then gen_command s
-    else None))
+    else (if bytes_eq word (codes "fire") then fire_command s
+    else (if bytes_eq word (codes "closures") then closures_command s
+    else None))))
 
 -- the command of the words, if they are one
 abbrev pub order_of : List Word → Option Order

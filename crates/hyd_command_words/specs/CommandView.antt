@@ -4,11 +4,14 @@ use Rattle.std.specs.Borrow.{Bor}
 use Rattle.hyd_command_words.specs.OptionsAndNames.{Word, Said}
 use Rattle.hyd_command_words.specs.declared.said_words.Said.{Said as Read}
 use Rattle.hyd_command_words.specs.CommandGrammar.{Order, RunOrder, GenOrder, TwoFiles, run, check, gen}
+use Rattle.hyd_command_words.specs.CommandGrammar.{FireOrder, ClosuresOrder, fire, closures}
 use Rattle.hyd_command_words.specs.declared.command.Command.{Command}
 use Rattle.hyd_command_words.specs.declared.command.Command.TheVariants as command
 use Rattle.hyd_command_words.specs.declared.command.Files.{Files}
 use Rattle.hyd_command_words.specs.declared.command.RunWords.{RunWords}
 use Rattle.hyd_command_words.specs.declared.command.GenWords.{GenWords}
+use Rattle.hyd_command_words.specs.declared.command.FireWords.{FireWords}
+use Rattle.hyd_command_words.specs.declared.command.ClosuresWords.{ClosuresWords}
 
 abbrev pub files_seen : Files → TwoFiles
 files_seen f = record { net = f.net.now; cert = f.cert.now }
@@ -19,11 +22,20 @@ run_seen r = record { files = files_seen r.files; rounds = r.rounds; width = r.w
 abbrev pub gen_seen : GenWords → GenOrder
 gen_seen g = record { seed = g.seed; junctions = g.junctions; files = files_seen g.files }
 
+abbrev pub fire_seen : FireWords → FireOrder
+fire_seen f =
+    record { net = f.net.now; junction = f.junction.now; pressure = f.pressure.nano; rounds = f.rounds }
+
+abbrev pub closures_seen : ClosuresWords → ClosuresOrder
+closures_seen c = record { net = c.net.now; pressure = c.pressure.nano; rounds = c.rounds }
+
 -- a command with its options and names
 abbrev pub order_seen : Command → Order
 order_seen (command.Run r) = run (run_seen r)
 order_seen (command.Check f) = check (files_seen f)
 order_seen (command.Gen g) = gen (gen_seen g)
+order_seen (command.Fire f) = fire (fire_seen f)
+order_seen (command.Closures c) = closures (closures_seen c)
 
 -- the words behind references
 abbrev pub texts_seen : List (Bor Word) → List Word

@@ -1,5 +1,9 @@
 //! The commands, as their words give them.
 
+ghost use Rattle.std.specs.Prelude.{◌≤◌, ◌^◌, unsigned_abs};
+
+use hyd_num::Decimal;
+
 /// The two files of a command. Their names differ.
 #[derive(Clone, Copy)]
 pub struct Files<'a> {
@@ -33,6 +37,32 @@ pub struct GenWords<'a> {
     pub files: Files<'a>,
 }
 
+/// What `fire NET J P [--sweeps N]` asks for.
+#[derive(Clone, Copy)]
+pub struct FireWords<'a> {
+    /// NET: the network's input file, which is read.
+    pub net: &'a str,
+    /// J: the name of a junction, which may be any text.
+    pub junction: &'a str,
+    /// P: the target pressure in the file's pressure unit, at most 10^4 in magnitude.
+    pub pressure: Decimal,
+    /// N: at most how many rounds a vector may take, from 0 to 100,000; 200 where it isn't given.
+    pub rounds: u32,
+    pub ghost small: { unsigned_abs pressure.nano ≤ 10 ^ 13 },
+}
+
+/// What `closures NET P [--sweeps N]` asks for.
+#[derive(Clone, Copy)]
+pub struct ClosuresWords<'a> {
+    /// NET: the network's input file, which is read.
+    pub net: &'a str,
+    /// P: the target pressure in the file's pressure unit, at most 10^4 in magnitude.
+    pub pressure: Decimal,
+    /// N: at most how many rounds a vector may take, from 0 to 100,000; 200 where it isn't given.
+    pub rounds: u32,
+    pub ghost small: { unsigned_abs pressure.nano ≤ 10 ^ 13 },
+}
+
 /// A command of the program.
 #[derive(Clone, Copy)]
 pub enum Command<'a> {
@@ -42,4 +72,8 @@ pub enum Command<'a> {
     Check(Files<'a>),
     /// `gen SEED JUNCTIONS NET CERT`.
     Gen(GenWords<'a>),
+    /// `fire NET J P [--sweeps N]`.
+    Fire(FireWords<'a>),
+    /// `closures NET P [--sweeps N]`.
+    Closures(ClosuresWords<'a>),
 }

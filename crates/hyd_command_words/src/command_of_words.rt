@@ -16,7 +16,8 @@ use std::alloc::{AllocError, Global};
 /// The first word is the command's, in lower case. Of the others, from left to right, `--sweeps` and
 /// `--width` take the next word as value, which doesn't begin with `-`, or have it behind `=` in the
 /// same word. Behind a word `--` every word stands by its position, and before it each word that
-/// doesn't begin with `-` or is `-` alone. Each option stands once at most, and for `run` alone.
+/// doesn't begin with `-` or is `-` alone. Each option stands once at most: `--sweeps` for `run`, `fire` and
+/// `closures`, the others for `run` alone.
 ///
 /// The error: memory ran out.
 pub fn read_words(alloc: Global, words: &[String]) -> Result<Option<Command<'_>>, AllocError>

@@ -1,5 +1,5 @@
-//! The words of the command line of `hyd`: `run NET CERT`, `check NET CERT` and
-//! `gen SEED JUNCTIONS NET CERT`, with their options.
+//! The words of the command line of `hyd`: `run NET CERT`, `check NET CERT`, `gen SEED JUNCTIONS NET CERT`,
+//! `fire NET J P` and `closures NET P`, with their options.
 //!
 //! Tested by the words of `hyd_stored_runs`.
 #![tactic(auto)]
@@ -7,10 +7,11 @@
 mod clap_parser;
 mod command;
 mod command_of_words;
+mod commands_on_targets;
 mod named_commands;
 mod numbers;
 mod said_words;
 
-pub use command::{Command, Files, GenWords, RunWords};
+pub use command::{ClosuresWords, Command, Files, FireWords, GenWords, RunWords};
 pub use command_of_words::read_words;
 pub use numbers::{DEFAULT_ROUNDS, DEFAULT_WIDTH};

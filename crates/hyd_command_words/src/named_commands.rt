@@ -6,6 +6,7 @@ ghost use Rattle.hyd_command_words.specs.CommandView.{said_seen, texts_seen, ord
 ghost use Rattle.hyd_command_words.specs.CommandView.{files_seen};
 
 use crate::command::{Command, Files, GenWords, RunWords};
+use crate::commands_on_targets::{closures_command, fire_command};
 use crate::numbers::{number_within, rounds_of, width_of};
 use crate::said_words::Said;
 
@@ -21,6 +22,12 @@ pub(crate) fn order_named<'a>(name: &str, said: Said<'_, 'a>) -> Option<Command<
     }
     if name == "gen" {
         return gen_command(said);
+    }
+    if name == "fire" {
+        return fire_command(said);
+    }
+    if name == "closures" {
+        return closures_command(said);
     }
     None
 }

@@ -1,17 +1,20 @@
 //! The numbers among the words.
 
-ghost use Rattle.std.specs.Prelude.{◌≡◌, ◌<◌, ◌^◌, ◌*◌, ◌+◌, ◌-◌, min, fold};
+ghost use Rattle.std.specs.Prelude.{◌≡◌, ◌<◌, ◌≤◌, ◌^◌, ◌*◌, ◌+◌, ◌-◌, min, fold, option_map, unsigned_abs, IfSome};
 ghost use Rattle.hyd_num.specs.Numeral.{number};
 ghost use Rattle.hyd_command_words.specs.CommandGrammar as orders;
 ghost use Rattle.hyd_command_words.specs.CommandView.{texts_seen};
 
-use hyd_num::{HEAD_TICKS_IN_BILLIONTH_OF_METRE, NumFault, all_digits, read_decimal};
+use hyd_num::{Decimal, HEAD_TICKS_IN_BILLIONTH_OF_METRE, NumFault, all_digits, read_decimal};
 
 // More than ten digits write.
 const BEYOND: u64 = 10_000_000_000;
 
 // 1,000 m in billionths.
 const GREATEST_WIDTH: i128 = 1_000_000_000_000;
+
+// 10^4 of the file's pressure unit in billionths.
+const GREATEST_PRESSURE: u128 = 10_000_000_000_000;
 
 // Head ticks in a billionth of a metre.
 const TICKS: i128 = HEAD_TICKS_IN_BILLIONTH_OF_METRE as i128;
@@ -57,6 +60,22 @@ fn width_in_ticks(text: &[u8]) -> Option<i64>
         return None;
     }
     Some((metres.nano * TICKS) as i64)
+}
+
+/// P, a number of at most 10^4 in magnitude.
+pub(crate) fn pressure_of(text: &[u8]) -> Option<Decimal>
+    ensures pressure { option_map (λ pressure. pressure.nano) result ≡ orders.pressure_of text.now }
+    ensures small { IfSome result (λ pressure. unsigned_abs pressure.nano ≤ 10 ^ 13) }
+{
+    let pressure = match read_decimal(text) {
+        Ok(pressure) => pressure,
+        Err(NumFault::NotANumber) => return None,
+        Err(NumFault::TooLarge) => return None,
+    };
+    if pressure.nano.unsigned_abs() > GREATEST_PRESSURE {
+        return None;
+    }
+    Some(pressure)
 }
 
 /// A number of at most this many digits, from the least to the greatest.

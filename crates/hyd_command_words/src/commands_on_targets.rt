@@ -1,0 +1,87 @@
+//! The commands on a target pressure.
+
+ghost use Rattle.std.specs.Prelude.{◌≡◌, ◌∷◌, [], option_map, not, ◌==◌, ◌||◌};
+ghost use Rattle.hyd_command_words.specs.CommandGrammar as orders;
+ghost use Rattle.hyd_command_words.specs.CommandView.{said_seen, texts_seen, order_seen, fire_seen, closures_seen};
+
+use crate::command::{ClosuresWords, Command, FireWords};
+use crate::numbers::{pressure_of, rounds_of};
+use crate::said_words::Said;
+
+/// `fire` with what is said behind it, if that fits.
+pub(crate) fn fire_command<'a>(said: Said<'_, 'a>) -> Option<Command<'a>>
+    ensures { option_map order_seen result ≡ orders.fire_command (said_seen said.entry) }
+{
+    if has_more_than_rounds(said) {
+        return None;
+    }
+    let rounds = rounds_of(said.sweeps_values)?;
+    let order = fire_words(rounds, said.names)?;
+    Some(Command::Fire(order))
+}
+
+/// `closures` with what is said behind it, if that fits.
+pub(crate) fn closures_command<'a>(said: Said<'_, 'a>) -> Option<Command<'a>>
+    ensures { option_map order_seen result ≡ orders.closures_command (said_seen said.entry) }
+{
+    if has_more_than_rounds(said) {
+        return None;
+    }
+    let rounds = rounds_of(said.sweeps_values)?;
+    let order = closures_words(rounds, said.names)?;
+    Some(Command::Closures(order))
+}
+
+// Whether an option besides `--sweeps` stands.
+fn has_more_than_rounds(said: Said<'_, '_>) -> bool
+    ensures { result ≡ not (orders.has_rounds_at_most (said_seen said.entry)) }
+{
+    said.tight_count > 0 || said.width_values.len() > 0
+}
+
+fn fire_words<'a>(rounds: u32, names: &[&'a str]) -> Option<FireWords<'a>>
+    ensures { option_map fire_seen result ≡ orders.fire_order rounds (texts_seen names.now) }
+{
+    match names {
+        [net, junction, pressure] => fire_of(rounds, net, junction, pressure),
+        _ => None,
+    }
+}
+
+fn fire_of<'a>(
+    rounds: u32,
+    net: &'a str,
+    junction: &'a str,
+    pressure: &str,
+) -> Option<FireWords<'a>>
+    ensures { option_map fire_seen result
+        ≡ orders.fire_order rounds (net.now ∷ junction.now ∷ pressure.now ∷ []) }
+{
+    let pressure = pressure_of(pressure.as_bytes())?;
+    Some(FireWords {
+        net,
+        junction,
+        pressure,
+        rounds,
+    })
+}
+
+fn closures_words<'a>(rounds: u32, names: &[&'a str]) -> Option<ClosuresWords<'a>>
+    ensures { option_map closures_seen result ≡ orders.closures_order rounds (texts_seen names.now) }
+{
+    match names {
+        [net, pressure] => closures_of(rounds, net, pressure),
+        _ => None,
+    }
+}
+
+fn closures_of<'a>(rounds: u32, net: &'a str, pressure: &str) -> Option<ClosuresWords<'a>>
+    ensures { option_map closures_seen result ≡ orders.closures_order rounds (net.now ∷ pressure.now ∷ []) }
+{
+    let pressure = pressure_of(pressure.as_bytes())?;
+    Some(ClosuresWords {
+        net,
+        pressure,
+        rounds,
+    })
+}
