@@ -16,13 +16,13 @@ use hyd_command_answers::Status;
 use hyd_io::{Desk, FileDesk};
 use std::alloc::{AllocError, Global};
 use std::env::Args;
-use std::rt::{Env, Files};
+use std::rt::{Clock, Env, Files};
 use std::{env, io};
 
 /// The whole program on a runtime: makes the desk on its files and its standard output, starts on
 /// its words, and ends with the answer. Where memory ran out or a call on the desk failed, it says so on standard error
 /// before it ends, in one line with the file's name.
-pub fn run_program<R: AllocGlobal + Env + Files + Print + Eprint + Drop>(rt: R) -> Status {
+pub fn run_program<R: AllocGlobal + Env + Files + Print + Eprint + Clock + Drop>(rt: R) -> Status {
     let alloc = rt.alloc();
     let given = env::args(&rt);
     let mut desk = FileDesk::new(alloc, rt);
