@@ -15,7 +15,8 @@ use Rattle.hyd_run.specs.Pens.{Told, told}
 use Rattle.hyd_cert_check.specs.ReaderAndPen.{CheckMoment, moment, new_pen, IsOpen, LeavesFiles, PutIn, IsCutOff, Rose}
 use Rattle.hyd_cert_check.specs.declared.outcome.CheckFault.{CheckFault}
 use Rattle.hyd_cert_check.specs.declared.outcome.CheckFault.TheVariants.{Output}
-use Rattle.hyd_run.proofs.PenLemmas.{on-report, second-out, second-moves}
+use Rattle.hyd_io.proofs.PutLemmas.{on-report}
+use Rattle.hyd_run.proofs.PenLemmas.{second-out, second-moves}
 
 -- ---- what one call puts in
 

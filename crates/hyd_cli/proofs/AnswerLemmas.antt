@@ -19,16 +19,19 @@ use Rattle.hyd_spec_reports.specs.declared.StopCause.TheVariants.{Demand as OutO
 use Rattle.hyd_sim.specs.declared.settings.Settings.{Settings}
 use Rattle.hyd_run.specs.Pens.{Told, OneRose, LeavesRest}
 use Rattle.hyd_run.specs.Runs.{IsPutOut, IsBrokenOff}
-use Rattle.hyd_cli.specs.DeskContents.{Seen, IsUntouched, FilesStay}
-use Rattle.hyd_cli.specs.Answers.{HasCause, status_of_fault}
-use Rattle.hyd_cli.specs.RunAnswers.{Delivered, CutShort, OpensOnce}
-use Rattle.hyd_cli.specs.Answers.{LeavesRun, AnswersRefused}
-use Rattle.hyd_cli.specs.RunAnswers.{OpensCert, Holds, AnswersRun, AnswersText}
-use Rattle.hyd_cli.specs.Statuses.{number_of, status_of_outcome}
-use Rattle.hyd_cli.specs.declared.status.Status.{Status}
-use Rattle.hyd_cli.specs.declared.status.Status.TheVariants.{Done, OutOfMemory, Usage, ReadFault, WriteFault}
-use Rattle.hyd_cli.specs.declared.status.Status.TheVariants.{InputRefused, Undecided, RoundsSpent, Demand}
-use Rattle.hyd_cli.specs.declared.status.Status.TheVariants.{CertificateRefused, Stalled}
+use Rattle.hyd_command_answers.specs.DeskContents.{Seen, IsUntouched, FilesStay}
+use Rattle.hyd_command_answers.specs.FaultsAndRefusals.{HasCause, status_of_fault}
+use Rattle.hyd_cli.specs.RunAnswers.{Delivered, CutShort}
+use Rattle.hyd_command_answers.specs.OpeningsOfRuns.{OpensOnce}
+use Rattle.hyd_cli.specs.Answers.{LeavesRun}
+use Rattle.hyd_command_answers.specs.FaultsAndRefusals.{AnswersRefused}
+use Rattle.hyd_command_answers.specs.OpeningsOfRuns.{OpensCert}
+use Rattle.hyd_cli.specs.RunAnswers.{Holds, AnswersRun, AnswersText}
+use Rattle.hyd_command_answers.specs.Statuses.{number_of, status_of_outcome}
+use Rattle.hyd_command_answers.specs.declared.status.Status.{Status}
+use Rattle.hyd_command_answers.specs.declared.status.Status.TheVariants.{Done, OutOfMemory, Usage, ReadFault, WriteFault}
+use Rattle.hyd_command_answers.specs.declared.status.Status.TheVariants.{InputRefused, Undecided, RoundsSpent, Demand}
+use Rattle.hyd_command_answers.specs.declared.status.Status.TheVariants.{CertificateRefused, Stalled}
 use Rattle.hyd_lemmas.proofs.ListsOptionsAndResults.{same_item}
 
 -- ---- what was untouched is the same

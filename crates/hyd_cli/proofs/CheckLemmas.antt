@@ -20,15 +20,16 @@ use Rattle.hyd_cert_check.specs.declared.outcome.CheckFault.{CheckFault}
 use Rattle.hyd_cert_check.specs.declared.outcome.CheckFault.TheVariants.{Read, Output}
 use Rattle.hyd_theorems_on_checks.proofs.NeverRefused.{never_refused}
 use Rattle.hyd_command_words.specs.CommandGrammar.{TwoFiles, check}
-use Rattle.hyd_cli.specs.DeskContents.{Seen, IsUntouched, OnlyPrinted, OnlyPrintedFront, OnlyPrintedSome}
-use Rattle.hyd_cli.specs.Answers.{HasCause, Leaves}
-use Rattle.hyd_cli.specs.Answers.{AnswersRefused}
+use Rattle.hyd_command_answers.specs.DeskContents.{Seen, IsUntouched, OnlyPrinted, OnlyPrintedFront, OnlyPrintedSome}
+use Rattle.hyd_command_answers.specs.FaultsAndRefusals.{HasCause}
+use Rattle.hyd_cli.specs.Answers.{Leaves}
+use Rattle.hyd_command_answers.specs.FaultsAndRefusals.{AnswersRefused}
 use Rattle.hyd_cli.specs.CheckAnswers.{AnswersCert, AnswersCheck, ReadsCert, ReadsBoth, status_of_check}
 use Rattle.hyd_cli.specs.CheckAnswers.{status_of_break}
-use Rattle.hyd_cli.specs.declared.status.Status.{Status}
-use Rattle.hyd_cli.specs.declared.status.Status.TheVariants.{Done, OutOfMemory, Usage, ReadFault, WriteFault}
-use Rattle.hyd_cli.specs.declared.status.Status.TheVariants.{InputRefused, Undecided, RoundsSpent, Demand}
-use Rattle.hyd_cli.specs.declared.status.Status.TheVariants.{CertificateRefused, Stalled}
+use Rattle.hyd_command_answers.specs.declared.status.Status.{Status}
+use Rattle.hyd_command_answers.specs.declared.status.Status.TheVariants.{Done, OutOfMemory, Usage, ReadFault, WriteFault}
+use Rattle.hyd_command_answers.specs.declared.status.Status.TheVariants.{InputRefused, Undecided, RoundsSpent, Demand}
+use Rattle.hyd_command_answers.specs.declared.status.Status.TheVariants.{CertificateRefused, Stalled}
 use Rattle.hyd_cli.proofs.AnswerLemmas.{since_before}
 
 -- ---- that only something was printed

@@ -20,17 +20,18 @@ use Rattle.hyd_sim.specs.declared.settings.Settings.{Settings}
 use Rattle.hyd_run.specs.Pens.{Told, LeavesRest}
 use Rattle.hyd_summarised_run.specs.SummarisedRuns.{IsSummed, IsSumBrokenOff}
 use Rattle.hyd_command_words.specs.CommandGrammar.{TwoFiles}
-use Rattle.hyd_cli.specs.DeskContents.{Seen, IsUntouched}
-use Rattle.hyd_cli.specs.Answers.{OfNetwork, LeavesRun, AnswersRefused, status_of_fault}
-use Rattle.hyd_cli.specs.RunAnswers.{OpensCert}
+use Rattle.hyd_command_answers.specs.DeskContents.{Seen, IsUntouched}
+use Rattle.hyd_command_answers.specs.FaultsAndRefusals.{OfNetwork, AnswersRefused, status_of_fault}
+use Rattle.hyd_cli.specs.Answers.{LeavesRun}
+use Rattle.hyd_command_answers.specs.OpeningsOfRuns.{OpensCert}
 use Rattle.hyd_cli.specs.GenAnswers.{usual_settings, Generated, TextWritten, TextCutShort, CertStays, GenBreaksOff}
 use Rattle.hyd_cli.specs.GenAnswers.{nothing, in_network, no_certificate, in_run, AnswersGenerated, AnswersGen}
 use Rattle.hyd_cli.specs.GenAnswers.{CreatesBoth}
-use Rattle.hyd_cli.specs.Statuses.{status_of_outcome}
-use Rattle.hyd_cli.specs.declared.status.Status.{Status}
-use Rattle.hyd_cli.specs.declared.status.Status.TheVariants.{Done, OutOfMemory, Usage, ReadFault, WriteFault}
-use Rattle.hyd_cli.specs.declared.status.Status.TheVariants.{InputRefused, Undecided, RoundsSpent, Demand}
-use Rattle.hyd_cli.specs.declared.status.Status.TheVariants.{CertificateRefused, Stalled}
+use Rattle.hyd_command_answers.specs.Statuses.{status_of_outcome}
+use Rattle.hyd_command_answers.specs.declared.status.Status.{Status}
+use Rattle.hyd_command_answers.specs.declared.status.Status.TheVariants.{Done, OutOfMemory, Usage, ReadFault, WriteFault}
+use Rattle.hyd_command_answers.specs.declared.status.Status.TheVariants.{InputRefused, Undecided, RoundsSpent, Demand}
+use Rattle.hyd_command_answers.specs.declared.status.Status.TheVariants.{CertificateRefused, Stalled}
 use Rattle.hyd_cli.proofs.AnswerLemmas.{new_text, new_file, other_target, number_of_end, by_end, printed_since}
 use Rattle.hyd_cli.proofs.AnswerLemmas.{refused_leaves_since, seen_of}
 

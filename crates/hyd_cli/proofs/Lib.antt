@@ -1,6 +1,5 @@
 pub mod AnswerLemmas
 pub mod CheckLemmas
-pub mod PrintLemmas
 pub mod CommandsOfWords
 pub mod GenLemmas
 pub mod TaskWithoutMemory

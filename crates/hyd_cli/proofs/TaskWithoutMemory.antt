@@ -2,9 +2,9 @@
 use Rattle.std.proofs.Common.{Bool, inl, refl}
 use Rattle.hyd_io.specs.declared.desk.Openings.{Openings}
 use Rattle.hyd_spec.specs.ProgramTypes.{Project}
-use Rattle.hyd_cli.specs.DeskContents.{Seen, IsUntouched}
+use Rattle.hyd_command_answers.specs.DeskContents.{Seen, IsUntouched}
 use Rattle.hyd_cli.specs.TaskWithNetwork.{DoesTask}
-use Rattle.hyd_cli.specs.declared.status.Status.TheVariants.{OutOfMemory}
+use Rattle.hyd_command_answers.specs.declared.status.Status.TheVariants.{OutOfMemory}
 use Rattle.hyd_cli.specs.declared.task_with_network.Task.{Task}
 use Rattle.hyd_cli.specs.declared.task_with_network.Task.TheVariants.{Run, Check, Gen}
 use Rattle.hyd_cli.proofs.CheckLemmas.{prints_nothing}

@@ -7,14 +7,15 @@ use Rattle.hyd_io.specs.DeskBytes.{IsTold}
 use Rattle.hyd_net.specs.declared.refusal_cause.Cause.{Cause}
 use Rattle.hyd_spec_input.specs.Faults.{IsFault, HasNoFault}
 use Rattle.hyd_command_words.specs.CommandGrammar.{RunOrder, GenOrder, TwoFiles}
-use Rattle.hyd_cli.specs.DeskContents.{Seen, OnlyPrintedSome, ChangesOnly}
-use Rattle.hyd_cli.specs.Answers.{AnswersRefused}
-use Rattle.hyd_cli.specs.RunAnswers.{OpensOnce, Holds, settings_of}
+use Rattle.hyd_command_answers.specs.DeskContents.{Seen, OnlyPrintedSome, ChangesOnly}
+use Rattle.hyd_command_answers.specs.FaultsAndRefusals.{AnswersRefused}
+use Rattle.hyd_command_answers.specs.OpeningsOfRuns.{OpensOnce}
+use Rattle.hyd_cli.specs.RunAnswers.{Holds, settings_of}
 use Rattle.hyd_cli.specs.RunAnswers.{AnswersText}
 use Rattle.hyd_cli.specs.CheckAnswers.{AnswersCheck, ReadsBoth}
 use Rattle.hyd_cli.specs.GenAnswers.{text_of, AnswersGen, ChangesBoth, CreatesBoth, KeepsCert, KeepsNet}
-use Rattle.hyd_cli.specs.declared.status.Status.{Status}
-use Rattle.hyd_cli.specs.declared.status.Status.TheVariants.{InputRefused}
+use Rattle.hyd_command_answers.specs.declared.status.Status.{Status}
+use Rattle.hyd_command_answers.specs.declared.status.Status.TheVariants.{InputRefused}
 
 -- `run`: a text with a fault is refused with it, and one without is run; CERT holds what was written, also where the
 -- text isn't told; no other file is changed; NET is opened and CERT created once at most.

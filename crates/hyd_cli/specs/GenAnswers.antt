@@ -11,13 +11,13 @@ use Rattle.hyd_spec_summary.specs.Summary.{RunSums, SumsBreakOff}
 use Rattle.hyd_run.specs.Runs.{sharpness_of, EndNames}
 use Rattle.hyd_sim.specs.declared.settings.Settings.{Settings}
 use Rattle.hyd_command_words.specs.CommandGrammar.{GenOrder, TwoFiles, default_rounds, default_width}
-use Rattle.hyd_cli.specs.DeskContents.{Seen, IsUntouched}
-use Rattle.hyd_cli.specs.Answers.{OfNetwork}
-use Rattle.hyd_cli.specs.Statuses.{number_of}
-use Rattle.hyd_cli.specs.declared.status.Status.{Status}
-use Rattle.hyd_cli.specs.declared.status.Status.TheVariants.{Done, OutOfMemory, Usage, ReadFault, WriteFault}
-use Rattle.hyd_cli.specs.declared.status.Status.TheVariants.{InputRefused, Undecided, RoundsSpent, Demand}
-use Rattle.hyd_cli.specs.declared.status.Status.TheVariants.{CertificateRefused, Stalled}
+use Rattle.hyd_command_answers.specs.DeskContents.{Seen, IsUntouched}
+use Rattle.hyd_command_answers.specs.FaultsAndRefusals.{OfNetwork}
+use Rattle.hyd_command_answers.specs.Statuses.{number_of}
+use Rattle.hyd_command_answers.specs.declared.status.Status.{Status}
+use Rattle.hyd_command_answers.specs.declared.status.Status.TheVariants.{Done, OutOfMemory, Usage, ReadFault, WriteFault}
+use Rattle.hyd_command_answers.specs.declared.status.Status.TheVariants.{InputRefused, Undecided, RoundsSpent, Demand}
+use Rattle.hyd_command_answers.specs.declared.status.Status.TheVariants.{CertificateRefused, Stalled}
 
 -- The text of the network that an order asks for.
 abbrev pub text_of : GenOrder → List ℕ

@@ -1,9 +1,6 @@
-pub mod Statuses
 pub mod WordsAndUsageLine
-pub mod DeskContents
 pub mod Answers
 pub mod RunAnswers
-pub mod NetworkOrFault
 pub mod CheckAnswers
 pub mod GenAnswers
 pub mod TaskWithNetwork

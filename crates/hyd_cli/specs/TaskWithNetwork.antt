@@ -8,12 +8,13 @@ use Rattle.hyd_spec.specs.ProgramTypes.{Project}
 use Rattle.hyd_sim.specs.declared.settings.Settings.{Settings}
 use Rattle.hyd_command_words.specs.CommandGrammar.{TwoFiles}
 use Rattle.hyd_command_words.specs.CommandView.{files_seen}
-use Rattle.hyd_cli.specs.DeskContents.{Seen, OnlyPrintedSome, ChangesOnly}
+use Rattle.hyd_command_answers.specs.DeskContents.{Seen, OnlyPrintedSome, ChangesOnly}
 use Rattle.hyd_cli.specs.Answers.{LeavesCheck}
-use Rattle.hyd_cli.specs.RunAnswers.{OpensCert, AnswersRun}
+use Rattle.hyd_command_answers.specs.OpeningsOfRuns.{OpensCert}
+use Rattle.hyd_cli.specs.RunAnswers.{AnswersRun}
 use Rattle.hyd_cli.specs.CheckAnswers.{AnswersCert, ReadsCert}
 use Rattle.hyd_cli.specs.GenAnswers.{usual_settings, AnswersGenerated, ChangesBoth, CreatesBoth, KeepsCert, KeepsNet}
-use Rattle.hyd_cli.specs.declared.status.Status.{Status}
+use Rattle.hyd_command_answers.specs.declared.status.Status.{Status}
 use Rattle.hyd_cli.specs.declared.task_with_network.Task.{Task}
 use Rattle.hyd_cli.specs.declared.task_with_network.Task.TheVariants.{Run, Check, Gen}
 

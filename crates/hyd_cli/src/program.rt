@@ -4,24 +4,25 @@ ghost use Rattle.std.specs.Prelude.{◌≡◌, ◌≢◌, Some, None, IfOk, IsOk
 ghost use Rattle.hyd_command_words.specs.CommandGrammar.{Order, RunOrder, GenOrder, TwoFiles, order_of, run, check};
 ghost use Rattle.hyd_command_words.specs.CommandGrammar.{gen};
 ghost use Rattle.hyd_cli.specs.WordsAndUsageLine.{words_behind_name};
-ghost use Rattle.hyd_cli.specs.DeskContents.{seen};
-ghost use Rattle.hyd_cli.specs.Answers.{MayUse, HasCause, Leaves, AnswersUsage};
+ghost use Rattle.hyd_command_answers.specs.DeskContents.{seen};
+ghost use Rattle.hyd_cli.specs.Answers.{MayUse, Leaves, AnswersUsage};
+ghost use Rattle.hyd_command_answers.specs.FaultsAndRefusals.{HasCause};
 ghost use Rattle.hyd_cli.specs.Commands.{DoesRun, DoesCheck, DoesGen};
-ghost use Rattle.hyd_cli.specs.declared.status.Status.TheVariants.{Usage};
+ghost use Rattle.hyd_command_answers.specs.declared.status.Status.TheVariants.{Usage};
 
 use crate::standard_error::say_why;
-use crate::status::Status;
 use crate::whole_command::tool;
+use hyd_command_answers::Status;
 use hyd_io::{Desk, FileDesk};
 use std::alloc::{AllocError, Global};
 use std::env::Args;
-use std::rt::{Env, Files};
+use std::rt::{Clock, Env, Files};
 use std::{env, io};
 
 /// The whole program on a runtime: makes the desk on its files and its standard output, starts on
 /// its words, and ends with the answer. Where memory ran out or a call on the desk failed, it says so on standard error
 /// before it ends, in one line with the file's name.
-pub fn run_program<R: AllocGlobal + Env + Files + Print + Eprint + Drop>(rt: R) -> Status {
+pub fn run_program<R: AllocGlobal + Env + Files + Print + Eprint + Clock + Drop>(rt: R) -> Status {
     let alloc = rt.alloc();
     let given = env::args(&rt);
     let mut desk = FileDesk::new(alloc, rt);

@@ -1,6 +1,6 @@
 //! What is said on standard error. It is made with standard error alone at hand, so that it can touch no file.
 
-use crate::status::Status;
+use hyd_command_answers::Status;
 use hyd_io::Failure;
 
 /// Says in one line why a command on real files ended by want of memory or by a call that failed or took nothing: the

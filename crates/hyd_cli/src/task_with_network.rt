@@ -4,14 +4,14 @@ ghost use Rattle.std.specs.Prelude.{◌≡◌, None};
 ghost use Rattle.hyd_net.specs.Sound.{IsSound};
 ghost use Rattle.hyd_spec_certificates.specs.RecordAndStanding.{initial_standing};
 ghost use Rattle.hyd_sim.specs.RunView.{standing_of};
-ghost use Rattle.hyd_cli.specs.DeskContents.{seen};
-ghost use Rattle.hyd_cli.specs.Answers.{HasCause};
+ghost use Rattle.hyd_command_answers.specs.DeskContents.{seen};
+ghost use Rattle.hyd_command_answers.specs.FaultsAndRefusals.{HasCause};
 ghost use Rattle.hyd_cli.specs.TaskWithNetwork.{MayDo, settings_for, DoesTask};
 
 use crate::command_check::check_by_run;
 use crate::command_gen::write_and_run;
 use crate::command_run::run_by_gradient;
-use crate::status::Status;
+use hyd_command_answers::Status;
 use hyd_command_words::{DEFAULT_ROUNDS, DEFAULT_WIDTH, Files};
 use hyd_io::Desk;
 use hyd_net::Project;

@@ -4,18 +4,19 @@ ghost use Rattle.std.specs.Prelude.{◌≡◌, ◌≢◌, Option, Some, None, ma
 ghost use Rattle.hyd_command_words.specs.CommandGrammar.{Order, RunOrder, GenOrder, TwoFiles, order_of, run, check};
 ghost use Rattle.hyd_command_words.specs.CommandGrammar.{gen};
 ghost use Rattle.hyd_command_words.specs.CommandView.{order_seen};
-ghost use Rattle.hyd_cli.specs.DeskContents.{seen};
-ghost use Rattle.hyd_cli.specs.Answers.{MayUse, HasCause, Leaves};
+ghost use Rattle.hyd_command_answers.specs.DeskContents.{seen};
+ghost use Rattle.hyd_cli.specs.Answers.{MayUse, Leaves};
+ghost use Rattle.hyd_command_answers.specs.FaultsAndRefusals.{HasCause};
 ghost use Rattle.hyd_cli.specs.Answers.{AnswersUsage};
 ghost use Rattle.hyd_cli.specs.Commands.{DoesRun, DoesCheck, DoesGen};
-ghost use Rattle.hyd_cli.specs.declared.status.Status.TheVariants.{Usage};
+ghost use Rattle.hyd_command_answers.specs.declared.status.Status.TheVariants.{Usage};
 
 use crate::command_check::check_files;
 use crate::command_gen::generate_network;
 use crate::command_run::run_files;
 use crate::run_settings::settings_of;
-use crate::status::{Status, fault_status};
-use crate::usage_and_refusal::print_usage;
+use crate::usage::print_usage;
+use hyd_command_answers::{Status, fault_status};
 use hyd_command_words::{Command, read_words};
 use hyd_io::Desk;
 use std::alloc::Global;

@@ -6,13 +6,18 @@ use Rattle.hyd_io.specs.declared.desk.Faults.{Faults}
 use Rattle.hyd_io.specs.declared.desk.Openings.{Openings}
 use Rattle.hyd_io.specs.declared.output.OutFault.{OutFault}
 use Rattle.hyd_io.specs.declared.output.Channel.{Channel}
+use Rattle.hyd_io.specs.declared.output.Channel.TheVariants.{Report}
 use Rattle.hyd_io.specs.DeskBytes.{Files, Moves, PutOut}
 use Rattle.hyd_io.specs.DeskCounts.{NeverFall}
-use Rattle.hyd_io.specs.Output.{by_channel, OnCert, HasOutCause, PenState}
+use Rattle.hyd_io.specs.Output.{by_channel, OnCert, OnReport, HasOutCause, PenState}
 use Rattle.hyd_io.proofs.MovedBytesLemmas.{moves_then, put_out_then, put_out_more, moves_nothing}
 use Rattle.hyd_io.proofs.LeftAsItWasLemmas.{on_report_then, on_cert_then, never_fall_stays, on_report_stays}
 use Rattle.hyd_io.proofs.LeftAsItWasLemmas.{on_cert_stays}
 use Rattle.hyd_io.specs.TextPutIn.{Puts}
+
+-- what is said of the report's channel, at that channel
+pub on-report : (to : Channel) (P : Type 0) → to ≡ Report → OnReport to P → P
+on-report to P e on = subst (λ (c : Channel). OnReport c P) e on
 
 no_such : (o : Option OutFault) → IfSome o (λ fault. Ok (tt {0}) ≡ Err fault) → o ≡ None
 no_such None again = refl

@@ -11,6 +11,7 @@ ghost use Rattle.hyd_io.specs.DeskCounts.{NeverFall, next_count, with_read_fault
 ghost use Rattle.hyd_io.specs.DeskCounts.{with_print_fault};
 ghost use Rattle.hyd_io.specs.DeskCounts.{with_stall, with_opened, with_created};
 
+use std::fmt::Display;
 use thiserror::Error;
 
 /// A call on the desk failed. Which count rose says why.
@@ -42,7 +43,8 @@ pub struct Openings {
     pub created: u64,
 }
 
-/// A desk: files by name, one of them being read and one being written, and standard output.
+/// A desk: files by name, one of them being read and one being written, and standard output. Beside them stands what a
+/// person is told apart from the output, and a clock: a desk may have neither.
 ///
 /// Contracts see what the desk tells of these. A desk on real files tells no bytes, and its clauses
 /// on bytes then claim nothing; its counts, how often it opened and created, and whether `write` may
@@ -186,6 +188,18 @@ pub trait Desk {
         ensures ready_stays { ready self.new ≡ ready self.old }
         ensures openings_stay { openings self.new ≡ openings self.old }
         ensures besides { print_also self.old piece.now (result_ok result) self.new };
+
+    /// Tells a person a sentence, apart from what is printed. A desk that nobody watches tells nothing.
+    fn say<T: Display>(&self, _sentence: &T) {}
+
+    /// Shows a person how far a long work is, in a line that takes the place of the one shown before. A desk that nobody
+    /// watches shows nothing.
+    fn show<T: Display>(&self, _state: &T) {}
+
+    /// The milliseconds since some moment, by the desk's clock. A desk without one always answers 0.
+    fn milliseconds(&self) -> u64 {
+        0
+    }
 
     // What was written is what the file created last holds.
     ghost is_content: { (desk : Self) → written desk ≡ content_of (files desk) (target desk) };

@@ -6,10 +6,12 @@ use crate::desk::{Desk, Failed, Faults, Openings, stalls_after};
 use crate::failure::{Call, Failure};
 use crate::files_to_read::open_file;
 use crate::files_to_write::{Content, create_file};
+use crate::terminal::is_watched;
 use std::alloc::Global;
+use std::fmt::Display;
 use std::io::{self, ErrorKind, Read, Write};
 use std::marker::Model;
-use std::rt::Files;
+use std::rt::{Clock, Files};
 
 /// A desk on the files and the standard output of a runtime. It tells no bytes, since no contract
 /// can say which file a name opens, what it holds, or what was printed. Contracts see whether a file
@@ -24,8 +26,11 @@ use std::rt::Files;
 /// `HYDWIT 1 2 20 30 3`, or, where the desk has neither opened nor created anything yet and so begins a network, where
 /// its first bytes are a heading of an input file; else it stays as it is, and `create` fails. A device or a pipe is
 /// never emptied.
+///
+/// It says its sentences on standard error, each behind `hyd: `, and shows how far a work is where standard error is a
+/// terminal.
 #[derive(Drop)]
-pub struct FileDesk<R: Files + Print + Drop> {
+pub struct FileDesk<R: Files + Print + Eprint + Clock + Drop> {
     rt: R,
     alloc: Global,
     input: Option<R::File>,
@@ -35,9 +40,10 @@ pub struct FileDesk<R: Files + Print + Drop> {
     input_name: Option<String>,
     output_name: Option<String>,
     failed: Option<FailedCall>,
+    is_watched: bool,
 }
 
-impl<R: Files + Print + Drop> Model for FileDesk<R> {
+impl<R: Files + Print + Eprint + Clock + Drop> Model for FileDesk<R> {
     ghost use Rattle.std.specs.Prelude.{is_some, option_and_then};
     ghost use Rattle.hyd_io.specs.RealFiles.{FilesState};
 
@@ -53,13 +59,14 @@ impl<R: Files + Print + Drop> Model for FileDesk<R> {
     } };
 }
 
-impl<R: Files + Print + Drop> FileDesk<R> {
+impl<R: Files + Print + Eprint + Clock + Drop> FileDesk<R> {
     ghost use Rattle.hyd_io.specs.RealFiles.{untouched};
 
     /// A desk that has opened and created nothing. What it keeps of names for `failure` takes memory there.
     pub fn new(alloc: Global, rt: R) -> FileDesk<R>
         ensures { result ≡ untouched }
     {
+        let is_watched = is_watched(&rt);
         FileDesk {
             rt,
             alloc,
@@ -78,6 +85,7 @@ impl<R: Files + Print + Drop> FileDesk<R> {
             input_name: None,
             output_name: None,
             failed: None,
+            is_watched,
         }
     }
 
@@ -104,6 +112,16 @@ impl<R: Files + Print + Drop> FileDesk<R> {
     }
 }
 
+/// What makes a terminal's line empty, and goes to its start.
+const CLEARED_LINE: &str = "\r\x1b[K";
+
+// Makes the line empty in which it was shown how far a work is.
+fn clear_line<E: Eprint>(standard_error: &E, is_watched: bool) {
+    if is_watched {
+        let _ = standard_error.eprint(CLEARED_LINE);
+    }
+}
+
 // A call that failed.
 type FailedCall = (Call, io::Error);
 
@@ -122,7 +140,7 @@ fn failed_after(
     }
 }
 
-impl<R: Files + Print + Drop> Desk for FileDesk<R> {
+impl<R: Files + Print + Eprint + Clock + Drop> Desk for FileDesk<R> {
     ghost use Rattle.hyd_io.specs.RealFiles.{KeepsInput, OpensFile, ReadsFile, WritesFile, PrintsAside};
 
     ghost files = { λ _. None };
@@ -231,6 +249,7 @@ impl<R: Files + Print + Drop> Desk for FileDesk<R> {
     }
 
     fn print(&mut self, piece: &[u8]) -> Result<usize, Failed> {
+        clear_line(&self.rt, self.is_watched);
         match self.rt.write_some(piece) {
             Ok(n) => {
                 self.failed = failed_after(self.failed, Call::Print, n, piece);
@@ -242,6 +261,24 @@ impl<R: Files + Print + Drop> Desk for FileDesk<R> {
                 self.counts.print = self.counts.print.saturating_add(1);
                 Err(Failed)
             }
+        }
+    }
+
+    fn say<T: Display>(&self, sentence: &T) {
+        clear_line(&self.rt, self.is_watched);
+        let _ = self.rt.eprintln(format_args!("hyd: {sentence}"));
+    }
+
+    fn show<T: Display>(&self, state: &T) {
+        if self.is_watched {
+            let _ = self.rt.eprint(format_args!("{CLEARED_LINE}{state}"));
+        }
+    }
+
+    fn milliseconds(&self) -> u64 {
+        match self.rt.monotonic() {
+            Ok(time) => u64::try_from(time.as_millis()).unwrap_or(u64::MAX),
+            Err(_) => 0,
         }
     }
 }

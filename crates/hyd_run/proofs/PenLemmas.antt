@@ -10,6 +10,7 @@ use Rattle.hyd_io.specs.declared.output.Channel.TheVariants.{Cert, Report}
 use Rattle.hyd_io.specs.DeskBytes.{Files, Moves, PutOut, append_known}
 use Rattle.hyd_io.specs.Output.{by_channel, OnCert, OnReport, HasOutCause, PenState}
 use Rattle.hyd_io.proofs.MovedBytesLemmas.{moves_then, moves_all, append_known-nil, append_known-append_known}
+use Rattle.hyd_io.proofs.PutLemmas.{on-report}
 use Rattle.hyd_io.specs.TextPutIn.{Puts}
 use Rattle.hyd_run.specs.Pens.{Told, told, RunMoment, moment, AreOpen, LeavesRest, PutIn, IsCutOff, PutsIn}
 use Rattle.hyd_run.specs.Pens.{IsCutInOrder, PutsInOrder, IsCutAtEnd, PutsLast}
@@ -36,9 +37,6 @@ first-out to w p w' p' all e m = subst (λ (c : Channel). PutOut (by_channel c w
 pub second-out : (to : Channel) (w p w' p' : Option (List ℕ)) (all : List ℕ) → to ≡ Report
     → PutOut (by_channel to w p) (by_channel to w' p') all → PutOut p p' all
 second-out to w p w' p' all e m = subst (λ (c : Channel). PutOut (by_channel c w p) (by_channel c w' p') all) e m
-
-pub on-report : (to : Channel) (P : Type 0) → to ≡ Report → OnReport to P → P
-on-report to P e on = subst (λ (c : Channel). OnReport c P) e on
 
 pub on-cert : (to : Channel) (P : Type 0) → to ≡ Cert → OnCert to P → P
 on-cert to P e on = subst (λ (c : Channel). OnCert c P) e on

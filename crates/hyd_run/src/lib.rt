@@ -8,6 +8,7 @@
 mod first_lines_and_emptied_pens;
 mod outcome;
 mod period_and_last_lines;
+mod signs_of_life;
 mod steps;
 mod whole_run;
 

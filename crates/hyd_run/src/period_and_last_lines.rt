@@ -16,8 +16,9 @@ ghost use Rattle.hyd_theorems_on_definitions.specs.SoundLawsAndGrids.{TanksInOrd
 ghost use Rattle.hyd_period_network.specs.NetAsPeriodNetwork.{grid_of, states_of};
 ghost use Rattle.hyd_period_network.specs.NetsSetToPeriods.{IsNetOf};
 ghost use Rattle.hyd_period_network.specs.LawsInSettings.{AreStates};
-ghost use Rattle.hyd_report.specs.NodeAndLinkLines.{texts};
-ghost use Rattle.hyd_report.specs.PeriodLines.{AreTankFacts, lines_of};
+ghost use Rattle.hyd_report.specs.NodeAndLinkLines.{texts, AreBounds};
+ghost use Rattle.hyd_report.specs.PeriodLines.{AreBounds, AreTankFacts, lines_of};
+ghost use Rattle.hyd_cert.specs.RecordView.{row_of};
 ghost use Rattle.hyd_io.specs.TextPutIn.{Puts};
 ghost use Rattle.hyd_run.specs.Pens.{told, moment, AreOpen, PutsInOrder, PutsLast};
 ghost use Rattle.hyd_run.specs.Runs.{outcome_of};
@@ -25,19 +26,51 @@ ghost use Rattle.hyd_run.specs.Runs.{outcome_of};
 use crate::first_lines_and_emptied_pens::empty;
 use crate::outcome::{RunEnd, is_finished};
 use hyd_cert::{Record, put_end, put_record};
-use hyd_io::{Desk, OutFault, Pen};
+use hyd_io::{Desk, OutFault, Pace, Pen};
 use hyd_net::Project;
 use hyd_period_facts::Facts;
 use hyd_period_network::Net;
 use hyd_report::{put_done, put_report, put_stop};
 
-/// Puts the record of a period, and then its report. Net, record and facts are those of one period, and the vectors are
-/// its certificates.
+// Puts the report of a period, and empties the pen where that is due.
+fn put_lines<D: Desk>(
+    project: &Project,
+    net: &Net,
+    row: &Record,
+    facts: &Facts,
+    pace: &mut Pace,
+    pen: &mut Pen,
+    desk: &mut D,
+) -> Result<(), OutFault>
+    requires sound { IsSound project.now }
+    requires of { IsNetOf project.now net.now }
+    requires states { AreStates project.now (states_of net.now) }
+    requires bounds { AreBounds net.now (row_of row.now) }
+    requires tanks { AreTankFacts project.now facts.now }
+    requires links { states_of net.now ≡ facts.now.links.list }
+    requires ready { OnCert pen.old.to (IsTrue (D.ready desk.old)) }
+    ensures { Puts D.files D.rest D.written D.printed D.target D.ready D.counts D.openings
+        (texts project.now (lines_of project.now (grid_of net.now) (states_of net.now) (row_of row.now) facts.now))
+        result pen.old pen.new desk.old desk.new }
+{
+    match put_report(project, net, row, facts, pen, desk) {
+        Ok(()) => {}
+        Err(fault) => return Err(fault),
+    }
+    if pace.is_due(desk.milliseconds()) {
+        return empty(pen, desk);
+    }
+    Ok(())
+}
+
+/// Puts the record of a period, and then its report, and empties the report's pen where that is due. Net, record and
+/// facts are those of one period, and the vectors are its certificates.
 pub(crate) fn put_period<D: Desk>(
     project: &Project,
     net: &Net,
     row: &Record,
     facts: &Facts,
+    pace: &mut Pace,
     certificate: &mut Pen,
     report: &mut Pen,
     desk: &mut D,
@@ -65,7 +98,7 @@ pub(crate) fn put_period<D: Desk>(
         Ok(()) => {}
         Err(fault) => return Err(fault),
     }
-    put_report(project, net, row, facts, report, desk)
+    put_lines(project, net, row, facts, pace, report, desk)
 }
 
 /// Puts the last line of a report.

@@ -7,6 +7,7 @@ ghost use Rattle.hyd_run.specs.Runs.{StepPuts, StepsPut};
 
 use crate::outcome::RunEnd;
 use crate::period_and_last_lines::put_period;
+use crate::signs_of_life::Signs;
 use hyd_cert::has_small_numbers;
 use hyd_finders::Finder;
 use hyd_io::{Desk, OutFault, Pen};
@@ -16,6 +17,7 @@ use hyd_sim::{Sim, Step};
 fn put_step<D: Desk, F: Finder>(
     sim: &mut Sim,
     finder: &mut F,
+    signs: &mut Signs,
     certificate: &mut Pen,
     report: &mut Pen,
     desk: &mut D,
@@ -41,6 +43,7 @@ fn put_step<D: Desk, F: Finder>(
             return Ok(Some(RunEnd::Stopped(cause)));
         }
     }
+    signs.show(sim, desk);
     let project = sim.project();
     let row = sim.row();
     has_small_numbers(row);
@@ -49,6 +52,7 @@ fn put_step<D: Desk, F: Finder>(
         sim.net(),
         row,
         sim.facts(),
+        &mut signs.put_out,
         certificate,
         report,
         desk,
@@ -79,8 +83,9 @@ pub(crate) fn put_steps<D: Desk, F: Finder>(
     ensures project { sim.new.project ≡ sim.old.project }
     ensures settings { sim.new.settings ≡ sim.old.settings }
 {
+    let mut signs = Signs::new(desk);
     loop {
-        match put_step(sim, finder, certificate, report, desk) {
+        match put_step(sim, finder, &mut signs, certificate, report, desk) {
             Ok(None) => {}
             Ok(Some(end)) => return Ok(end),
             Err(fault) => return Err(fault),

@@ -2,7 +2,7 @@
 //! User Manual, chapter on analysis algorithms). Nothing is promised of its numbers: whoever uses
 //! them checks what they lead to.
 //!
-//! Tested by `hyd_tests_on_numbers_and_desks`.
+//! Tested by `hyd_stored_rows`.
 #![tactic(auto)]
 
 mod elimination_order;

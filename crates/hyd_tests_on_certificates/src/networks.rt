@@ -3,6 +3,7 @@
 
 use hyd_spec_certificates::{Problem, Side};
 use hyd_spec_reports::StatusWord;
+use hyd_test_helpers::METRE;
 
 /// The tight vector of a problem and side.
 pub(crate) type Row = (Problem, Side, &'static [i64]);
@@ -180,7 +181,7 @@ static NETWORKS: [Network; 16] = [
         [EMITTERS]\nJ0 .0001542\n\
         [STATUS]\nP304 Open\n",
         time: 0,
-        levels: &[(23_333_333_333_334, 30_000_000_000_000)],
+        levels: &[(23_333_333_333_334, 3 * METRE)],
         rows: &[
             (
                 Problem::Main,
@@ -270,20 +271,12 @@ static NETWORKS: [Network; 16] = [
             (
                 Problem::Main,
                 Side::Upper,
-                &[
-                    599_999_999_997_944,
-                    599_999_999_999_792,
-                    599_999_999_999_669,
-                ],
+                &[599_999_999_997_944, 60 * METRE - 208, 60 * METRE - 331],
             ),
             (
                 Problem::Main,
                 Side::Lower,
-                &[
-                    599_999_999_997_940,
-                    599_999_999_999_790,
-                    599_999_999_999_666,
-                ],
+                &[599_999_999_997_940, 60 * METRE - 210, 60 * METRE - 334],
             ),
         ],
         bounds: None,
@@ -414,8 +407,8 @@ static NETWORKS: [Network; 16] = [
                 Side::Upper,
                 &[
                     499_999_999_886_096,
-                    500_000_000_000_001,
-                    500_000_000_000_001,
+                    50 * METRE + 1,
+                    50 * METRE + 1,
                     499_999_999_994_824,
                 ],
             ),
@@ -424,8 +417,8 @@ static NETWORKS: [Network; 16] = [
                 Side::Lower,
                 &[
                     499_999_999_886_093,
-                    499_999_999_999_999,
-                    499_999_999_999_999,
+                    50 * METRE - 1,
+                    50 * METRE - 1,
                     499_999_999_994_823,
                 ],
             ),
@@ -455,7 +448,7 @@ static NETWORKS: [Network; 16] = [
             (
                 Problem::Main,
                 Side::Lower,
-                &[599_999_999_999_999, 600_000_005_097_645],
+                &[60 * METRE - 1, 600_000_005_097_645],
             ),
         ],
         bounds: Some(Bounds {
@@ -488,22 +481,22 @@ static NETWORKS: [Network; 16] = [
             (
                 Problem::Main,
                 Side::Upper,
-                &[400_000_000_000_001, 490_298_023_183_606],
+                &[40 * METRE + 1, 490_298_023_183_606],
             ),
             (
                 Problem::Main,
                 Side::Lower,
-                &[399_999_999_999_999, 488_629_014_869_247],
+                &[40 * METRE - 1, 488_629_014_869_247],
             ),
             (
                 Problem::Pinned(0),
                 Side::Upper,
-                &[400_000_000_000_001, 488_631_356_516_940],
+                &[40 * METRE + 1, 488_631_356_516_940],
             ),
             (
                 Problem::Pinned(0),
                 Side::Lower,
-                &[399_999_999_999_999, 490_295_681_535_913],
+                &[40 * METRE - 1, 490_295_681_535_913],
             ),
         ],
         bounds: None,
@@ -639,7 +632,7 @@ pub(crate) fn generated() -> Network {
     Network {
         text: "",
         time: 0,
-        levels: &[(50_000_000_000_000, 50_000_000_000_000)],
+        levels: &[(5 * METRE, 5 * METRE)],
         rows: &[],
         bounds: None,
     }

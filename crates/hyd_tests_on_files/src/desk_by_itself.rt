@@ -5,7 +5,7 @@ use crate::wrong::Wrong;
 use hyd_io::{Call, Channel, Desk, FileDesk, Pen, read_all};
 use std::alloc::{AllocError, Global};
 use std::fs;
-use std::rt::Files;
+use std::rt::{Clock, Files};
 
 /// A file that lies there: a name of more than 31 bytes, in a folder.
 const GIVEN: &str = "folder/a_text_whose_name_is_longer_than_31_bytes.txt";
@@ -71,7 +71,10 @@ const LONG: usize = 1_500;
 const TOO_LONG: usize = 2_500;
 
 /// Tries all, each kind of trial at a desk of its own.
-pub(crate) fn try_desk<R: Files + Print + Drop>(alloc: Global, rt: &R) -> Result<(), Wrong> {
+pub(crate) fn try_desk<R: Files + Print + Eprint + Clock + Drop>(
+    alloc: Global,
+    rt: &R,
+) -> Result<(), Wrong> {
     try_bytes(alloc, &mut FileDesk::new(alloc, rt))?;
     try_itself(alloc, &mut FileDesk::new(alloc, rt))?;
     try_others(alloc, &mut FileDesk::new(alloc, rt))?;
@@ -81,7 +84,10 @@ pub(crate) fn try_desk<R: Files + Print + Drop>(alloc: Global, rt: &R) -> Result
 }
 
 /// Prints the file that lies there, makes the others, and reads them back.
-fn try_bytes<R: Files + Print + Drop>(alloc: Global, desk: &mut FileDesk<R>) -> Result<(), Wrong> {
+fn try_bytes<R: Files + Print + Eprint + Clock + Drop>(
+    alloc: Global,
+    desk: &mut FileDesk<R>,
+) -> Result<(), Wrong> {
     print_given(alloc, desk)?;
     for (place, name) in MADE.iter().enumerate() {
         make(desk, name, varied(alloc, place)?.as_slice())?;
@@ -104,7 +110,10 @@ fn try_bytes<R: Files + Print + Drop>(alloc: Global, desk: &mut FileDesk<R>) -> 
 }
 
 /// The file that is read isn't created over, nor the one that was created last, by whatever name.
-fn try_itself<R: Files + Print + Drop>(alloc: Global, desk: &mut FileDesk<R>) -> Result<(), Wrong> {
+fn try_itself<R: Files + Print + Eprint + Clock + Drop>(
+    alloc: Global,
+    desk: &mut FileDesk<R>,
+) -> Result<(), Wrong> {
     desk.open("made.tmp")?;
     refuse(desk, "./made.tmp")?;
     refuse(desk, "folder/../made.tmp")?;
@@ -115,7 +124,10 @@ fn try_itself<R: Files + Print + Drop>(alloc: Global, desk: &mut FileDesk<R>) ->
 }
 
 /// A file that holds something else isn't created over; a certificate is, and an empty file.
-fn try_others<R: Files + Print + Drop>(alloc: Global, desk: &mut FileDesk<R>) -> Result<(), Wrong> {
+fn try_others<R: Files + Print + Eprint + Clock + Drop>(
+    alloc: Global,
+    desk: &mut FileDesk<R>,
+) -> Result<(), Wrong> {
     desk.open(GIVEN)?;
     refuse(desk, LETTER)?;
     refuse(desk, NETWORK)?;
@@ -131,7 +143,10 @@ fn try_others<R: Files + Print + Drop>(alloc: Global, desk: &mut FileDesk<R>) ->
 
 /// What a desk creates before all else may take the place of a network, and of nothing else; what it creates then may
 /// not.
-fn try_networks<R: Files + Print + Drop>(alloc: Global, rt: &R) -> Result<(), Wrong> {
+fn try_networks<R: Files + Print + Eprint + Clock + Drop>(
+    alloc: Global,
+    rt: &R,
+) -> Result<(), Wrong> {
     refuse(&mut FileDesk::new(alloc, rt), LETTER)?;
     let mut desk = FileDesk::new(alloc, rt);
     make(&mut desk, NETWORK, NETWORK_TEXT)?;
@@ -143,7 +158,10 @@ fn try_networks<R: Files + Print + Drop>(alloc: Global, rt: &R) -> Result<(), Wr
 }
 
 /// A file whose first line is a header is created over, and is empty before anything is written; another one stays.
-fn try_first_lines<R: Files + Print + Drop>(alloc: Global, rt: &R) -> Result<(), Wrong> {
+fn try_first_lines<R: Files + Print + Eprint + Clock + Drop>(
+    alloc: Global,
+    rt: &R,
+) -> Result<(), Wrong> {
     for text in KEPT {
         fs::write(rt, TRIED, text)?;
         let mut desk = FileDesk::new(alloc, rt);
@@ -162,7 +180,10 @@ fn try_first_lines<R: Files + Print + Drop>(alloc: Global, rt: &R) -> Result<(),
 }
 
 /// A name of any length opens and creates the file of that name, and is told whole where it is too long for the system.
-fn try_long_names<R: Files + Print + Drop>(alloc: Global, rt: &R) -> Result<(), Wrong> {
+fn try_long_names<R: Files + Print + Eprint + Clock + Drop>(
+    alloc: Global,
+    rt: &R,
+) -> Result<(), Wrong> {
     fs::write(rt, TRIED, SHORT)?;
     let name = long_name(alloc, LONG)?;
     let mut desk = FileDesk::new(alloc, rt);
@@ -184,7 +205,10 @@ fn long_name(alloc: Global, steps: usize) -> Result<String, AllocError> {
 }
 
 /// A file that can't be created.
-fn refuse<R: Files + Print + Drop>(desk: &mut FileDesk<R>, name: &str) -> Result<(), Wrong> {
+fn refuse<R: Files + Print + Eprint + Clock + Drop>(
+    desk: &mut FileDesk<R>,
+    name: &str,
+) -> Result<(), Wrong> {
     if desk.create(name).is_ok() {
         return Err(Wrong::Content);
     }
@@ -195,7 +219,7 @@ fn refuse<R: Files + Print + Drop>(desk: &mut FileDesk<R>, name: &str) -> Result
 }
 
 /// Prints the whole file that lies there, by one call if it takes it all.
-fn print_given<R: Files + Print + Drop>(
+fn print_given<R: Files + Print + Eprint + Clock + Drop>(
     alloc: Global,
     desk: &mut FileDesk<R>,
 ) -> Result<(), Wrong> {
@@ -209,7 +233,7 @@ fn print_given<R: Files + Print + Drop>(
 }
 
 /// Makes a file of these bytes, by one call if it takes them all.
-fn make<R: Files + Print + Drop>(
+fn make<R: Files + Print + Eprint + Clock + Drop>(
     desk: &mut FileDesk<R>,
     name: &str,
     bytes: &[u8],
@@ -223,7 +247,7 @@ fn make<R: Files + Print + Drop>(
 }
 
 /// Reads a file, a first part of it by one call, and compares it with the bytes.
-fn expect<R: Files + Print + Drop>(
+fn expect<R: Files + Print + Eprint + Clock + Drop>(
     alloc: Global,
     desk: &mut FileDesk<R>,
     name: &str,

@@ -4,6 +4,7 @@
 use hyd_cert::version_of;
 use hyd_net::{List, Names, Options, OutOfMemory, Project, Reservoir, Tank, Times, same};
 use hyd_num::{Decimal, FlowUnit};
+use hyd_test_helpers::METRE;
 use std::alloc::Global;
 use std::test::Fail;
 
@@ -100,9 +101,9 @@ fn times() -> Times {
 fn tank(diameter: Decimal) -> Tank {
     Tank {
         bottom: 0,
-        initial: 50_000_000_000_000,
+        initial: 5 * METRE,
         minimum: 0,
-        maximum: 100_000_000_000_000,
+        maximum: 10 * METRE,
         area: 314_159_265_400,
         diameter,
         shape: None,
@@ -129,7 +130,7 @@ fn is_same_as(
 
 /// Whether a network with 20 metres across and a head of 100 metres is the same as another one.
 fn is_same(alloc: Global, head: i64, diameter: Decimal, spare: usize) -> Result<bool, OutOfMemory> {
-    let one = network(alloc, 1_000_000_000_000_000, WIDE, 0)?;
+    let one = network(alloc, 100 * METRE, WIDE, 0)?;
     is_same_as(alloc, &one, head, diameter, spare)
 }
 
@@ -138,8 +139,8 @@ fn projects_are_the_same_but_for_what_is_left_aside(rt: HostRuntime) -> Result<(
     let narrow = Decimal {
         nano: 19_999_999_999,
     };
-    assert!(rt; is_same(rt.alloc(), 1_000_000_000_000_000, narrow, 10)?);
-    assert!(rt; !is_same(rt.alloc(), 999_999_999_999_999, narrow, 0)?);
+    assert!(rt; is_same(rt.alloc(), 100 * METRE, narrow, 10)?);
+    assert!(rt; !is_same(rt.alloc(), 100 * METRE - 1, narrow, 0)?);
     Ok(())
 }
 
@@ -154,7 +155,7 @@ fn versions(project: &mut Project) -> (u32, u32) {
 
 /// The versions for the network.
 fn versions_of_network(alloc: Global) -> Result<(u32, u32), OutOfMemory> {
-    let mut project = network(alloc, 1_000_000_000_000_000, WIDE, 0)?;
+    let mut project = network(alloc, 100 * METRE, WIDE, 0)?;
     Ok(versions(&mut project))
 }
 

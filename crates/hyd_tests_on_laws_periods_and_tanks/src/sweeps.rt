@@ -3,6 +3,7 @@
 
 use hyd_spec_certificates::Side;
 use hyd_sweep::{Sweeper, begin};
+use hyd_test_helpers::METRE;
 use hyd_vector_check::{head_of, is_in_box};
 use std::test::Fail;
 
@@ -10,18 +11,14 @@ use std::test::Fail;
 fn sweeps_begin_at_an_end_of_the_box(rt: HostRuntime) {
     let mut heads = [0i64; 2];
     begin(Side::Upper, &mut heads);
-    assert_eq!(rt; heads, [-1000000000000000000, -1000000000000000000]);
+    assert_eq!(rt; heads, [-100_000 * METRE, -100_000 * METRE]);
     begin(Side::Lower, &mut heads);
-    assert_eq!(rt; heads, [1000000000000000000, 1000000000000000000]);
+    assert_eq!(rt; heads, [100_000 * METRE, 100_000 * METRE]);
 }
 
 #[test]
 fn the_box_has_its_ends(rt: HostRuntime) {
-    let heads = [
-        -1000000000000000001,
-        -1000000000000000000,
-        1000000000000000000,
-    ];
+    let heads = [-100_000 * METRE - 1, -100_000 * METRE, 100_000 * METRE];
     assert!(rt; !is_in_box(head_of(&heads, 0)));
     assert!(rt; is_in_box(head_of(&heads, 1)));
     assert!(rt; is_in_box(head_of(&heads, 2)));

@@ -10,6 +10,7 @@ use hyd_num::{Decimal, Span};
 use hyd_spec::TankState;
 use hyd_spec_certificates::LevelSpan;
 use hyd_tank::*;
+use hyd_test_helpers::METRE;
 
 /// A level that is known, what becomes of it under an inflow, and what it is carried to.
 #[derive(Clone, Copy)]
@@ -61,9 +62,9 @@ fn tank() -> Tank
 {
     Tank {
         bottom: 0,
-        initial: 50_000_000_000_000,
-        minimum: 10_000_000_000_000,
-        maximum: 100_000_000_000_000,
+        initial: 5 * METRE,
+        minimum: METRE,
+        maximum: 10 * METRE,
         area: 314_159_265_400,
         diameter: Decimal {
             nano: 20_000_000_000,
@@ -81,102 +82,102 @@ fn span(lo: i64, hi: i64) -> LevelSpan {
 fn levels_are_rounded_widened_and_held(rt: HostRuntime) {
     let rows = [
         Row {
-            level: 10_000_000_000_000,
+            level: METRE,
             inflow: 0,
             seconds: 3_600,
-            next: span(10_000_000_000_000, 10_000_000_000_000),
-            carried: span(10_000_000_000_000, 10_000_000_000_000),
+            next: span(METRE, METRE),
+            carried: span(METRE, METRE),
         },
         Row {
-            level: 10_000_000_000_001,
+            level: METRE + 1,
             inflow: 0,
             seconds: 3_600,
-            next: span(10_000_000_000_000, 10_000_000_000_011),
-            carried: span(10_000_000_000_001, 10_000_000_000_001),
+            next: span(METRE, METRE + 11),
+            carried: span(METRE + 1, METRE + 1),
         },
         Row {
-            level: 100_000_000_000_000,
+            level: 10 * METRE,
             inflow: 0,
             seconds: 3_600,
-            next: span(100_000_000_000_000, 100_000_000_000_000),
-            carried: span(100_000_000_000_000, 100_000_000_000_000),
+            next: span(10 * METRE, 10 * METRE),
+            carried: span(10 * METRE, 10 * METRE),
         },
         Row {
-            level: 99_999_999_999_999,
+            level: 10 * METRE - 1,
             inflow: 0,
             seconds: 3_600,
-            next: span(99_999_999_999_989, 100_000_000_000_000),
-            carried: span(99_999_999_999_999, 99_999_999_999_999),
+            next: span(10 * METRE - 11, 10 * METRE),
+            carried: span(10 * METRE - 1, 10 * METRE - 1),
         },
         Row {
-            level: 50_000_000_000_000,
+            level: 5 * METRE,
             inflow: 0,
             seconds: 0,
-            next: span(49_999_999_999_990, 50_000_000_000_010),
-            carried: span(50_000_000_000_000, 50_000_000_000_000),
+            next: span(5 * METRE - 10, 5 * METRE + 10),
+            carried: span(5 * METRE, 5 * METRE),
         },
         Row {
-            level: 50_000_000_000_000,
+            level: 5 * METRE,
             inflow: 1,
             seconds: 1,
-            next: span(49_999_999_999_990, 50_000_000_000_011),
-            carried: span(50_000_000_000_000, 50_000_000_000_001),
+            next: span(5 * METRE - 10, 5 * METRE + 11),
+            carried: span(5 * METRE, 5 * METRE + 1),
         },
         Row {
-            level: 50_000_000_000_000,
+            level: 5 * METRE,
             inflow: -1,
             seconds: 1,
-            next: span(49_999_999_999_989, 50_000_000_000_010),
-            carried: span(49_999_999_999_999, 50_000_000_000_000),
+            next: span(5 * METRE - 11, 5 * METRE + 10),
+            carried: span(5 * METRE - 1, 5 * METRE),
         },
         Row {
-            level: 50_000_000_000_000,
+            level: 5 * METRE,
             inflow: 50_000_000_000,
             seconds: 3_600,
             next: span(56_631_455_961_286, 56_631_455_961_307),
             carried: span(56_631_455_961_296, 56_631_455_961_297),
         },
         Row {
-            level: 50_000_000_000_000,
+            level: 5 * METRE,
             inflow: -50_000_000_000,
             seconds: 3_600,
             next: span(43_368_544_038_693, 43_368_544_038_714),
             carried: span(43_368_544_038_703, 43_368_544_038_704),
         },
         Row {
-            level: 50_000_000_000_000,
+            level: 5 * METRE,
             inflow: 50_000_000_000,
             seconds: 90_000,
-            next: span(100_000_000_000_000, 100_000_000_000_000),
-            carried: span(100_000_000_000_000, 100_000_000_000_000),
+            next: span(10 * METRE, 10 * METRE),
+            carried: span(10 * METRE, 10 * METRE),
         },
         Row {
-            level: 50_000_000_000_000,
+            level: 5 * METRE,
             inflow: 1_000_000_000_000_000_000_000_000_000,
             seconds: 100_000_000,
-            next: span(100_000_000_000_000, 100_000_000_000_000),
-            carried: span(100_000_000_000_000, 100_000_000_000_000),
+            next: span(10 * METRE, 10 * METRE),
+            carried: span(10 * METRE, 10 * METRE),
         },
         Row {
-            level: 50_000_000_000_000,
+            level: 5 * METRE,
             inflow: -1_000_000_000_000_000_000_000_000_000,
             seconds: 100_000_000,
-            next: span(10_000_000_000_000, 10_000_000_000_000),
-            carried: span(10_000_000_000_000, 10_000_000_000_000),
+            next: span(METRE, METRE),
+            carried: span(METRE, METRE),
         },
         Row {
-            level: 99_999_999_999_975,
+            level: 10 * METRE - 25,
             inflow: 1,
             seconds: 3,
-            next: span(99_999_999_999_965, 99_999_999_999_986),
-            carried: span(99_999_999_999_975, 99_999_999_999_976),
+            next: span(10 * METRE - 35, 10 * METRE - 14),
+            carried: span(10 * METRE - 25, 10 * METRE - 24),
         },
         Row {
-            level: 10_000_000_000_025,
+            level: METRE + 25,
             inflow: -1,
             seconds: 3,
-            next: span(10_000_000_000_014, 10_000_000_000_035),
-            carried: span(10_000_000_000_024, 10_000_000_000_025),
+            next: span(METRE + 14, METRE + 35),
+            carried: span(METRE + 24, METRE + 25),
         },
     ];
     let tank = tank();
@@ -204,63 +205,63 @@ fn levels_are_rounded_widened_and_held(rt: HostRuntime) {
 fn targets_are_met_at_whole_seconds(rt: HostRuntime) {
     let rows = [
         Aim {
-            level: 50_000_000_000_000,
+            level: 5 * METRE,
             inflow: 50_000_000_000,
-            target: 100_000_000_000_000,
+            target: 10 * METRE,
             rising: true,
             cap: 100_000,
             second: 27_144,
         },
         Aim {
-            level: 50_000_000_000_000,
+            level: 5 * METRE,
             inflow: 50_000_000_000,
-            target: 100_000_000_000_000,
+            target: 10 * METRE,
             rising: true,
             cap: 1_000,
             second: 1_000,
         },
         Aim {
-            level: 50_000_000_000_000,
+            level: 5 * METRE,
             inflow: 50_000_000_000,
-            target: 50_000_000_000_001,
+            target: 5 * METRE + 1,
             rising: true,
             cap: 1_000,
             second: 1,
         },
         Aim {
-            level: 50_000_000_000_000,
+            level: 5 * METRE,
             inflow: 50_000_000_000,
-            target: 50_000_000_000_000,
+            target: 5 * METRE,
             rising: true,
             cap: 1_000,
             second: 1,
         },
         Aim {
-            level: 50_000_000_000_000,
+            level: 5 * METRE,
             inflow: 0,
-            target: 50_000_000_000_001,
+            target: 5 * METRE + 1,
             rising: true,
             cap: 1_000,
             second: 1_000,
         },
         Aim {
-            level: 50_000_000_000_000,
+            level: 5 * METRE,
             inflow: -50_000_000_000,
-            target: 100_000_000_000_000,
+            target: 10 * METRE,
             rising: true,
             cap: 1_000,
             second: 1_000,
         },
         Aim {
-            level: 50_000_000_000_000,
+            level: 5 * METRE,
             inflow: -50_000_000_000,
-            target: 10_000_000_000_000,
+            target: METRE,
             rising: false,
             cap: 1_000_000,
             second: 21_715,
         },
         Aim {
-            level: 50_000_000_000_000,
+            level: 5 * METRE,
             inflow: -50_000_000_000,
             target: 49_998_710_558_000,
             rising: false,
@@ -268,33 +269,33 @@ fn targets_are_met_at_whole_seconds(rt: HostRuntime) {
             second: 1,
         },
         Aim {
-            level: 50_000_000_000_000,
+            level: 5 * METRE,
             inflow: 1_000_000_000_000_000_000_000_000_000,
-            target: 200_000_000_000_000_000,
+            target: 20_000 * METRE,
             rising: true,
             cap: 1_000,
             second: 1,
         },
         Aim {
-            level: 50_000_000_000_000,
+            level: 5 * METRE,
             inflow: -1_000_000_000_000_000_000_000_000_000,
-            target: 10_000_000_000_000,
+            target: METRE,
             rising: false,
             cap: 1_000,
             second: 1,
         },
         Aim {
-            level: 50_000_000_000_000,
+            level: 5 * METRE,
             inflow: 50_000_000_000,
-            target: 100_000_000_000_000,
+            target: 10 * METRE,
             rising: true,
             cap: 0,
             second: 0,
         },
         Aim {
-            level: 50_000_000_000_000,
+            level: 5 * METRE,
             inflow: 1,
-            target: 100_000_000_000_000,
+            target: 10 * METRE,
             rising: true,
             cap: 100_000_000,
             second: 100_000_000,
@@ -319,8 +320,8 @@ fn targets_are_met_at_whole_seconds(rt: HostRuntime) {
 fn intervals_keep_both_ends(rt: HostRuntime) {
     let tank = tank();
     let level = LevelSpan {
-        lo: 50_000_000_000_000,
-        hi: 50_000_000_001_000,
+        lo: 5 * METRE,
+        hi: 5 * METRE + 1_000,
     };
     let inflow = Span {
         lo: 10_000_000_000,
@@ -335,11 +336,11 @@ fn intervals_keep_both_ends(rt: HostRuntime) {
 
     // The bands of 0.0005 foot at the two bounds, and one tick beside them.
     assert_eq!(rt;
-        fullness(state_of(&tank, span(99_998_476_000_000, 100_000_000_000_000))),
+        fullness(state_of(&tank, span(99_998_476_000_000, 10 * METRE))),
         "full"
     );
     assert_eq!(rt;
-        fullness(state_of(&tank, span(99_998_475_999_999, 100_000_000_000_000))),
+        fullness(state_of(&tank, span(99_998_475_999_999, 10 * METRE))),
         "open"
     );
     assert_eq!(rt;
@@ -347,7 +348,7 @@ fn intervals_keep_both_ends(rt: HostRuntime) {
         "between"
     );
     assert_eq!(rt;
-        fullness(state_of(&tank, span(10_000_000_000_000, 10_001_524_000_000))),
+        fullness(state_of(&tank, span(METRE, 10_001_524_000_000))),
         "empty"
     );
 }

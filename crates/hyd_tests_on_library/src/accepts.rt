@@ -8,6 +8,7 @@ use hyd_cert::Record;
 use hyd_sim::{Settings, Sim};
 use hyd_spec_certificates::{Problem, Side};
 use hyd_spec_reports::CertRefused;
+use hyd_test_helpers::METRE;
 use std::alloc::Global;
 use std::test::Fail;
 
@@ -108,8 +109,8 @@ fn is_behind_the_end(answer: Answer) -> bool {
 #[test]
 fn a_record_that_is_refused_leaves_the_run_where_it_was(rt: HostRuntime) -> Result<(), Fail> {
     let alloc = rt.alloc();
-    let wrong = record_of(alloc, 1_000_000_000_000_000, 999_999_999_999_999)?;
-    let right = record_of(alloc, 1_000_000_000_000_001, 999_999_999_999_999)?;
+    let wrong = record_of(alloc, 100 * METRE, 100 * METRE - 1)?;
+    let right = record_of(alloc, 100 * METRE + 1, 100 * METRE - 1)?;
     let mut records = HandedIn {
         wrong: &wrong,
         right: &right,

@@ -1,6 +1,7 @@
 //! Vectors that a finder offers: those that pass the check are the record's, and those that don't change nothing.
 
 use crate::vectors::{Vectors, finds};
+use hyd_test_helpers::METRE;
 use std::alloc::Global;
 use std::test::Fail;
 
@@ -11,8 +12,8 @@ pub(crate) const IDLE: &str =
 
 /// The tight vectors of that network.
 pub(crate) const IDLE_TIGHT: Vectors = Vectors {
-    upper: &[1_000_000_000_000_001],
-    lower: &[999_999_999_999_999],
+    upper: &[100 * METRE + 1],
+    lower: &[100 * METRE - 1],
 };
 
 /// Two junctions behind a reservoir, of which the farther one takes 1,000 m^3 a day.
@@ -38,12 +39,12 @@ const ONE: &[Case] = &[
     Case {
         name: "certificates that aren't tight",
         offered: Vectors {
-            upper: &[1_000_000_000_000_002],
-            lower: &[999_999_999_999_998],
+            upper: &[100 * METRE + 2],
+            lower: &[100 * METRE - 2],
         },
         found: Vectors {
-            upper: &[1_000_000_000_000_002],
-            lower: &[999_999_999_999_998],
+            upper: &[100 * METRE + 2],
+            lower: &[100 * METRE - 2],
         },
     },
     Case {
@@ -65,39 +66,39 @@ const ONE: &[Case] = &[
     Case {
         name: "LOWER for UPPER",
         offered: Vectors {
-            upper: &[999_999_999_999_999],
-            lower: &[1_000_000_000_000_001],
+            upper: &[100 * METRE - 1],
+            lower: &[100 * METRE + 1],
         },
         found: IDLE_TIGHT,
     },
     Case {
         name: "a tick too far",
         offered: Vectors {
-            upper: &[1_000_000_000_000_000],
-            lower: &[1_000_000_000_000_000],
+            upper: &[100 * METRE],
+            lower: &[100 * METRE],
         },
         found: IDLE_TIGHT,
     },
     Case {
         name: "a certificate for UPPER alone",
         offered: Vectors {
-            upper: &[1_000_000_000_000_002],
-            lower: &[1_000_000_000_000_000],
+            upper: &[100 * METRE + 2],
+            lower: &[100 * METRE],
         },
         found: Vectors {
-            upper: &[1_000_000_000_000_002],
-            lower: &[999_999_999_999_999],
+            upper: &[100 * METRE + 2],
+            lower: &[100 * METRE - 1],
         },
     },
     Case {
         name: "a certificate for LOWER alone",
         offered: Vectors {
-            upper: &[1_000_000_000_000_000],
-            lower: &[999_999_999_999_998],
+            upper: &[100 * METRE],
+            lower: &[100 * METRE - 2],
         },
         found: Vectors {
-            upper: &[1_000_000_000_000_001],
-            lower: &[999_999_999_999_998],
+            upper: &[100 * METRE + 1],
+            lower: &[100 * METRE - 2],
         },
     },
     Case {
@@ -157,8 +158,8 @@ const TWO: &[Case] = &[
     Case {
         name: "those of a network of three junctions",
         offered: Vectors {
-            upper: &[50_000_000_000_001, 124_999_999_377_089, 249_999_998_754_178],
-            lower: &[49_999_999_999_999, 124_999_999_377_088, 249_999_998_754_177],
+            upper: &[5 * METRE + 1, 124_999_999_377_089, 249_999_998_754_178],
+            lower: &[5 * METRE - 1, 124_999_999_377_088, 249_999_998_754_177],
         },
         found: PAIR_TIGHT,
     },

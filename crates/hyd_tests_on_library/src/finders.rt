@@ -7,6 +7,7 @@ use crate::vectors::{Vectors, finds};
 use hyd_finders::{Finder, Null};
 use hyd_period_network::Net;
 use hyd_spec_certificates::{Problem, Side};
+use hyd_test_helpers::METRE;
 use std::test::Fail;
 
 /// Tells the list of one head for UPPER and one for LOWER: the vectors of a network with one junction and no tank.
@@ -70,12 +71,12 @@ impl Finder for Astray {
 #[test]
 fn a_list_that_is_told_is_the_record(rt: HostRuntime) -> Result<(), Fail> {
     let finder = Told {
-        upper: 1_000_000_000_000_003,
-        lower: 999_999_999_999_996,
+        upper: 100 * METRE + 3,
+        lower: 100 * METRE - 4,
     };
     let wanted = Vectors {
-        upper: &[1_000_000_000_000_003],
-        lower: &[999_999_999_999_996],
+        upper: &[100 * METRE + 3],
+        lower: &[100 * METRE - 4],
     };
     assert!(rt; finds(rt.alloc(), IDLE, false, finder, wanted));
     Ok(())
@@ -84,12 +85,12 @@ fn a_list_that_is_told_is_the_record(rt: HostRuntime) -> Result<(), Fail> {
 #[test]
 fn a_certificate_that_is_told_stands_beside_one_that_isnt(rt: HostRuntime) -> Result<(), Fail> {
     let finder = Told {
-        upper: 1_000_000_000_000_003,
-        lower: 1_000_000_000_000_000,
+        upper: 100 * METRE + 3,
+        lower: 100 * METRE,
     };
     let wanted = Vectors {
-        upper: &[1_000_000_000_000_003],
-        lower: &[999_999_999_999_999],
+        upper: &[100 * METRE + 3],
+        lower: &[100 * METRE - 1],
     };
     assert!(rt; finds(rt.alloc(), IDLE, false, finder, wanted));
     Ok(())

@@ -7,6 +7,7 @@ use crate::networks_states_and_changes::{By, To, are_changes, are_states, levels
 use hyd_controls_and_rules::{Changes, LevelOpen, settle};
 use hyd_net::{LinkState, OutOfMemory, Project};
 use hyd_spec::Source;
+use hyd_test_helpers::METRE;
 use std::alloc::Global;
 
 /// A tank, a pipe, a pump with a pattern, a pump without, and a flow control valve. The clock begins at 11 PM.
@@ -45,7 +46,7 @@ struct Start {
 static STARTS: [Start; 10] = [
     Start {
         time: 0,
-        level: (50_000_000_000_000, 50_000_000_000_000),
+        level: (5 * METRE, 5 * METRE),
         open: None,
         states: &[
             To::Open,
@@ -57,7 +58,7 @@ static STARTS: [Start; 10] = [
     },
     Start {
         time: 600,
-        level: (80_000_000_000_000, 85_000_000_000_000),
+        level: (8 * METRE, 85_000_000_000_000),
         open: None,
         states: &[
             To::Closed,
@@ -69,7 +70,7 @@ static STARTS: [Start; 10] = [
     },
     Start {
         time: 1_800,
-        level: (70_000_000_000_000, 70_000_000_000_000),
+        level: (7 * METRE, 7 * METRE),
         open: None,
         states: &[To::Closed, To::Closed, To::Speed(900_000_000), LIMIT],
         changes: &[],
@@ -98,10 +99,10 @@ static STARTS: [Start; 10] = [
     },
     Start {
         time: 2_400,
-        level: (80_000_000_000_000, 91_000_000_000_000),
+        level: (8 * METRE, 91_000_000_000_000),
         open: Some(LevelOpen {
             control: 5,
-            lo: 80_000_000_000_000,
+            lo: 8 * METRE,
             hi: 91_000_000_000_000,
         }),
         states: &[To::Closed, To::Closed, To::Speed(900_000_000), LIMIT],
@@ -109,7 +110,7 @@ static STARTS: [Start; 10] = [
     },
     Start {
         time: 5_400,
-        level: (90_000_000_000_000, 95_000_000_000_000),
+        level: (9 * METRE, 95_000_000_000_000),
         open: None,
         states: &[To::Closed, To::Speed(1_500_000_000), To::Closed, HALF],
         changes: &[
@@ -121,7 +122,7 @@ static STARTS: [Start; 10] = [
     },
     Start {
         time: 5_400,
-        level: (10_000_000_000_000, 20_000_000_000_000),
+        level: (METRE, 2 * METRE),
         open: None,
         states: &[
             To::Open,
@@ -139,7 +140,7 @@ static STARTS: [Start; 10] = [
     },
     Start {
         time: 5_400,
-        level: (60_000_000_000_000, 60_000_000_000_000),
+        level: (6 * METRE, 6 * METRE),
         open: None,
         states: &[
             To::Open,

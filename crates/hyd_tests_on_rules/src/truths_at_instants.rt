@@ -10,6 +10,7 @@ use hyd_controls_and_rules::decide;
 use hyd_net::{LinkState, OutOfMemory, Project};
 use hyd_num::Span;
 use hyd_spec_certificates::Truth;
+use hyd_test_helpers::METRE;
 use std::alloc::Global;
 
 /// Rules of each kind of clause. The clock begins at 11 PM, and rules are tried each 6 minutes.
@@ -33,20 +34,20 @@ pub(crate) const CLAUSES: &str = "[OPTIONS]\nUNITS CMD\nHEADLOSS C-M\n\
     AND PIPE P STATUS NOT CLOSED\nTHEN PIPE P STATUS IS CLOSED\n";
 
 /// Levels in head ticks, from one to another: 6 metres, 4 to 6, 4 to 5.
-const SIX: (i64, i64) = (60_000_000_000_000, 60_000_000_000_000);
+const SIX: (i64, i64) = (6 * METRE, 6 * METRE);
 
-const FOUR_TO_SIX: (i64, i64) = (40_000_000_000_000, 60_000_000_000_000);
+const FOUR_TO_SIX: (i64, i64) = (4 * METRE, 6 * METRE);
 
-const FOUR_TO_FIVE: (i64, i64) = (40_000_000_000_000, 50_000_000_000_000);
+const FOUR_TO_FIVE: (i64, i64) = (4 * METRE, 5 * METRE);
 
 /// No flow.
 const STILL: (i128, i128) = (0, 0);
 
 /// A head of 40 metres.
-const HIGH: (i64, i64) = (400_000_000_000_000, 400_000_000_000_000);
+const HIGH: (i64, i64) = (40 * METRE, 40 * METRE);
 
 /// The head of the reservoir.
-const RESERVOIR: (i64, i64) = (1_000_000_000_000_000, 1_000_000_000_000_000);
+const RESERVOIR: (i64, i64) = (100 * METRE, 100 * METRE);
 
 /// A rule and an instant, the tank's level, the pipe's flow and the junction's head, each from one to another, and what
 /// is known of the rule.
@@ -87,8 +88,8 @@ static INSTANTS: [Instant; 31] = [
         HIGH,
         Truth::Open {
             clause: 0,
-            lo: 40_000_000_000_000,
-            hi: 60_000_000_000_000,
+            lo: 4 * METRE,
+            hi: 6 * METRE,
         },
     ),
     (
@@ -175,8 +176,8 @@ static INSTANTS: [Instant; 31] = [
         (290_000_000_000_000, 300_000_000_000_000),
         Truth::Open {
             clause: 0,
-            lo: 190_000_000_000_000,
-            hi: 200_000_000_000_000,
+            lo: 19 * METRE,
+            hi: 20 * METRE,
         },
     ),
     (
@@ -187,7 +188,7 @@ static INSTANTS: [Instant; 31] = [
         (290_000_000_000_000, 290_000_000_000_000),
         Truth::Open {
             clause: 2,
-            lo: 540_000_000_000_000,
+            lo: 54 * METRE,
             hi: 545_000_000_000_000,
         },
     ),

@@ -1,8 +1,8 @@
 -- The answers of a run that wrote a certificate to its end.
 -- Source: this program's.
 use Rattle.std.specs.Prelude.{⊤}
-use Rattle.hyd_cli.specs.declared.status.Status.{Status}
-use Rattle.hyd_cli.specs.declared.status.Status.TheVariants.{Done, Undecided, RoundsSpent, Demand}
+use Rattle.hyd_command_answers.specs.declared.status.Status.{Status}
+use Rattle.hyd_command_answers.specs.declared.status.Status.TheVariants.{Done, Undecided, RoundsSpent, Demand}
 
 -- The run finished, or was stopped by a cause.
 abbrev pub HasWritten : Status → Type 0

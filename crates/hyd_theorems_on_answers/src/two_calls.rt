@@ -4,9 +4,9 @@
 ghost use Rattle.std.specs.Prelude.{◌≡◌, ◌≢◌, List, ℕ, Some};
 ghost use Rattle.hyd_io.specs.DeskBytes.{append_known};
 ghost use Rattle.hyd_sim.specs.declared.settings.Settings.{Settings};
-ghost use Rattle.hyd_cli.specs.declared.status.Status.{Status};
-ghost use Rattle.hyd_cli.specs.declared.status.Status.TheVariants.{Done, CertificateRefused};
-ghost use Rattle.hyd_cli.specs.DeskContents.{Seen};
+ghost use Rattle.hyd_command_answers.specs.declared.status.Status.{Status};
+ghost use Rattle.hyd_command_answers.specs.declared.status.Status.TheVariants.{Done, CertificateRefused};
+ghost use Rattle.hyd_command_answers.specs.DeskContents.{Seen};
 ghost use Rattle.hyd_cli.specs.RunAnswers.{AnswersText};
 ghost use Rattle.hyd_cli.specs.CheckAnswers.{AnswersCheck};
 ghost use Rattle.hyd_theorems_on_answers.specs.StatusesThatWrote.{HasWritten};

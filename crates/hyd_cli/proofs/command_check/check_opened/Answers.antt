@@ -5,10 +5,11 @@ use Rattle.hyd_io.specs.DeskBytes.{file_at}
 use Rattle.hyd_cert_check.specs.Checks.{CheckEnds, CheckBreaksOff}
 use Rattle.hyd_cert_check.specs.ReaderAndPen.{Rose}
 use Rattle.hyd_command_words.specs.CommandGrammar.{check}
-use Rattle.hyd_cli.specs.DeskContents.{seen}
-use Rattle.hyd_cli.specs.Answers.{HasCause, Leaves}
+use Rattle.hyd_command_answers.specs.DeskContents.{seen}
+use Rattle.hyd_command_answers.specs.FaultsAndRefusals.{HasCause}
+use Rattle.hyd_cli.specs.Answers.{Leaves}
 use Rattle.hyd_cli.specs.CheckAnswers.{AnswersCert, ReadsCert}
-use Rattle.hyd_cli.specs.declared.status.Status.{Status}
+use Rattle.hyd_command_answers.specs.declared.status.Status.{Status}
 use Rattle.hyd_cli.proofs.CheckLemmas.{report_prints, printed_since, answers_end, leaves_end, cause_of_end}
 use Rattle.hyd_cli.proofs.CheckLemmas.{reads_of_end, answers_break, leaves_break, cause_of_break, reads_of_break}
 use Rattle.hyd_cli.proofs.command_check.check_opened.Goals as goal

@@ -2,7 +2,7 @@
 use Rattle.std.proofs.Common.{◌≡◌, ◌∙◌, ℕ, List, sym, subst}
 use Rattle.hyd_spec_input.specs.Faults.{IsFault, HasNoFault}
 use Rattle.hyd_command_words.specs.CommandView.{gen_seen, files_seen}
-use Rattle.hyd_cli.specs.DeskContents.{seen}
+use Rattle.hyd_command_answers.specs.DeskContents.{seen}
 use Rattle.hyd_cli.specs.GenAnswers.{text_of, AnswersGen, KeepsCert}
 use Rattle.hyd_cli.proofs.command_gen.generate_network.Goals as goal
 

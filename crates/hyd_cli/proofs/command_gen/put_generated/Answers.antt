@@ -6,7 +6,7 @@ use Rattle.hyd_io.specs.DeskCounts.{with_created}
 use Rattle.hyd_run.specs.Pens.{told}
 use Rattle.hyd_run.specs.Runs.{outcome_of}
 use Rattle.hyd_command_words.specs.CommandView.{files_seen}
-use Rattle.hyd_cli.specs.DeskContents.{seen}
+use Rattle.hyd_command_answers.specs.DeskContents.{seen}
 use Rattle.hyd_cli.proofs.GenLemmas.{Created, text_breaks_off, text_alone, text_stays, generated}
 use Rattle.hyd_cli.proofs.GenLemmas.{generated_short}
 use Rattle.hyd_cli.proofs.command_gen.put_generated.Goals as goal

@@ -3,8 +3,8 @@ use Rattle.std.proofs.Common.{inl}
 use Rattle.hyd_spec_input.specs.Faults.{IsFault}
 use Rattle.hyd_theorems_on_input.proofs.OneFault.{one_fault, no_fault_beside}
 use Rattle.hyd_command_words.specs.CommandView.{files_seen}
-use Rattle.hyd_cli.specs.DeskContents.{seen}
-use Rattle.hyd_cli.specs.Answers.{AnswersRefused}
+use Rattle.hyd_command_answers.specs.DeskContents.{seen}
+use Rattle.hyd_command_answers.specs.FaultsAndRefusals.{AnswersRefused}
 use Rattle.hyd_cli.proofs.AnswerLemmas.{same_refusal, refusal_never_usage}
 use Rattle.hyd_cli.proofs.GenLemmas.{generated_leaves, generated_never_usage, generated_answers, gen_refusal_leaves}
 use Rattle.hyd_cli.proofs.GenLemmas.{refusal_creates}

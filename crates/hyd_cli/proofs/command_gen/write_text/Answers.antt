@@ -2,7 +2,7 @@
 use Rattle.std.proofs.Common.{inr, rules}
 use Rattle.std.proofs.lemmas.Result.{on_ok_weaker, on_err_weaker}
 use Rattle.hyd_run.specs.Pens.{told}
-use Rattle.hyd_cli.specs.DeskContents.{seen}
+use Rattle.hyd_command_answers.specs.DeskContents.{seen}
 use Rattle.hyd_cli.proofs.GenLemmas.{Created, text_written, text_cut_off}
 use Rattle.hyd_cli.proofs.command_gen.write_text.Goals as goal
 

@@ -3,10 +3,11 @@ use Rattle.std.proofs.Common.{◌≡◌, ◌∙◌, sym, subst, rules}
 use Rattle.hyd_io.specs.declared.desk.Faults.{Faults}
 use Rattle.hyd_run.specs.Pens.{told, OneRose}
 use Rattle.hyd_run.specs.Runs.{outcome_of}
-use Rattle.hyd_cli.specs.DeskContents.{seen}
-use Rattle.hyd_cli.specs.Answers.{HasCause}
-use Rattle.hyd_cli.specs.RunAnswers.{AnswersRun, OpensCert}
-use Rattle.hyd_cli.specs.declared.status.Status.{Status}
+use Rattle.hyd_command_answers.specs.DeskContents.{seen}
+use Rattle.hyd_command_answers.specs.FaultsAndRefusals.{HasCause}
+use Rattle.hyd_cli.specs.RunAnswers.{AnswersRun}
+use Rattle.hyd_command_answers.specs.OpeningsOfRuns.{OpensCert}
+use Rattle.hyd_command_answers.specs.declared.status.Status.{Status}
 use Rattle.hyd_cli.proofs.AnswerLemmas.{delivered, cut_short, cause_of_end, cause_of_fault, opens_of_end}
 use Rattle.hyd_cli.proofs.AnswerLemmas.{opens_of_fault, other_target}
 use Rattle.hyd_cli.proofs.command_run.put_run.Goals as goal

@@ -1,7 +1,7 @@
 -- The run is of the network that was read.
 use Rattle.std.proofs.Common.{subst}
 use Rattle.hyd_spec.specs.ProgramTypes.{Project}
-use Rattle.hyd_cli.specs.DeskContents.{seen}
+use Rattle.hyd_command_answers.specs.DeskContents.{seen}
 use Rattle.hyd_cli.specs.TaskWithNetwork.{DoesTask}
 use Rattle.hyd_cli.proofs.TaskWithoutMemory.{does_nothing}
 use Rattle.hyd_cli.proofs.task_with_network.do_with_network.Goals as goal

@@ -5,7 +5,7 @@ use Rattle.hyd_command_words.specs.CommandGrammar.{Order, RunOrder, GenOrder, Tw
 use Rattle.hyd_command_words.specs.CommandView.{order_seen, run_seen, gen_seen, files_seen}
 use Rattle.hyd_command_words.specs.declared.command.Command.{Command}
 use Rattle.hyd_command_words.specs.declared.command.Command.TheVariants.{Run, Check, Gen}
-use Rattle.hyd_cli.specs.DeskContents.{seen}
+use Rattle.hyd_command_answers.specs.DeskContents.{seen}
 use Rattle.hyd_cli.specs.Answers.{Leaves}
 use Rattle.hyd_cli.specs.RunAnswers.{AnswersText}
 use Rattle.hyd_cli.specs.Commands.{DoesRun, DoesCheck, DoesGen}

@@ -9,14 +9,14 @@ use Rattle.hyd_run.proofs.period_and_last_lines.put_period.Goals as goal
 pub put_record-requires : goal.put_record-requires
 put_record-requires g c = on_any _ _ c.requires.unbroken.ready
 
-pub put_report-requires-clause-bounds : goal.put_report-requires-clause-bounds
-put_report-requires-clause-bounds g c =
+pub put_lines-requires-clause-bounds : goal.put_lines-requires-clause-bounds
+put_lines-requires-clause-bounds g c =
     bounds-of c.args.project.now c.args.net.now (row_of c.args.row.now) c.requires.of
     c.junctions-junctions.ensures.steady c.requires.order
     c.requires.certificates
 
-pub put_report-requires-clause-ready : goal.put_report-requires-clause-ready
-put_report-requires-clause-ready g c = on_any _ _ (subst IsTrue (sym c.in-Ok.ensures.ready_stays)
+pub put_lines-requires-clause-ready : goal.put_lines-requires-clause-ready
+put_lines-requires-clause-ready g c = on_any _ _ (subst IsTrue (sym c.in-Ok.ensures.ready_stays)
     c.requires.unbroken.ready)
 
 pub returns-in-Err : goal.returns-in-Err
@@ -24,4 +24,4 @@ returns-in-Err g c = cut-off-in-order _ _ c.in-Err.fault _ _ _ _ _ c.requires.un
 
 pub returns : goal.returns
 returns g c =
-    both-put-in-order _ _ _ _ _ _ _ _ _ _ c.requires.unbroken c.in-Ok.ensures c.put_report.ensures.puts
+    both-put-in-order _ _ _ _ _ _ _ _ _ _ c.requires.unbroken c.in-Ok.ensures c.put_lines.ensures

@@ -2,10 +2,10 @@
 use Rattle.std.specs.Prelude.{ℕ}
 use Rattle.hyd_spec_reports.specs.PromisesOfRunsAndChecks.{Outcome, Finished, Stopped}
 use Rattle.hyd_spec_reports.specs.declared.StopCause.TheVariants.{Demand as OutOfRange, RoundsSpent as Rounds}
-use Rattle.hyd_cli.specs.declared.status.Status.{Status}
-use Rattle.hyd_cli.specs.declared.status.Status.TheVariants.{Done, OutOfMemory, Usage, ReadFault, WriteFault}
-use Rattle.hyd_cli.specs.declared.status.Status.TheVariants.{InputRefused, Undecided, RoundsSpent, Demand}
-use Rattle.hyd_cli.specs.declared.status.Status.TheVariants.{CertificateRefused, Stalled}
+use Rattle.hyd_command_answers.specs.declared.status.Status.{Status}
+use Rattle.hyd_command_answers.specs.declared.status.Status.TheVariants.{Done, OutOfMemory, Usage, ReadFault, WriteFault}
+use Rattle.hyd_command_answers.specs.declared.status.Status.TheVariants.{InputRefused, Undecided, RoundsSpent, Demand}
+use Rattle.hyd_command_answers.specs.declared.status.Status.TheVariants.{CertificateRefused, Stalled}
 
 -- how a run ends, as a status
 abbrev pub status_of_outcome : Outcome → Status

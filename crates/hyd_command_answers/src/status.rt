@@ -2,8 +2,8 @@
 
 ghost use Rattle.std.specs.Prelude.{◌≡◌};
 ghost use Rattle.std.specs.Process.{exit_status};
-ghost use Rattle.hyd_cli.specs.Answers.{status_of_fault};
-ghost use Rattle.hyd_cli.specs.Statuses.{number_of};
+ghost use Rattle.hyd_command_answers.specs.FaultsAndRefusals.{status_of_fault};
+ghost use Rattle.hyd_command_answers.specs.Statuses.{number_of};
 
 use hyd_io::OutFault;
 use std::process::{ExitCode, Termination};
@@ -53,7 +53,7 @@ impl Termination for Status {
 }
 
 /// The status of a fault of output.
-pub(crate) fn fault_status(fault: OutFault) -> Status
+pub fn fault_status(fault: OutFault) -> Status
     ensures { result ≡ status_of_fault fault }
 {
     match fault {

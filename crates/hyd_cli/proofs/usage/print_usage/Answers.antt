@@ -2,8 +2,8 @@
 use Rattle.std.proofs.Common.{ap}
 use Rattle.std.proofs.lemmas.Result.{on_ok_weaker, on_err_weaker}
 use Rattle.hyd_io.specs.Output.{PenState}
-use Rattle.hyd_cli.proofs.PrintLemmas.{printed_whole, printed_front}
-use Rattle.hyd_cli.proofs.usage_and_refusal.print_usage.Goals as goal
+use Rattle.hyd_command_answers.proofs.PrintLemmas.{printed_whole, printed_front}
+use Rattle.hyd_cli.proofs.usage.print_usage.Goals as goal
 
 pub returns-clause-whole : goal.returns-clause-whole
 returns-clause-whole g c =

@@ -2,10 +2,10 @@
 use Rattle.std.specs.Prelude.{◌≡◌, ⊤, Result, Ok, Err}
 use Rattle.hyd_io.specs.declared.desk.Faults.{Faults}
 use Rattle.hyd_inp.specs.declared.fault.InpFault.{InpFault}
-use Rattle.hyd_cli.specs.Answers.{HasCause}
-use Rattle.hyd_cli.specs.declared.network_file.Unread.{Unread}
-use Rattle.hyd_cli.specs.declared.network_file.Unread.TheVariants.{Fault, Ended}
-use Rattle.hyd_cli.specs.declared.status.Status.{Status}
+use Rattle.hyd_command_answers.specs.FaultsAndRefusals.{HasCause}
+use Rattle.hyd_command_answers.specs.declared.network_file.Unread.{Unread}
+use Rattle.hyd_command_answers.specs.declared.network_file.Unread.TheVariants.{Fault, Ended}
+use Rattle.hyd_command_answers.specs.declared.status.Status.{Status}
 
 -- what holds of the fault of a text
 abbrev pub IfFault : Unread → (InpFault → Type 0) → Type 0

@@ -7,10 +7,10 @@ ghost use Rattle.hyd_spec_lines.specs.Lines.{items_of, rows_in};
 ghost use Rattle.hyd_net.specs.Sound.{IsSound};
 ghost use Rattle.hyd_spec_input.specs.Faults.{IsFault, HasNoFault};
 ghost use Rattle.hyd_spec_input.specs.Project.{IsProject};
-ghost use Rattle.hyd_cli.specs.DeskContents.{seen, IsUntouched};
-ghost use Rattle.hyd_cli.specs.Answers.{HasCause};
-ghost use Rattle.hyd_cli.specs.NetworkOrFault.{IfFault, IfEnded, HasReadCause};
-ghost use Rattle.hyd_cli.specs.declared.status.Status.TheVariants.{ReadFault, OutOfMemory};
+ghost use Rattle.hyd_command_answers.specs.DeskContents.{seen, IsUntouched};
+ghost use Rattle.hyd_command_answers.specs.FaultsAndRefusals.{HasCause};
+ghost use Rattle.hyd_command_answers.specs.NetworkOrFault.{IfFault, IfEnded, HasReadCause};
+ghost use Rattle.hyd_command_answers.specs.declared.status.Status.TheVariants.{ReadFault, OutOfMemory};
 
 use crate::status::Status;
 use hyd_inp::{InpFault, InpRefused, LONGEST_TEXT, TEXT_TOO_LONG, read_project};
@@ -20,7 +20,7 @@ use std::alloc::Global;
 
 /// Why there is no network.
 #[derive(Clone, Copy, Drop)]
-pub(crate) enum Unread {
+pub enum Unread {
     /// The text has a fault.
     Fault(InpFault),
     /// The command ends so: a read failed, or memory ran out.
@@ -54,7 +54,7 @@ fn read_text<D: Desk>(alloc: Global, net: &str, desk: &mut D) -> Result<Option<V
 }
 
 /// The network of a text, or why there is none.
-pub(crate) fn network_of(alloc: Global, text: &[u8]) -> Result<Project, Unread>
+pub fn network_of(alloc: Global, text: &[u8]) -> Result<Project, Unread>
     ensures no_fault { IfOk result (λ _. HasNoFault text.now) }
     ensures project { IfOk result (IsProject (rows_in (items_of text.now))) }
     ensures sound { IfOk result IsSound }
@@ -69,11 +69,7 @@ pub(crate) fn network_of(alloc: Global, text: &[u8]) -> Result<Project, Unread>
 }
 
 /// Opens and reads the whole of NET: its network, or why there is none.
-pub(crate) fn read_network<D: Desk>(
-    alloc: Global,
-    net: &str,
-    desk: &mut D,
-) -> Result<Project, Unread>
+pub fn read_network<D: Desk>(alloc: Global, net: &str, desk: &mut D) -> Result<Project, Unread>
     requires { IsTrue (D.may_open net.now) }
     ensures no_fault { (text : List ℕ) → IsTold (D.files desk.old) net.now text
         → IfOk result (λ _. HasNoFault text) }

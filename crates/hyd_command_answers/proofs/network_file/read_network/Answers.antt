@@ -3,8 +3,8 @@ use Rattle.std.proofs.Common.{◌≡◌, ◌∙◌, ℕ, List, IfOk, IfErr, subs
 use Rattle.hyd_spec_lines.specs.Lines.{items_of, rows_in}
 use Rattle.hyd_spec_input.specs.Faults.{IsFault, HasNoFault}
 use Rattle.hyd_spec_input.specs.Project.{IsProject}
-use Rattle.hyd_cli.specs.NetworkOrFault.{IfFault}
-use Rattle.hyd_cli.proofs.network_file.read_network.Goals as goal
+use Rattle.hyd_command_answers.specs.NetworkOrFault.{IfFault}
+use Rattle.hyd_command_answers.proofs.network_file.read_network.Goals as goal
 
 pub returns-in-Ok-Some-clause-no_fault : goal.returns-in-Ok-Some-clause-no_fault
 returns-in-Ok-Some-clause-no_fault g c text told =

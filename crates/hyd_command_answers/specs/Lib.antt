@@ -1,0 +1,5 @@
+pub mod Statuses
+pub mod DeskContents
+pub mod FaultsAndRefusals
+pub mod OpeningsOfRuns
+pub mod NetworkOrFault

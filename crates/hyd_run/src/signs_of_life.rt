@@ -1,0 +1,69 @@
+//! What shows a person that a run goes on.
+
+use hyd_io::{Desk, Pace};
+use hyd_sim::Sim;
+use std::fmt::{self, Display, Formatter};
+
+/// How often it is shown how far a run is, in milliseconds.
+const SHOWN: u64 = 200;
+
+/// How often what the report's pen holds is put out, in milliseconds.
+const PUT_OUT: u64 = 1000;
+
+/// How far a run is, when it was shown last, and when the report's pen was emptied last.
+#[derive(Clone, Copy)]
+pub(crate) struct Signs {
+    shown: Pace,
+    /// When the report's pen is to be emptied.
+    pub(crate) put_out: Pace,
+}
+
+/// How far a run is: `12:00 of 168:00, 31 periods`.
+#[derive(Clone, Copy)]
+struct Progress {
+    /// Both in seconds.
+    time: u32,
+    duration: u32,
+    periods: u32,
+}
+
+// Hours and minutes.
+#[derive(Clone, Copy)]
+struct HoursAndMinutes(u32);
+
+impl Display for HoursAndMinutes {
+    fn fmt<W: fmt::Write>(&self, f: &mut Formatter<W>) -> fmt::Result {
+        let minutes = self.0 / 60;
+        write!(f, "{}:{:02}", minutes / 60, minutes % 60)
+    }
+}
+
+impl Display for Progress {
+    fn fmt<W: fmt::Write>(&self, f: &mut Formatter<W>) -> fmt::Result {
+        let time = HoursAndMinutes(self.time);
+        let duration = HoursAndMinutes(self.duration);
+        write!(f, "{time} of {duration}, {} periods", self.periods)
+    }
+}
+
+impl Signs {
+    /// The signs of a run that begins now.
+    pub(crate) fn new<D: Desk>(desk: &D) -> Signs {
+        let now = desk.milliseconds();
+        Signs {
+            shown: Pace::new(SHOWN, now),
+            put_out: Pace::new(PUT_OUT, now),
+        }
+    }
+
+    /// Shows how far a run is, where that is due.
+    pub(crate) fn show<D: Desk>(&mut self, sim: &Sim, desk: &D) {
+        if self.shown.is_due(desk.milliseconds()) {
+            desk.show(&Progress {
+                time: sim.time(),
+                duration: sim.project().times.duration,
+                periods: sim.number(),
+            });
+        }
+    }
+}
