@@ -42,6 +42,14 @@ def network(fuzz, rng):
     return change_numbers(rng, text) if how < 4 else text
 
 
+def junctions_of(cli, text):
+    """The names of a text's junctions; none where it has a fault."""
+    try:
+        return [junction.id.decode('latin-1') for junction in cli.read_project(text, 'f').junctions]
+    except Exception:
+        return []
+
+
 def first_pressures(program, folder):
     """The lower ends of the junctions' pressures in the first period, by their names, as far as a run gives them."""
     done = ended(program, folder, ['run', 'n.inp', 'n.cert'])
@@ -58,11 +66,7 @@ def first_pressures(program, folder):
 def question(cli, program, folder, rng, text, is_fire):
     """The words of a command on the text."""
     pressures = first_pressures(program, folder)
-    try:
-        junctions = [junction.id.decode('latin-1') for junction in cli.read_project(text, 'f').junctions]
-    except Exception:
-        junctions = []
-    names = junctions or ['J']
+    names = junctions_of(cli, text) or ['J']
     name = rng.choice(names)
     near = pressures.get(name, rng.choice(list(pressures.values())) if pressures else None)
     if near is None or rng.randrange(6) == 0:
@@ -102,6 +106,8 @@ def compared(job):
     import fuzz
     rng = random.Random(seed)
     text = network(fuzz, rng)
+    while not junctions_of(cli, text) and rng.randrange(10):
+        text = network(fuzz, rng)
     with tempfile.TemporaryDirectory() as folder:
         (Path(folder) / 'n.inp').write_bytes(text)
         words = question(cli, program, folder, rng, text, is_fire)

@@ -5,16 +5,21 @@ use Rattle.std.proofs.lemmas.Bool.{false≢true}
 use Rattle.std.proofs.lemmas.Option.{same_Some}
 use Rattle.std.proofs.lemmas.Slice.Eq.{bytes_eq-Decides}
 use Rattle.hyd_command_words.specs.OptionsAndNames.{Word, Said, said}
-use Rattle.hyd_command_words.specs.CommandGrammar.{RunOrder, GenOrder, TwoFiles, run, check, gen, order_of}
+use Rattle.hyd_command_words.specs.CommandGrammar.{RunOrder, GenOrder, TwoFiles, run, check, gen, order_of, Order}
+use Rattle.hyd_command_words.specs.CommandGrammar.{FireOrder, ClosuresOrder, fire, closures, fire_command}
+use Rattle.hyd_command_words.specs.CommandGrammar.{closures_command, fire_order, closures_order, has_rounds_at_most}
+use Rattle.hyd_command_words.specs.CommandGrammar.{rounds_of}
 use Rattle.hyd_command_words.specs.CommandGrammar.{run_order, run_command, check_command, gen_command, gen_order}
 use Rattle.hyd_command_words.specs.CommandGrammar.{differing}
 use Rattle.hyd_command_words.specs.CommandGrammar.{two_files, seed_of, junctions_of, has_names_alone}
 use Rattle.std.specs.Prelude.{codes}
-use Rattle.hyd_command_words.specs.CommandView.{order_seen, run_seen, files_seen, gen_seen}
+use Rattle.hyd_command_words.specs.CommandView.{order_seen, run_seen, files_seen, gen_seen, fire_seen, closures_seen}
 use Rattle.hyd_command_words.specs.declared.command.Command.{Command}
-use Rattle.hyd_command_words.specs.declared.command.Command.TheVariants.{Run, Check, Gen}
+use Rattle.hyd_command_words.specs.declared.command.Command.TheVariants.{Run, Check, Gen, Fire, Closures}
 use Rattle.hyd_command_words.specs.declared.command.Files.{Files}
 use Rattle.hyd_command_words.specs.declared.command.GenWords.{GenWords}
+use Rattle.hyd_command_words.specs.declared.command.FireWords.{FireWords}
+use Rattle.hyd_command_words.specs.declared.command.ClosuresWords.{ClosuresWords}
 use Rattle.hyd_command_words.specs.declared.command.RunWords.{RunWords}
 
 -- ---- names that differ
@@ -69,21 +74,46 @@ is_gen : (b : Bool) (found : Option GenOrder) (order : GenOrder)
 is_gen true found order e = same_gen found order e
 is_gen false found order e = absurd (cc)
 
-by_name : (is_run is_check is_gen_word : Bool) (s : Said) (order : GenOrder)
+-- a command that takes rounds at most, and makes another kind of order
+not_by_rounds : {X : Type 0} (b : Bool) (rounds : Option ℕ) (make : X → Order) (found : ℕ → Option X)
+    (order : GenOrder) → ((x : X) → make x ≡ gen order → ⊥)
+    → (if b then option_and_then (λ n. option_map make (found n)) rounds else None) ≡ Some (gen order) → ⊥
+not_by_rounds false rounds make found order other e = cc
+not_by_rounds true None make found order other e = cc
+not_by_rounds {X = X} true (Some n) make found order other e = go (found n) e
+  where
+    go : (one : Option X) → option_map make one ≡ Some (gen order) → ⊥
+    go None h = cc
+    go (Some x) h = other x (same_Some _ _ h)
+
+not_fire : (s : Said) (order : GenOrder) → fire_command s ≡ Some (gen order) → ⊥
+not_fire s order e = not_by_rounds (has_rounds_at_most s) (rounds_of s.sweeps_values) fire
+    (λ n. fire_order n s.names) order (λ x h. cc) e
+
+not_closures : (s : Said) (order : GenOrder) → closures_command s ≡ Some (gen order) → ⊥
+not_closures s order e = not_by_rounds (has_rounds_at_most s) (rounds_of s.sweeps_values) closures
+    (λ n. closures_order n s.names) order (λ x h. cc) e
+
+by_name : (is_run is_check is_gen_word is_fire is_closures : Bool) (s : Said) (order : GenOrder)
     → (if is_run then run_command s else (if is_check then check_command s
-    else (if is_gen_word then gen_command s else None))) ≡ Some (gen order) → order.files.net ≢ order.files.cert
-by_name true b c s order e = absurd (not_run (run_order s) order e)
-by_name false true c s order e = absurd (not_check (has_names_alone s) (two_files s.names) order e)
-by_name false false true s order e = gen_apart s.names order (is_gen (has_names_alone s) (gen_order s.names) order e)
-by_name false false false s order e = absurd (cc)
+    else (if is_gen_word then gen_command s else (if is_fire then fire_command s
+    else (if is_closures then closures_command s else None))))) ≡ Some (gen order)
+    → order.files.net ≢ order.files.cert
+by_name true b c d f s order e = absurd (not_run (run_order s) order e)
+by_name false true c d f s order e = absurd (not_check (has_names_alone s) (two_files s.names) order e)
+by_name false false true d f s order e =
+    gen_apart s.names order (is_gen (has_names_alone s) (gen_order s.names) order e)
+by_name false false false true f s order e = absurd (not_fire s order e)
+by_name false false false false true s order e = absurd (not_closures s order e)
+by_name false false false false false s order e = absurd (cc)
 
 -- the two names of `gen` differ
 pub names_apart : (words : List Word) (order : GenOrder) → order_of words ≡ Some (gen order)
     → order.files.net ≢ order.files.cert
 names_apart [] order e = absurd (cc)
 names_apart (word ∷ behind) order e =
-    by_name (bytes_eq word (codes "run")) (bytes_eq word (codes "check")) (bytes_eq word (codes "gen")) (said behind)
-    order e
+    by_name (bytes_eq word (codes "run")) (bytes_eq word (codes "check")) (bytes_eq word (codes "gen"))
+    (bytes_eq word (codes "fire")) (bytes_eq word (codes "closures")) (said behind) order e
 
 -- ---- the command that was found is the one that was asked for
 
@@ -103,4 +133,17 @@ pub same_gen_order : (words : GenWords) (found : Option Command) (order : GenOrd
     → option_map order_seen found ≡ Some (gen order) → order ≡ gen_seen words
 same_gen_order words found order is asked =
     let known : Some (gen (gen_seen words)) ≡ Some (gen order) = rw is at asked in
+    cc
+
+pub same_fire : (words : FireWords) (found : Option Command) (order : FireOrder) → found ≡ Some (Fire words)
+    → option_map order_seen found ≡ Some (fire order) → order ≡ fire_seen words
+same_fire words found order is asked =
+    let known : Some (fire (fire_seen words)) ≡ Some (fire order) = rw is at asked in
+    cc
+
+pub same_closures : (words : ClosuresWords) (found : Option Command) (order : ClosuresOrder)
+    → found ≡ Some (Closures words) → option_map order_seen found ≡ Some (closures order)
+    → order ≡ closures_seen words
+same_closures words found order is asked =
+    let known : Some (closures (closures_seen words)) ≡ Some (closures order) = rw is at asked in
     cc

@@ -11,23 +11,26 @@ use Rattle.hyd_net.specs.declared.refusal_cause.Cause.{Cause}
 use Rattle.hyd_spec.specs.ProgramTypes.{Project}
 use Rattle.hyd_spec_input.specs.Project.{IsProject}
 use Rattle.hyd_report.specs.RefusedText.{refused_text_line}
-use Rattle.hyd_command_words.specs.CommandGrammar.{Order, run, check, gen}
+use Rattle.hyd_command_words.specs.CommandGrammar.{Order, run, check, gen, fire, closures}
 use Rattle.hyd_cli.specs.WordsAndUsageLine.{usage_line}
 use Rattle.hyd_command_answers.specs.declared.status.Status.{Status}
 use Rattle.hyd_command_answers.specs.declared.status.Status.TheVariants.{OutOfMemory, Usage, ReadFault, WriteFault}
 use Rattle.hyd_command_answers.specs.declared.status.Status.TheVariants.{InputRefused, Stalled}
 use Rattle.hyd_command_answers.specs.DeskContents.{Seen, IsUntouched, OnlyPrinted, OnlyPrintedFront, OnlyPrintedSome}
+use Rattle.hyd_target_commands.specs.CommandsOnTargets.{LeavesNet}
 
 -- ---- names
 
--- What a command asks of the desk: `run` opens NET and creates CERT, `check` opens both, and `gen` creates both. Words
--- that aren't a command ask for nothing.
+-- What a command asks of the desk: `run` opens NET and creates CERT, `check` opens both, `gen` creates both, and `fire`
+-- and `closures` open NET. Words that aren't a command ask for nothing.
 abbrev pub MayUse : (may_open may_create : List ℕ → Bool) → Option Order → Type 0
 MayUse may_open may_create None = ⊤
 MayUse may_open may_create (Some (run order)) = IsTrue (may_open order.files.net) × IsTrue (may_create order.files.cert)
 MayUse may_open may_create (Some (check files)) = IsTrue (may_open files.net) × IsTrue (may_open files.cert)
 MayUse may_open may_create (Some (gen order)) = IsTrue (may_create order.files.net) × IsTrue (may_create
     order.files.cert)
+MayUse may_open may_create (Some (fire order)) = IsTrue (may_open order.net)
+MayUse may_open may_create (Some (closures order)) = IsTrue (may_open order.net)
 
 -- ---- words that aren't a command
 
@@ -65,3 +68,5 @@ Leaves None status before now = LeavesRun status before now
 Leaves (Some (run order)) status before now = LeavesRun status before now
 Leaves (Some (check files)) status before now = LeavesCheck status before now
 Leaves (Some (gen order)) status before now = LeavesRun status before now
+Leaves (Some (fire order)) status before now = LeavesNet status before now
+Leaves (Some (closures order)) status before now = LeavesNet status before now

@@ -1,4 +1,4 @@
-//! The command `hyd`: what it does for `run`, `check` and `gen`, what it says on standard error, and the call `tool` that
+//! The command `hyd`: what it does for its commands, what it says on standard error, and the call `tool` that
 //! the program makes.
 //!
 //! Tested by `hyd_stored_runs`.

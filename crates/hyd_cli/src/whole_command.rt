@@ -2,13 +2,14 @@
 
 ghost use Rattle.std.specs.Prelude.{◌≡◌, ◌≢◌, Option, Some, None, map, option_map, string_bytes};
 ghost use Rattle.hyd_command_words.specs.CommandGrammar.{Order, RunOrder, GenOrder, TwoFiles, order_of, run, check};
-ghost use Rattle.hyd_command_words.specs.CommandGrammar.{gen};
+ghost use Rattle.hyd_command_words.specs.CommandGrammar.{gen, FireOrder, ClosuresOrder, fire, closures};
 ghost use Rattle.hyd_command_words.specs.CommandView.{order_seen};
 ghost use Rattle.hyd_command_answers.specs.DeskContents.{seen};
 ghost use Rattle.hyd_cli.specs.Answers.{MayUse, Leaves};
 ghost use Rattle.hyd_command_answers.specs.FaultsAndRefusals.{HasCause};
 ghost use Rattle.hyd_cli.specs.Answers.{AnswersUsage};
 ghost use Rattle.hyd_cli.specs.Commands.{DoesRun, DoesCheck, DoesGen};
+ghost use Rattle.hyd_target_commands.specs.CommandsOnTargets.{DoesFire, DoesClosures};
 ghost use Rattle.hyd_command_answers.specs.declared.status.Status.TheVariants.{Usage};
 
 use crate::command_check::check_files;
@@ -19,6 +20,7 @@ use crate::usage::print_usage;
 use hyd_command_answers::{Status, fault_status};
 use hyd_command_words::{Command, read_words};
 use hyd_io::Desk;
+use hyd_target_commands::{close_pipes, find_bracket};
 use std::alloc::Global;
 
 /// Runs the command of the words after the program's name.
@@ -27,15 +29,19 @@ use std::alloc::Global;
 ///   prints its report.
 /// - `check NET CERT` reads both, and prints the report of the certificate as far as it is right.
 /// - `gen SEED JUNCTIONS NET CERT` makes a network, writes it to NET, runs it as `run` does, and prints a summary.
+/// - `fire NET J P [--sweeps N]` reads the network of NET, and prints how much may be drawn at junction J with the
+///   pressure P there.
+/// - `closures NET P [--sweeps N]` reads the network of NET, and prints which junctions keep the pressure P while each
+///   pipe is shut alone.
 ///
 /// NET and CERT are each opened or created once at most. What is created, and CERT of a check, waits until all memory
 /// is taken that the command needs. `gen` replaces NET before CERT is created, and leaves CERT as it was unless NET
 /// holds the whole text.
 ///
 /// - `Usage`: the words aren't a command.
-/// - `InputRefused`: the text of the network has a fault (one of more than 64 MiB among them).
-/// - `Done`: the run finished, or the certificate was accepted.
-/// - `Undecided`, `RoundsSpent`, `Demand`: how a run was stopped.
+/// - `InputRefused`: the text of the network has a fault (one of more than 64 MiB among them), or J is no junction of it.
+/// - `Done`: the run finished, the certificate was accepted, or the lines of `fire` or `closures` were printed.
+/// - `Undecided`, `RoundsSpent`, `Demand`: how a run was stopped; `Demand` of `fire` and `closures` too.
 /// - `CertificateRefused`: the certificate's lines, a record or its END line aren't right.
 /// - `OutOfMemory`: nothing was created, written or printed.
 /// - `ReadFault`, `WriteFault`, `Stalled`: a call on the desk failed or took nothing. Nothing more was called then.
@@ -57,6 +63,12 @@ pub fn tool<D: Desk>(alloc: Global, words: &[String], desk: &mut D) -> Status
     ensures generates { (order : GenOrder) → order_of (map string_bytes words.now) ≡ Some (gen order) → DoesGen order
         result (seen D.files D.written D.printed desk.old) (seen D.files D.written D.printed desk.new)
         (D.openings desk.old) (D.openings desk.new) (D.ready desk.new) }
+    ensures fires { (order : FireOrder) → order_of (map string_bytes words.now) ≡ Some (fire order) → DoesFire order result
+        (seen D.files D.written D.printed desk.old) (seen D.files D.written D.printed desk.new)
+        (D.openings desk.old) (D.openings desk.new) }
+    ensures closes { (order : ClosuresOrder) → order_of (map string_bytes words.now) ≡ Some (closures order) → DoesClosures order
+        result (seen D.files D.written D.printed desk.old) (seen D.files D.written D.printed desk.new)
+        (D.openings desk.old) (D.openings desk.new) }
 {
     match read_words(alloc, words) {
         Ok(found) => carry_out(alloc, found, desk),
@@ -85,6 +97,12 @@ fn carry_out<D: Desk>(alloc: Global, found: Option<Command<'_>>, desk: &mut D) -
     ensures generates { (order : GenOrder) → option_map order_seen found.entry ≡ Some (gen order) → DoesGen order result
         (seen D.files D.written D.printed desk.old) (seen D.files D.written D.printed desk.new)
         (D.openings desk.old) (D.openings desk.new) (D.ready desk.new) }
+    ensures fires { (order : FireOrder) → option_map order_seen found.entry ≡ Some (fire order) → DoesFire order result
+        (seen D.files D.written D.printed desk.old) (seen D.files D.written D.printed desk.new)
+        (D.openings desk.old) (D.openings desk.new) }
+    ensures closes { (order : ClosuresOrder) → option_map order_seen found.entry ≡ Some (closures order) → DoesClosures order
+        result (seen D.files D.written D.printed desk.old) (seen D.files D.written D.printed desk.new)
+        (D.openings desk.old) (D.openings desk.new) }
 {
     match found {
         Some(Command::Run(words)) => run_files(
@@ -96,6 +114,8 @@ fn carry_out<D: Desk>(alloc: Global, found: Option<Command<'_>>, desk: &mut D) -
         ),
         Some(Command::Check(files)) => check_files(alloc, files.net, files.cert, desk),
         Some(Command::Gen(words)) => generate_network(alloc, &words, desk),
+        Some(Command::Fire(words)) => find_bracket(alloc, &words, desk),
+        Some(Command::Closures(words)) => close_pipes(alloc, &words, desk),
         None => refuse_words(desk),
     }
 }

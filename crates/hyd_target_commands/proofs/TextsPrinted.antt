@@ -5,11 +5,12 @@ use Rattle.std.proofs.lemmas.Result.{on_ok_weaker, on_err_weaker}
 use Rattle.hyd_io.specs.declared.desk.Faults.{Faults}
 use Rattle.hyd_io.specs.declared.desk.Openings.{Openings}
 use Rattle.hyd_io.specs.declared.output.OutFault.{OutFault}
+use Rattle.hyd_io.specs.declared.output.Channel.{Channel}
 use Rattle.hyd_io.specs.declared.output.Channel.TheVariants.{Report}
 use Rattle.hyd_io.specs.DeskBytes.{Files, PutOut}
-use Rattle.hyd_io.specs.Output.{HasOutCause, PenState}
+use Rattle.hyd_io.specs.Output.{by_channel, HasOutCause, PenState}
 use Rattle.hyd_io.specs.TextPutIn.{Puts, PenEmptied}
-use Rattle.hyd_run.proofs.PenLemmas.{on-report, second-out}
+use Rattle.hyd_io.proofs.PutLemmas.{on-report}
 use Rattle.hyd_num.specs.Rational.{Rational}
 use Rattle.hyd_spec.specs.ProgramTypes.{Project}
 use Rattle.hyd_spec_pressure_targets.specs.PromisesOfTargets.{ClosuresBreakOff}
@@ -17,6 +18,10 @@ use Rattle.hyd_targets.specs.ClosuresPutOut.{AreSoFar}
 use Rattle.hyd_command_answers.specs.DeskContents.{Seen, seen, OnlyPrinted, OnlyPrintedFront}
 use Rattle.hyd_command_answers.proofs.PrintLemmas.{printed_whole, printed_front, cause_since}
 use Rattle.hyd_target_commands.specs.PrintedTexts.{Prints, PrintsFront}
+
+on-second : (to : Channel) (w p w' p' : Option (List ℕ)) (all : List ℕ) → to ≡ Report
+    → PutOut (by_channel to w p) (by_channel to w' p') all → PutOut p p' all
+on-second to w p w' p' all e m = subst (λ (c : Channel). PutOut (by_channel c w p) (by_channel c w' p') all) e m
 
 abbrev pub IsNewReport : PenState → Type 0
 IsNewReport pen = pen ≡ record { to = Report; fault = None; held = [] }
@@ -37,7 +42,7 @@ module _ {S : Type 0} {files : S → Option Files} {rest written printed target 
       files = on-report p.to _ on-standard-output put.report_files;
       written = on-report p.to _ on-standard-output put.report_written;
       printed = subst (λ (held : List ℕ). PutOut (printed a) (printed b) (held ++ text)) empty
-          (second-out p.to (written a) (printed a) (written b) (printed b) (p.held ++ text) on-standard-output
+          (on-second p.to (written a) (printed a) (written b) (printed b) (p.held ++ text) on-standard-output
           put.front);
     }
 

@@ -13,8 +13,9 @@ ghost use Rattle.hyd_targets.specs.ClosuresPutOut.{AreSoFar};
 
 use crate::inquiry::Inquiry;
 use crate::one_closure::put_closure;
+use crate::signs_of_life::Signs;
 use hyd_io::{Desk, OutFault, Pen};
-use hyd_net::{LinkKind, Project};
+use hyd_net::{Link, LinkKind, Project};
 use hyd_report::put_done;
 
 // Whether a link is a pipe.
@@ -25,6 +26,17 @@ fn is_pipe(kind: &LinkKind) -> bool
         LinkKind::Pipe(_) | LinkKind::CheckPipe(_) => true,
         _ => false,
     }
+}
+
+// How many pipes there are, for what is shown of them.
+fn pipe_count(links: &[Link]) -> u32 {
+    let mut count = 0u32;
+    for link in links {
+        if is_pipe(&link.kind) {
+            count = count.saturating_add(1);
+        }
+    }
+    count
 }
 
 /// Shuts each pipe alone in the first period, in order, and puts the lines of each closure, and their number behind
@@ -51,9 +63,11 @@ pub fn put_closures<D: Desk>(
         text result pen.old pen.new desk.old desk.new)) }
 {
     let links = project.links.as_slice();
+    let mut signs = Signs::new(pipe_count(links), desk);
     let mut count = 0;
     for link in 0..links.len() as u32 {
         if is_pipe(&links[link as usize].kind) {
+            signs.show(count, desk);
             match put_closure(project, inquiry, link, rounds, pen, desk) {
                 Ok(()) => {}
                 Err(fault) => return Err(fault),

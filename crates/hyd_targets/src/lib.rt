@@ -5,6 +5,7 @@ mod bracket;
 mod closures;
 mod inquiry;
 mod one_closure;
+mod signs_of_life;
 mod target_heads;
 
 pub use bracket::put_bracket;

@@ -13,3 +13,13 @@ pub returns-in-Ok-clause-generates : goal.returns-in-Ok-clause-generates
 returns-in-Ok-clause-generates g c order asked =
     c.tool.ensures.generates order (ap order_of (ap (map string_bytes) c.deref.ensures.value
     ∙ c.in-Ok.ensures.words) ∙ asked)
+
+pub returns-in-Ok-clause-fires : goal.returns-in-Ok-clause-fires
+returns-in-Ok-clause-fires g c order asked =
+    c.tool.ensures.fires order (ap order_of (ap (map string_bytes) c.deref.ensures.value ∙ c.in-Ok.ensures.words)
+    ∙ asked)
+
+pub returns-in-Ok-clause-closes : goal.returns-in-Ok-clause-closes
+returns-in-Ok-clause-closes g c order asked =
+    c.tool.ensures.closes order (ap order_of (ap (map string_bytes) c.deref.ensures.value ∙ c.in-Ok.ensures.words)
+    ∙ asked)

@@ -2,14 +2,16 @@
 use Rattle.std.proofs.Common.{◌≡◌, Option, Some, option_map, sym, ap, ◌∙◌, subst}
 use Rattle.hyd_sim.specs.declared.settings.Settings.{Settings}
 use Rattle.hyd_command_words.specs.CommandGrammar.{Order, RunOrder, GenOrder, TwoFiles, check, gen}
-use Rattle.hyd_command_words.specs.CommandView.{order_seen, run_seen, gen_seen, files_seen}
+use Rattle.hyd_command_words.specs.CommandGrammar.{FireOrder, ClosuresOrder, fire, closures}
+use Rattle.hyd_command_words.specs.CommandView.{order_seen, run_seen, gen_seen, files_seen, fire_seen, closures_seen}
 use Rattle.hyd_command_words.specs.declared.command.Command.{Command}
-use Rattle.hyd_command_words.specs.declared.command.Command.TheVariants.{Run, Check, Gen}
+use Rattle.hyd_command_words.specs.declared.command.Command.TheVariants.{Run, Check, Gen, Fire, Closures}
 use Rattle.hyd_command_answers.specs.DeskContents.{seen}
 use Rattle.hyd_cli.specs.Answers.{Leaves}
 use Rattle.hyd_cli.specs.RunAnswers.{AnswersText}
 use Rattle.hyd_cli.specs.Commands.{DoesRun, DoesCheck, DoesGen}
-use Rattle.hyd_cli.proofs.CommandsOfWords.{same_run, same_check, same_gen_order}
+use Rattle.hyd_target_commands.specs.CommandsOnTargets.{DoesFire, DoesClosures}
+use Rattle.hyd_cli.proofs.CommandsOfWords.{same_run, same_check, same_gen_order, same_fire, same_closures}
 use Rattle.hyd_cli.proofs.whole_command.carry_out.Goals as goal
 
 pub returns-in-Some-Run-clause-runs : goal.returns-in-Some-Run-clause-runs
@@ -86,4 +88,56 @@ returns-in-Some-Gen-clause-generates g c order asked =
       once = c.generate_network.ensures.once;
       keeps_cert = c.generate_network.ensures.keeps_cert;
       keeps_net = c.generate_network.ensures.keeps_net;
+    })
+
+pub returns-in-Some-Fire-clause-leaves : goal.returns-in-Some-Fire-clause-leaves
+returns-in-Some-Fire-clause-leaves g c =
+    let words = c.in-Some-Fire.words in
+    let kind : c.in-Some-Fire.field-0 ≡ Fire words = rw c.in-Some-Fire.is at c.in-Some-Fire.field-0-is in
+    let found : c.args.found ≡ Some (Fire words) = c.in-Some-Fire.is ∙ ap Some kind in
+    let before = seen g.D.Desk.files g.D.Desk.written g.D.Desk.printed c.args.desk.now in
+    let now = seen g.D.Desk.files g.D.Desk.written g.D.Desk.printed c.find_bracket.new.desk in
+    let known : option_map order_seen c.args.found ≡ Some (fire (fire_seen words)) =
+    ap (λ (f : Option Command). option_map order_seen f) found in
+    subst (λ (o : Option Order). Leaves o c.find_bracket.result before now) (sym known) c.find_bracket.ensures.leaves
+
+pub returns-in-Some-Fire-clause-fires : goal.returns-in-Some-Fire-clause-fires
+returns-in-Some-Fire-clause-fires g c order asked =
+    let words = c.in-Some-Fire.words in
+    let kind : c.in-Some-Fire.field-0 ≡ Fire words = rw c.in-Some-Fire.is at c.in-Some-Fire.field-0-is in
+    let found : c.args.found ≡ Some (Fire words) = c.in-Some-Fire.is ∙ ap Some kind in
+    let before = seen g.D.Desk.files g.D.Desk.written g.D.Desk.printed c.args.desk.now in
+    let now = seen g.D.Desk.files g.D.Desk.written g.D.Desk.printed c.find_bracket.new.desk in
+    subst (λ (o : FireOrder). DoesFire o c.find_bracket.result before now (g.D.Desk.openings c.args.desk.now)
+    (g.D.Desk.openings c.find_bracket.new.desk)) (sym (same_fire words c.args.found order found asked)) (record {
+      refused = c.find_bracket.ensures.refused;
+      fires = c.find_bracket.ensures.fires;
+      only_prints = c.find_bracket.ensures.only_prints;
+      once = c.find_bracket.ensures.once;
+    })
+
+pub returns-in-Some-Closures-clause-leaves : goal.returns-in-Some-Closures-clause-leaves
+returns-in-Some-Closures-clause-leaves g c =
+    let words = c.in-Some-Closures.words in
+    let kind : c.in-Some-Closures.field-0 ≡ Closures words = rw c.in-Some-Closures.is at c.in-Some-Closures.field-0-is in
+    let found : c.args.found ≡ Some (Closures words) = c.in-Some-Closures.is ∙ ap Some kind in
+    let before = seen g.D.Desk.files g.D.Desk.written g.D.Desk.printed c.args.desk.now in
+    let now = seen g.D.Desk.files g.D.Desk.written g.D.Desk.printed c.close_pipes.new.desk in
+    let known : option_map order_seen c.args.found ≡ Some (closures (closures_seen words)) =
+    ap (λ (f : Option Command). option_map order_seen f) found in
+    subst (λ (o : Option Order). Leaves o c.close_pipes.result before now) (sym known) c.close_pipes.ensures.leaves
+
+pub returns-in-Some-Closures-clause-closes : goal.returns-in-Some-Closures-clause-closes
+returns-in-Some-Closures-clause-closes g c order asked =
+    let words = c.in-Some-Closures.words in
+    let kind : c.in-Some-Closures.field-0 ≡ Closures words = rw c.in-Some-Closures.is at c.in-Some-Closures.field-0-is in
+    let found : c.args.found ≡ Some (Closures words) = c.in-Some-Closures.is ∙ ap Some kind in
+    let before = seen g.D.Desk.files g.D.Desk.written g.D.Desk.printed c.args.desk.now in
+    let now = seen g.D.Desk.files g.D.Desk.written g.D.Desk.printed c.close_pipes.new.desk in
+    subst (λ (o : ClosuresOrder). DoesClosures o c.close_pipes.result before now (g.D.Desk.openings c.args.desk.now)
+    (g.D.Desk.openings c.close_pipes.new.desk)) (sym (same_closures words c.args.found order found asked)) (record {
+      refused = c.close_pipes.ensures.refused;
+      closes = c.close_pipes.ensures.closes;
+      only_prints = c.close_pipes.ensures.only_prints;
+      once = c.close_pipes.ensures.once;
     })

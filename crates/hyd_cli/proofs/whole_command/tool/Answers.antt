@@ -14,3 +14,9 @@ returns-in-Ok-clause-runs g c order asked = c.carry_out.ensures.runs order (c.in
 pub returns-in-Ok-clause-generates : goal.returns-in-Ok-clause-generates
 returns-in-Ok-clause-generates g c order asked =
     c.carry_out.ensures.generates order (c.in-Ok.ensures.command ∙ asked)
+
+pub returns-in-Ok-clause-fires : goal.returns-in-Ok-clause-fires
+returns-in-Ok-clause-fires g c order asked = c.carry_out.ensures.fires order (c.in-Ok.ensures.command ∙ asked)
+
+pub returns-in-Ok-clause-closes : goal.returns-in-Ok-clause-closes
+returns-in-Ok-clause-closes g c order asked = c.carry_out.ensures.closes order (c.in-Ok.ensures.command ∙ asked)
