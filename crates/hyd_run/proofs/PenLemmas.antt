@@ -8,7 +8,7 @@ use Rattle.hyd_io.specs.declared.output.OutFault.{OutFault}
 use Rattle.hyd_io.specs.declared.output.Channel.{Channel}
 use Rattle.hyd_io.specs.declared.output.Channel.TheVariants.{Cert, Report}
 use Rattle.hyd_io.specs.DeskBytes.{Files, Moves, PutOut, append_known}
-use Rattle.hyd_io.specs.Output.{by_channel, OnCert, OnReport, HasOutCause, PenState}
+use Rattle.hyd_io.specs.Output.{by_channel, OnCert, HasOutCause, PenState}
 use Rattle.hyd_io.proofs.MovedBytesLemmas.{moves_then, moves_all, append_known-nil, append_known-append_known}
 use Rattle.hyd_io.proofs.PutLemmas.{on-report}
 use Rattle.hyd_io.specs.TextPutIn.{Puts}

@@ -16,7 +16,7 @@ ghost use Rattle.hyd_theorems_on_definitions.specs.SoundLawsAndGrids.{TanksInOrd
 ghost use Rattle.hyd_period_network.specs.NetAsPeriodNetwork.{grid_of, states_of};
 ghost use Rattle.hyd_period_network.specs.NetsSetToPeriods.{IsNetOf};
 ghost use Rattle.hyd_period_network.specs.LawsInSettings.{AreStates};
-ghost use Rattle.hyd_report.specs.NodeAndLinkLines.{texts, AreBounds};
+ghost use Rattle.hyd_report.specs.NodeAndLinkLines.{texts};
 ghost use Rattle.hyd_report.specs.PeriodLines.{AreBounds, AreTankFacts, lines_of};
 ghost use Rattle.hyd_cert.specs.RecordView.{row_of};
 ghost use Rattle.hyd_io.specs.TextPutIn.{Puts};
