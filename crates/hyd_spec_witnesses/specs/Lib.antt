@@ -1,0 +1,9 @@
+pub mod EnclosingFunctionsAtScale
+pub mod DemandsAtScale
+pub mod MetFlows
+pub mod MetPeriods
+pub mod FirstUnmetClause
+pub mod MiddleCandidate
+pub mod WitnessText
+pub mod FaultyLine
+pub mod PromisesOfWitnesses
