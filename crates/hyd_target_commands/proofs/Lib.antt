@@ -1,3 +1,2 @@
-pub mod NamesOfJunctions
 pub mod TextsPrinted
 pub mod StatusesOfTargets

@@ -1,6 +1,7 @@
 -- What each status of the two commands leaves.
 use Rattle.std.proofs.Common.{◌≡◌, ◌≢◌, ◌∙◌, ◌⊎◌, inl, inr, ℕ, List, [], Option, Some, None, refl, sym, ap, subst}
-use Rattle.std.proofs.Common.{append-nil, ⊤}
+use Rattle.std.proofs.Common.{append-nil}
+use Rattle.std.specs.Prelude.{⊤}
 use Rattle.hyd_io.specs.declared.desk.Openings.{Openings}
 use Rattle.hyd_io.specs.declared.output.OutFault.{OutFault}
 use Rattle.hyd_io.specs.declared.output.OutFault.TheVariants.{Fault, Stalled as Stall}
@@ -14,11 +15,11 @@ use Rattle.hyd_spec.specs.ProgramTypes.{Project}
 use Rattle.hyd_spec_certificates.specs.Valid.{DemandsAreInRange}
 use Rattle.hyd_spec_input.specs.Project.{IsProject}
 use Rattle.hyd_spec_pressure_targets.specs.PromisesOfTargets.{IsJunctionNamed, NamesNoJunction, FindsBracket}
-use Rattle.hyd_spec_pressure_targets.specs.PromisesOfTargets.{FindsClosures, ClosuresBreakOff, NamesDemand}
+use Rattle.hyd_spec_pressure_targets.specs.PromisesOfTargets.{FindsClosures, ClosuresBreakOff}
 use Rattle.hyd_report.specs.RefusedText.{refused_text_line}
 use Rattle.hyd_command_words.specs.CommandGrammar.{FireOrder, ClosuresOrder}
 use Rattle.hyd_command_answers.specs.DeskContents.{Seen, IsUntouched, OnlyPrinted, OnlyPrintedFront, OnlyPrintedSome}
-use Rattle.hyd_command_answers.specs.FaultsAndRefusals.{AnswersRefused, OfNetwork, PrintsRefusal, status_of_fault}
+use Rattle.hyd_command_answers.specs.FaultsAndRefusals.{AnswersRefused, PrintsRefusal, status_of_fault}
 use Rattle.hyd_command_answers.specs.OpeningsOfRuns.{OpensCert}
 use Rattle.hyd_command_answers.specs.declared.status.Status.{Status}
 use Rattle.hyd_command_answers.specs.declared.status.Status.TheVariants.{Done, OutOfMemory, Usage, ReadFault, WriteFault}
@@ -26,7 +27,7 @@ use Rattle.hyd_command_answers.specs.declared.status.Status.TheVariants.{InputRe
 use Rattle.hyd_command_answers.specs.declared.status.Status.TheVariants.{CertificateRefused, Stalled}
 use Rattle.hyd_target_commands.specs.PrintedTexts.{Prints, PrintsFront}
 use Rattle.hyd_target_commands.specs.PrintedDemands.{AnswersDemand}
-use Rattle.hyd_target_commands.specs.BracketAnswers.{AnswersFire, AnswersFireText, IsFireText, RefusesName, target_in}
+use Rattle.hyd_target_commands.specs.BracketAnswers.{AnswersFire, AnswersFireText, RefusesName, target_in}
 use Rattle.hyd_target_commands.specs.ClosuresAnswers.{AnswersClosures, AnswersClosuresText, ClosuresCutOff}
 use Rattle.hyd_target_commands.specs.CommandsOnTargets.{OpensNet, LeavesNet}
 

@@ -8,7 +8,7 @@ use Rattle.hyd_io.specs.declared.output.OutFault.{OutFault}
 use Rattle.hyd_io.specs.declared.output.Channel.{Channel}
 use Rattle.hyd_io.specs.declared.output.Channel.TheVariants.{Report}
 use Rattle.hyd_io.specs.DeskBytes.{Files, PutOut}
-use Rattle.hyd_io.specs.Output.{by_channel, HasOutCause, PenState}
+use Rattle.hyd_io.specs.Output.{by_channel, HasOutCause, OnCert, PenState}
 use Rattle.hyd_io.specs.TextPutIn.{Puts, PenEmptied}
 use Rattle.hyd_io.proofs.PutLemmas.{on-report}
 use Rattle.hyd_num.specs.Rational.{Rational}
@@ -26,28 +26,32 @@ on-second to w p w' p' all e m = subst (λ (c : Channel). PutOut (by_channel c w
 abbrev pub IsNewReport : PenState → Type 0
 IsNewReport pen = pen ≡ record { to = Report; fault = None; held = [] }
 
+on-standard-output : (pen : PenState) → IsNewReport pen → pen.to ≡ Report
+on-standard-output pen new = ap (λ (p : PenState). p.to) new
+
+holds-nothing : (pen : PenState) → IsNewReport pen → pen.held ≡ []
+holds-nothing pen new = ap (λ (p : PenState). p.held) new
+
+-- a pen on standard output asks nothing of the file created last
+pub asks-nothing : (to : Channel) (P : Type 0) → to ≡ Report → OnCert to P
+asks-nothing to P e = subst (λ (c : Channel). OnCert c P) (sym e) tt
+
 module _ {S : Type 0} {files : S → Option Files} {rest written printed target : S → Option (List ℕ)} {ready : S → Bool}
     {counts : S → Faults} {openings : S → Openings} (text : List ℕ) (p q : PenState) (a b : S) (new : IsNewReport p) where
-  on-standard-output : p.to ≡ Report
-  on-standard-output = ap (λ (pen : PenState). pen.to) new
-
-  empty : p.held ≡ []
-  empty = ap (λ (pen : PenState). pen.held) new
-
   -- the put failed: a front of the text went out
   module _ (why : OutFault)
       (put : Puts files rest written printed target ready counts openings text (Err why) p q a b) where
     pub front-of-put : OnlyPrintedFront text (seen files written printed a) (seen files written printed b)
     front-of-put = record {
-      files = on-report p.to _ on-standard-output put.report_files;
-      written = on-report p.to _ on-standard-output put.report_written;
-      printed = subst (λ (held : List ℕ). PutOut (printed a) (printed b) (held ++ text)) empty
-          (on-second p.to (written a) (printed a) (written b) (printed b) (p.held ++ text) on-standard-output
-          put.front);
+      files = on-report p.to _ (on-standard-output p new) put.report_files;
+      written = on-report p.to _ (on-standard-output p new) put.report_written;
+      printed = subst (λ (held : List ℕ). PutOut (printed a) (printed b) (held ++ text)) (holds-nothing p new)
+          (on-second p.to (written a) (printed a) (written b) (printed b) (p.held ++ text)
+          (on-standard-output p new) put.front);
     }
 
     pub cause-of-put : HasOutCause Report why (counts a) (counts b)
-    cause-of-put = subst (λ to. HasOutCause to why (counts a) (counts b)) on-standard-output
+    cause-of-put = subst (λ to. HasOutCause to why (counts a) (counts b)) (on-standard-output p new)
         (put.cause (ap (λ (pen : PenState). pen.fault) new))
 
   -- the put succeeded, and the pen was flushed
@@ -55,21 +59,21 @@ module _ {S : Type 0} {files : S → Option Files} {rest written printed target 
       (put : Puts files rest written printed target ready counts openings text (Ok (tt {0})) p q a b)
       (emptied : PenEmptied files rest written printed target ready counts openings result q r b e) where
     still : q.to ≡ Report
-    still = put.to_stays ∙ on-standard-output
+    still = put.to_stays ∙ on-standard-output p new
 
     pub files-by-flush : files e ≡ files a
-    files-by-flush = on-report q.to _ still emptied.report_files ∙ on-report p.to _ on-standard-output put.report_files
+    files-by-flush = on-report q.to _ still emptied.report_files ∙ on-report p.to _ (on-standard-output p new) put.report_files
 
     pub written-by-flush : written e ≡ written a
     written-by-flush =
-        on-report q.to _ still emptied.report_written ∙ on-report p.to _ on-standard-output put.report_written
+        on-report q.to _ still emptied.report_written ∙ on-report p.to _ (on-standard-output p new) put.report_written
 
     pub whole-of-flush : OnOk result
         (OnlyPrinted text (seen files written printed a) (seen files written printed e))
     whole-of-flush = on_ok_weaker result (λ w. record {
       files = files-by-flush;
       written = written-by-flush;
-      printed = printed_whole _ _ _ _ _ _ _ _ _ _ _ on-standard-output put.to_stays empty put.moves w;
+      printed = printed_whole _ _ _ _ _ _ _ _ _ _ _ (on-standard-output p new) put.to_stays (holds-nothing p new) put.moves w;
     }) emptied.whole
 
     pub front-of-flush : OnErr result
@@ -77,7 +81,7 @@ module _ {S : Type 0} {files : S → Option Files} {rest written printed target 
     front-of-flush = on_err_weaker result (λ k. record {
       files = files-by-flush;
       written = written-by-flush;
-      printed = printed_front _ _ _ _ _ _ _ _ _ _ _ on-standard-output put.to_stays empty put.moves k;
+      printed = printed_front _ _ _ _ _ _ _ _ _ _ _ (on-standard-output p new) put.to_stays (holds-nothing p new) put.moves k;
     }) emptied.front
 
     pub cause-of-flush : IfErr result (λ fault. HasOutCause Report fault (counts a) (counts e))

@@ -19,6 +19,17 @@ use hyd_period_network::PeriodDemand;
 use hyd_report::put_stop;
 use hyd_spec_reports::StopCause;
 
+// The stop at the first period, whose demand is out of range.
+fn demand_cause(demand: PeriodDemand) -> StopCause
+    ensures { result ≡ DemandOutOfRange 0 demand.junction demand.value }
+{
+    StopCause::Demand {
+        period: 0,
+        junction: demand.junction,
+        value: demand.value,
+    }
+}
+
 /// Prints the line of a demand out of range in the first period.
 fn print_demand<D: Desk>(
     project: &Project,
@@ -36,11 +47,7 @@ fn print_demand<D: Desk>(
     ensures written_stays { D.written desk.new ≡ D.written desk.old }
     ensures openings_stay { D.openings desk.new ≡ D.openings desk.old }
 {
-    let cause = StopCause::Demand {
-        period: 0,
-        junction: demand.junction,
-        value: demand.value,
-    };
+    let cause = demand_cause(demand);
     let mut pen = Pen::new(Channel::Report);
     match put_stop(project, 0, &cause, &mut pen, desk) {
         Ok(()) => {}

@@ -8,6 +8,7 @@ ghost use Rattle.hyd_spec_certificates.specs.declared.Problem.TheVariants.{Main}
 ghost use Rattle.hyd_period_network.specs.SoundNets.{HasProblem};
 
 use crate::flows::{nearer, over};
+use crate::held_balance::HeldBalance;
 use crate::places::{copy, number_at, put_at};
 use crate::steps::Steps;
 use hyd_period_network::Net;
@@ -21,10 +22,23 @@ const FIRST_POWER: u32 = 50;
 /// So many junctions may step in all.
 const MOST_STEPS: u64 = 4_000_000;
 
+/// So many where one is held, of which there is one way for each side, and not one for each pipe.
+const MOST_STEPS_HELD: u64 = 32_000_000;
+
 /// Room for the way, opened once.
 #[derive(Drop)]
 pub struct Descent {
     steps: Steps,
+    balance: HeldBalance,
+}
+
+// So many junctions may step in all.
+fn most_steps(net: &Net, held: u32) -> u64 {
+    if held < net.junctions() {
+        MOST_STEPS_HELD
+    } else {
+        MOST_STEPS
+    }
 }
 
 // The number of a held junction, or one that there isn't.
@@ -85,12 +99,20 @@ impl Descent {
     pub fn open(alloc: Global, net: &Net) -> Result<Descent, OutOfMemory> {
         Ok(Descent {
             steps: Steps::open(alloc, net)?,
+            balance: HeldBalance::open(alloc, net)?,
         })
+    }
+
+    // Puts a junction to its held head, and goes near to the balance of the others then.
+    fn hold(&mut self, net: &Net, side: Side, held: HeldJunction) {
+        put_held(net, side, held, &mut self.steps.heads);
+        let balance = &mut self.balance;
+        balance.find(net, side, held.junction, &mut self.steps.heads);
     }
 
     // Goes at one step after another, each half of the one before.
     fn go(&mut self, net: &Net, side: Side, held: u32) -> bool {
-        let mut left = MOST_STEPS;
+        let mut left = most_steps(net, held);
         let mut step = 1i64 << FIRST_POWER;
         for _ in 0..FIRST_POWER {
             if !self.steps.go_at(net, side, held, step, &mut left) {
@@ -118,7 +140,7 @@ impl Descent {
         copy(heads, &mut self.steps.heads);
         put_fixed(net, side, &mut self.steps.heads);
         if let Some(there) = held {
-            put_held(net, side, there, &mut self.steps.heads);
+            self.hold(net, side, there);
         }
         if !pass_all(net, side, number_of(held), &self.steps.heads) {
             return false;

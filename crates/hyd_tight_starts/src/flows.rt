@@ -28,8 +28,8 @@ fn narrowed(flow: i128) -> i64 {
     flow.clamp(-GREATEST_RECKONED_FLOW, GREATEST_RECKONED_FLOW) as i64
 }
 
-// The high flow of a link at a head difference, or the low one.
-fn flow(net: &Net, link: u32, high: bool, difference: i64) -> i64
+/// The high flow of a link at a head difference, or the low one.
+pub(crate) fn flow(net: &Net, link: u32, high: bool, difference: i64) -> i64
     requires { link < length net.now.ends }
 {
     let _links = net.links();
@@ -57,7 +57,7 @@ pub(crate) fn nearer(side: Side, head: i64, ticks: i64) -> i64 {
 }
 
 /// A number of flow ticks as it counts on a side: for UPPER what flows out, for LOWER what flows in.
-fn counted(side: Side, ticks: i64) -> i64 {
+pub(crate) fn counted(side: Side, ticks: i64) -> i64 {
     match side {
         Side::Upper => ticks,
         Side::Lower => ticks.saturating_neg(),
@@ -84,6 +84,30 @@ pub(crate) fn own_part(net: &Net, side: Side, junction: u32, head: i64) -> i64 {
         return 0;
     }
     counted(side, narrowed(outflow(net, side, junction, head)))
+}
+
+// The flow that leaves a junction at a head by a link end, as the middle of its bounds.
+fn middle_part(net: &Net, tie: Tie, head: i64, other: i64) -> i64 {
+    let most = part(net, Side::Lower, tie, head, other).saturating_neg();
+    let least = part(net, Side::Upper, tie, head, other);
+    (most / 2).saturating_add(least / 2)
+}
+
+/// By how much less leaves a junction on balance than a load, as the middle of bounds.
+pub(crate) fn middle_miss(net: &Net, heads: &[i64], junction: u32, load: i64) -> i64 {
+    if junction >= net.junctions() {
+        return 0;
+    }
+    let _nodes = net.nodes();
+    let head = number_at(heads, junction);
+    let most = own_part(net, Side::Lower, junction, head).saturating_neg();
+    let least = own_part(net, Side::Upper, junction, head);
+    let mut leaves = (most / 2).saturating_add(least / 2);
+    for tie in net.row(junction) {
+        let other = number_at(heads, tie.other);
+        leaves = leaves.saturating_add(middle_part(net, *tie, head, other));
+    }
+    load.saturating_sub(leaves)
 }
 
 /// Whether that is the same at every head.

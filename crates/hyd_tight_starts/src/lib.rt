@@ -4,6 +4,8 @@
 
 mod descent;
 mod flows;
+mod held_balance;
+mod held_slopes;
 mod places;
 mod steps;
 mod strides;

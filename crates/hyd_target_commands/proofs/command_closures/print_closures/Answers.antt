@@ -1,5 +1,4 @@
 -- The lines that were put in at a new pen.
-use Rattle.std.proofs.Common.{refl}
 use Rattle.std.proofs.lemmas.Result.{on_ok_weaker, on_err_weaker}
 use Rattle.hyd_spec_pressure_targets.specs.PromisesOfTargets.{FindsClosures}
 use Rattle.hyd_targets.specs.Inquiries.{target_for}

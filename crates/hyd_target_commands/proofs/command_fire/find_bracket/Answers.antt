@@ -7,7 +7,6 @@ use Rattle.hyd_command_answers.specs.DeskContents.{seen}
 use Rattle.hyd_command_answers.specs.FaultsAndRefusals.{AnswersRefused}
 use Rattle.hyd_command_answers.specs.declared.status.Status.TheVariants.{ReadFault, OutOfMemory}
 use Rattle.hyd_target_commands.specs.BracketAnswers.{target_in}
-use Rattle.hyd_target_commands.specs.CommandsOnTargets.{LeavesNet}
 use Rattle.hyd_target_commands.proofs.StatusesOfTargets.{leaves_since, prints_since, leaves_prints, answer_never_usage}
 use Rattle.hyd_target_commands.proofs.StatusesOfTargets.{answer_opens, fire_is_answer, fire_leaves, fire_since}
 use Rattle.hyd_target_commands.proofs.StatusesOfTargets.{refused_since, same_refusal, refusal_never_usage}

@@ -1,11 +1,12 @@
 -- The line that was put in at a new pen.
-use Rattle.std.proofs.Common.{refl}
+use Rattle.std.proofs.Common.{refl, ap, ◌∙◌}
 use Rattle.std.proofs.lemmas.Result.{on_ok_weaker, on_err_weaker}
 use Rattle.hyd_spec_pressure_targets.specs.PromisesOfTargets.{FindsBracket}
 use Rattle.hyd_targets.specs.Inquiries.{target_for}
 use Rattle.hyd_target_commands.proofs.TextsPrinted.{whole-of-flush, front-of-flush, cause-of-flush, steady-by-flush}
 use Rattle.hyd_target_commands.proofs.TextsPrinted.{openings-by-flush, front-of-put, cause-of-put, printed-with}
-use Rattle.hyd_target_commands.proofs.TextsPrinted.{front-with}
+use Rattle.hyd_target_commands.proofs.TextsPrinted.{front-with, asks-nothing}
+use Rattle.hyd_io.specs.Output.{PenState}
 use Rattle.hyd_target_commands.proofs.command_fire.print_bracket.Goals as goal
 
 -- ---- the put failed
@@ -25,6 +26,11 @@ returns-in-Err-clause-openings_stay g c =
     let one = c.in-Err.ensures _ refl in one.1.1.openings_stay
 
 -- ---- the pen was flushed
+
+pub flush-requires : goal.flush-requires
+flush-requires g c =
+    let one = c.in-Ok.ensures _ refl in
+    asks-nothing _ _ (one.1.1.to_stays ∙ ap (λ (pen : PenState). pen.to) c.new-pen.ensures)
 
 pub returns-clause-whole : goal.returns-clause-whole
 returns-clause-whole g c name named =

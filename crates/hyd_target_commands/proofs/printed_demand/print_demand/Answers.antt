@@ -1,16 +1,27 @@
 -- A new pen holds nothing and is on standard output.
+use Rattle.std.proofs.Common.{◌≡◌, subst}
+use Rattle.std.specs.Prelude.{OnOk, OnErr}
+use Rattle.hyd_io.specs.DeskBytes.{append_known, PutOut}
+use Rattle.hyd_spec_reports.specs.declared.StopCause.{StopCause}
+use Rattle.hyd_spec_reports.specs.ReportLine.{stop_line}
 use Rattle.std.proofs.lemmas.Result.{on_ok_weaker, on_err_weaker}
 use Rattle.hyd_target_commands.proofs.TextsPrinted.{whole-of-flush, front-of-flush, cause-of-flush, steady-by-flush}
 use Rattle.hyd_target_commands.proofs.TextsPrinted.{openings-by-flush, files-by-flush, written-by-flush}
 use Rattle.hyd_target_commands.proofs.printed_demand.print_demand.Goals as goal
 
 pub returns-clause-whole : goal.returns-clause-whole
-returns-clause-whole g c = on_ok_weaker c.flush.result (λ w. w.printed)
-    (whole-of-flush _ _ _ _ _ c.new-pen.ensures _ _ c.flush.result c.in-Ok.ensures c.flush.ensures)
+returns-clause-whole g c =
+    subst (λ (cause : StopCause). OnOk c.flush.result (g.D.Desk.printed c.flush.new.desk
+    ≡ append_known (g.D.Desk.printed c.args.desk.now) (stop_line c.args.project.now 0 cause))) c.demand_cause-cause.ensures
+    (on_ok_weaker c.flush.result (λ w. w.printed)
+    (whole-of-flush _ _ _ _ _ c.new-pen.ensures _ _ c.flush.result c.in-Ok.ensures c.flush.ensures))
 
 pub returns-clause-front : goal.returns-clause-front
-returns-clause-front g c = on_err_weaker c.flush.result (λ w. w.printed)
-    (front-of-flush _ _ _ _ _ c.new-pen.ensures _ _ c.flush.result c.in-Ok.ensures c.flush.ensures)
+returns-clause-front g c =
+    subst (λ (cause : StopCause). OnErr c.flush.result (PutOut (g.D.Desk.printed c.args.desk.now)
+    (g.D.Desk.printed c.flush.new.desk) (stop_line c.args.project.now 0 cause))) c.demand_cause-cause.ensures
+    (on_err_weaker c.flush.result (λ w. w.printed)
+    (front-of-flush _ _ _ _ _ c.new-pen.ensures _ _ c.flush.result c.in-Ok.ensures c.flush.ensures))
 
 pub returns-clause-cause : goal.returns-clause-cause
 returns-clause-cause g c =
