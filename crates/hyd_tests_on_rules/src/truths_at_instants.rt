@@ -88,8 +88,8 @@ static INSTANTS: [Instant; 31] = [
         HIGH,
         Truth::Open {
             clause: 0,
-            lo: 4 * METRE,
-            hi: 6 * METRE,
+            lo: 40_000_000_000_000,
+            hi: 60_000_000_000_000,
         },
     ),
     (
@@ -176,8 +176,8 @@ static INSTANTS: [Instant; 31] = [
         (290_000_000_000_000, 300_000_000_000_000),
         Truth::Open {
             clause: 0,
-            lo: 19 * METRE,
-            hi: 20 * METRE,
+            lo: 190_000_000_000_000,
+            hi: 200_000_000_000_000,
         },
     ),
     (
@@ -188,7 +188,7 @@ static INSTANTS: [Instant; 31] = [
         (290_000_000_000_000, 290_000_000_000_000),
         Truth::Open {
             clause: 2,
-            lo: 54 * METRE,
+            lo: 540_000_000_000_000,
             hi: 545_000_000_000_000,
         },
     ),
