@@ -1,22 +1,14 @@
 -- What the answers of every command mean: what is asked of the desk, which call failed, how words and texts are
 -- refused, and what is left whatever the text was.
 -- Source: this program's.
-use Rattle.std.specs.Prelude.{◌≡◌, ℕ, ◌⊎◌, List, Option, Some, None, IsTrue, Bool, ⊤}
-use Rattle.hyd_io.specs.declared.desk.Faults.{Faults}
-use Rattle.hyd_io.specs.declared.output.OutFault.{OutFault}
-use Rattle.hyd_io.specs.declared.output.OutFault.TheVariants.{Fault, Stalled as Stall}
-use Rattle.hyd_io.specs.DeskCounts.{with_read_fault, with_write_fault, with_print_fault, with_stall}
-use Rattle.hyd_spec_lines.specs.Lines.{items_of, rows_in}
-use Rattle.hyd_net.specs.declared.refusal_cause.Cause.{Cause}
-use Rattle.hyd_spec.specs.ProgramTypes.{Project}
-use Rattle.hyd_spec_input.specs.Project.{IsProject}
-use Rattle.hyd_report.specs.RefusedText.{refused_text_line}
+use Rattle.std.specs.Prelude.{ℕ, List, Option, Some, None, IsTrue, Bool, ⊤}
 use Rattle.hyd_command_words.specs.CommandGrammar.{Order, run, check, gen, fire, closures}
 use Rattle.hyd_cli.specs.WordsAndUsageLine.{usage_line}
 use Rattle.hyd_command_answers.specs.declared.status.Status.{Status}
 use Rattle.hyd_command_answers.specs.declared.status.Status.TheVariants.{OutOfMemory, Usage, ReadFault, WriteFault}
 use Rattle.hyd_command_answers.specs.declared.status.Status.TheVariants.{InputRefused, Stalled}
 use Rattle.hyd_command_answers.specs.DeskContents.{Seen, IsUntouched, OnlyPrinted, OnlyPrintedFront, OnlyPrintedSome}
+use Rattle.hyd_command_answers.specs.FaultsAndRefusals.{PrintsRefusal}
 use Rattle.hyd_target_commands.specs.CommandsOnTargets.{LeavesNet}
 
 -- ---- names
