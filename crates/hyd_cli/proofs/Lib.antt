@@ -3,3 +3,4 @@ pub mod CheckLemmas
 pub mod CommandsOfWords
 pub mod GenLemmas
 pub mod TaskWithoutMemory
+pub mod TargetsWithoutMemory
