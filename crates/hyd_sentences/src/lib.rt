@@ -1,0 +1,38 @@
+//! The sentences that the program says to a person on standard error: why a text is refused, with the line, the row as it
+//! stands there and what is wrong with it; what a stop means and what to try; what of a certificate isn't so; the page of
+//! help; and how far long work has come. What they say is worked out from the text or the network again, and nothing is
+//! claimed of it: where nothing certain is found, the sentence is the general one of the cause. No memory is taken.
+//!
+//! All texts stand in `sentences.rt`.
+//!
+//! Tested by `hyd_stored_sentences`.
+#![tactic(auto)]
+
+mod filled_slots;
+mod forms;
+mod forms_of_options_and_times;
+mod forms_of_rows;
+mod forms_of_rules;
+mod help;
+mod names;
+mod numbers;
+mod parts_and_limits;
+mod progress;
+mod pump_pairs;
+mod quantities;
+mod ranges;
+mod refused_certificates;
+mod refused_text;
+mod rows;
+mod rule_lines;
+mod sentences;
+mod shown;
+mod stopped;
+mod syntax;
+mod unknown_names;
+
+pub use help::{Help, WrongWords};
+pub use progress::{PipesDone, Progress};
+pub use refused_certificates::{LineFault, RefusedLine, RefusedRecord};
+pub use refused_text::RefusedText;
+pub use stopped::Stopped;

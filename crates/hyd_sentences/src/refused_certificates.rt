@@ -1,0 +1,84 @@
+//! What of a certificate isn't so.
+
+ghost use Rattle.std.specs.Prelude.{◌≡◌, length};
+ghost use Rattle.hyd_net.specs.ControlsAndRules.{node_count};
+
+use crate::sentences::{Untrue, line_fault};
+use crate::stopped::{bounded_by, node_id};
+use hyd_net::Project;
+use hyd_spec_reports::CertRefused;
+use std::fmt::{self, Display, Formatter};
+
+/// What of a record of a certificate isn't so.
+#[derive(Clone, Copy)]
+pub struct RefusedRecord<'a> {
+    /// The network.
+    pub project: &'a Project,
+    /// Why the record is refused.
+    pub cause: CertRefused,
+    pub ghost nodes: { length project.now.node_ids ≡ node_count project.now },
+}
+
+/// What of a line of a certificate isn't so.
+#[derive(Clone, Copy)]
+pub struct RefusedLine {
+    /// The line, counted from 1.
+    pub line: u64,
+    /// What is wrong with it.
+    pub fault: LineFault,
+}
+
+/// What is wrong with a line of a certificate.
+#[derive(Clone, Copy)]
+pub enum LineFault {
+    /// It can't stand there.
+    Grammar,
+    /// The first line is that of another network.
+    Counts,
+    /// The END line isn't true.
+    End,
+}
+
+// The period of a record, and what of it isn't so.
+fn untrue_of(record: RefusedRecord<'_>) -> (u32, Untrue<'_>) {
+    match record.cause {
+        CertRefused::Place { period } => (period, Untrue::Place),
+        CertRefused::Demand { period } => (period, Untrue::Demand),
+        CertRefused::Fails {
+            period,
+            problem,
+            side,
+            junction,
+        } => (
+            period,
+            Untrue::Fails {
+                bounded: bounded_by(record.project, problem, side),
+                junction: node_id(record.project, junction),
+            },
+        ),
+        CertRefused::Open { period } => (period, Untrue::Open),
+        CertRefused::Length { period } => (period, Untrue::Length),
+        CertRefused::After { period } => (period, Untrue::After),
+    }
+}
+
+impl Display for RefusedRecord<'_> {
+    fn fmt<W: fmt::Write>(&self, f: &mut Formatter<W>) -> fmt::Result {
+        let (period, untrue) = untrue_of(*self);
+        write!(
+            f,
+            "the certificate isn't right in period {period}: {untrue}"
+        )
+    }
+}
+
+impl Display for RefusedLine {
+    fn fmt<W: fmt::Write>(&self, f: &mut Formatter<W>) -> fmt::Result {
+        let line = self.line;
+        write!(
+            f,
+            "the certificate isn't right in line {line}: {}",
+            line_fault(self.fault)
+        )
+    }
+}

@@ -1,0 +1,1247 @@
+//! The texts of all sentences but those of the pages of help: what is wrong with a row of a text, by its cause, what a
+//! stop means, what of a certificate isn't so, and how far work has come. Names, words, lines and numbers are filled in.
+
+use crate::forms::Bound;
+use crate::progress::{PipesDone, Progress};
+use crate::quantities::{Billionths, Clock, Hours, Quantity};
+use crate::refused_certificates::LineFault;
+use crate::shown::{Name, OneOf};
+use hyd_net::Cause;
+use hyd_spec_certificates::Side;
+use hyd_spec_lines::Section;
+use std::fmt::{self, Display, Formatter};
+
+// ---- rows in words
+
+pub(crate) const JUNCTION_ROW: &str =
+    "[JUNCTIONS]: ID, elevation, demand (optional), pattern (optional)";
+
+pub(crate) const RESERVOIR_ROW: &str = "[RESERVOIRS]: ID, head, pattern (optional)";
+
+pub(crate) const TANK_ROW: &str =
+    "[TANKS]: ID, bottom, initial level, minimum level, maximum level, diameter, minimum volume (optional), volume curve or * (optional), overflow YES or NO (optional)";
+
+pub(crate) const PIPE_ROW: &str =
+    "[PIPES]: ID, first node, second node, length, diameter, roughness, minor loss (optional), status OPEN, CLOSED or CV (optional)";
+
+pub(crate) const PUMP_ROW: &str =
+    "[PUMPS]: ID, first node, second node, HEAD curve, SPEED number (optional), PATTERN pattern (optional)";
+
+pub(crate) const VALVE_ROW: &str =
+    "[VALVES]: ID, first node, second node, diameter, type TCV, FCV or GPV, setting (of a GPV its curve), minor loss (optional)";
+
+pub(crate) const DEMAND_ROW: &str =
+    "[DEMANDS]: junction, demand, pattern (optional), category (optional)";
+
+pub(crate) const EMITTER_ROW: &str = "[EMITTERS]: junction, coefficient";
+
+pub(crate) const CURVE_ROW: &str = "[CURVES]: ID, x, y";
+
+pub(crate) const PATTERN_ROW: &str = "[PATTERNS]: ID, one or more multipliers";
+
+pub(crate) const STATUS_ROW: &str = "[STATUS]: link, OPEN, CLOSED or a number";
+
+pub(crate) const CONTROL_ROW: &str =
+    "[CONTROLS]: LINK id state IF TANK id ABOVE or BELOW level, LINK id state AT TIME time, or LINK id state AT CLOCKTIME time AM or PM";
+
+pub(crate) const RULE_NAME_ROW: &str = "[RULES]: RULE id";
+
+pub(crate) const PRIORITY_ROW: &str = "[RULES]: PRIORITY number";
+
+pub(crate) const CLAUSE_ROW: &str =
+    "[RULES]: IF, AND or OR, then TANK id LEVEL relation number (or another object and attribute), PUMP id STATUS IS state, or SYSTEM TIME relation time";
+
+pub(crate) const ACTION_ROW: &str =
+    "[RULES]: THEN, ELSE or AND, then LINK id STATUS IS OPEN or CLOSED, or PUMP or VALVE id SETTING IS number";
+
+pub(crate) const UNITS_ROW: &str = "[OPTIONS]: UNITS unit";
+
+pub(crate) const HEADLOSS_ROW: &str = "[OPTIONS]: HEADLOSS C-M";
+
+pub(crate) const DEFAULT_PATTERN_ROW: &str = "[OPTIONS]: PATTERN id";
+
+pub(crate) const DEMAND_OPTION_ROW: &str =
+    "[OPTIONS]: DEMAND MULTIPLIER number, or DEMAND MODEL DDA or PDA";
+
+pub(crate) const PRESSURE_BOUND_ROW: &str =
+    "[OPTIONS]: MINIMUM PRESSURE or REQUIRED PRESSURE, then a number";
+
+pub(crate) const PRESSURE_ROW: &str = "[OPTIONS]: PRESSURE PSI or METERS, or PRESSURE EXPONENT 0.5";
+
+pub(crate) const EMITTER_EXPONENT_ROW: &str = "[OPTIONS]: EMITTER EXPONENT 0.5";
+
+pub(crate) const SPECIFIC_GRAVITY_ROW: &str = "[OPTIONS]: SPECIFIC GRAVITY 1";
+
+pub(crate) const DURATION_ROW: &str = "[TIMES]: DURATION time";
+
+pub(crate) const STEP_ROW: &str = "[TIMES]: HYDRAULIC, RULE or QUALITY, then TIMESTEP time";
+
+pub(crate) const STEP_OR_START_ROW: &str =
+    "[TIMES]: PATTERN or REPORT, then TIMESTEP or START, then a time";
+
+pub(crate) const START_CLOCK_ROW: &str = "[TIMES]: START CLOCKTIME time, AM or PM (optional)";
+
+// ---- numbers of rows in words
+
+pub(crate) const ELEVATION: &str = "elevation";
+
+pub(crate) const DEMAND: &str = "demand";
+
+pub(crate) const HEAD: &str = "head";
+
+pub(crate) const BOTTOM: &str = "bottom";
+
+pub(crate) const INITIAL_LEVEL: &str = "initial level";
+
+pub(crate) const MINIMUM_LEVEL: &str = "minimum level";
+
+pub(crate) const MAXIMUM_LEVEL: &str = "maximum level";
+
+pub(crate) const MINIMUM_VOLUME: &str = "minimum volume";
+
+pub(crate) const LENGTH: &str = "length";
+
+pub(crate) const DIAMETER: &str = "diameter";
+
+pub(crate) const ROUGHNESS: &str = "roughness";
+
+pub(crate) const MINOR_LOSS: &str = "minor loss coefficient";
+
+pub(crate) const SETTING: &str = "setting";
+
+pub(crate) const SPEED: &str = "speed";
+
+pub(crate) const COEFFICIENT: &str = "coefficient";
+
+pub(crate) const MULTIPLIER: &str = "multiplier";
+
+pub(crate) const X: &str = "x";
+
+pub(crate) const Y: &str = "y";
+
+pub(crate) const LEVEL: &str = "level";
+
+pub(crate) const VALUE: &str = "value";
+
+pub(crate) const PRIORITY: &str = "priority";
+
+pub(crate) const PRESSURE: &str = "pressure";
+
+pub(crate) const EXPONENT: &str = "exponent";
+
+pub(crate) const GRAVITY: &str = "specific gravity";
+
+/// What the rows of a section are.
+pub(crate) fn kind_of(section: Section) -> &'static str {
+    match section {
+        Section::Junctions => "a junction",
+        Section::Reservoirs => "a reservoir",
+        Section::Tanks => "a tank",
+        Section::Pipes => "a pipe",
+        Section::Pumps => "a pump",
+        Section::Valves => "a valve",
+        Section::Rules => "a rule",
+        _ => "a row",
+    }
+}
+
+// ---- the general sentences
+
+/// What a cause means of a row, where nothing more is known.
+pub(crate) fn general(cause: Cause) -> &'static str {
+    match cause {
+        Cause::Syntax => "a wrong keyword, heading or order of lines, or too few or too many words",
+        Cause::Number =>
+            "a word that should be a number isn't one, or a number is above 10^12 in magnitude",
+        Cause::Range => "a value is out of its range (docs/REFUSALS.md, \"Ranges of numbers\")",
+        Cause::DuplicateId => "an earlier row has this ID",
+        Cause::UnknownName => "nothing of the kind that is asked for has this name",
+        Cause::Unsupported(part) => general_part(part),
+        Cause::Limit(limit) => general_limit(limit),
+        Cause::Missing =>
+            "there is no reservoir and no tank, so no water: give a row to [RESERVOIRS] or [TANKS]",
+    }
+}
+
+/// A part of EPANET's input that isn't supported, by its number.
+pub(crate) fn general_part(part: u8) -> &'static str {
+    match part {
+        1 => "only Chezy-Manning head losses are supported (HEADLOSS C-M)",
+        2 =>
+            "PRV, PSV and PBV aren't supported: where the valve's state is known, put a pipe, a closed pipe, a TCV or an FCV in its place",
+        3 =>
+            "pumps of constant power (POWER) aren't supported: give the pump a curve (HEAD) of heads and flows near where it runs",
+        4 =>
+            "this pump's curve isn't supported: one point above 0 in both numbers, three points on a parabola with its top at flow 0, or four points and more",
+        5 => "the emitter exponent has to be 0.5",
+        6 => "the pressure exponent has to be 0.5",
+        7 => "the specific gravity has to be 1",
+        8 =>
+            "a simple control may watch the level of a tank alone: a rule in [RULES] can watch a pressure or a head",
+        10 =>
+            "DEMAND, FILLTIME and DRAINTIME, and = and <> of quantities, aren't supported in rules: take FLOW, LEVEL, <= or >=",
+        11 => "nothing may set a pipe with a check valve (CV), as in EPANET",
+        13 =>
+            "pressures in kPa aren't supported: they are in metres or in pounds a square inch, as the flow unit decides",
+        _ => "a part of EPANET's input that isn't supported (docs/REFUSALS.md)",
+    }
+}
+
+/// A limit that is passed, by its number.
+pub(crate) fn general_limit(limit: u8) -> &'static str {
+    match limit {
+        1 => "the text has more than 64 MiB, the most that is read",
+        2 => "the line has more than 1,024 bytes",
+        3 => "an ID has more than 31 bytes",
+        4 => "this is the 10,001st junction, and 10,000 are the most",
+        5 => "this is the 1,001st reservoir, and 1,000 are the most",
+        6 => "this is the 33rd tank, and 32 are the most",
+        7 => "this is the 20,001st link, and pipes, pumps and valves are 20,000 at most together",
+        8 => "there are more than 1,000 patterns, or more than 1,000,000 multipliers in all",
+        9 => "there are more than 1,000 curves, or more than 100,000 points in all",
+        10 => "this is the 100,001st row of demands, and 100,000 are the most",
+        11 => "this is the 10,001st control, and 10,000 are the most",
+        12 => "there are more than 10,000 rules, or more than 100,000 clauses and actions in all",
+        13 =>
+            "its capacity, the square of its flow for a unit of head, is out of what the program's numbers hold: it is far too wide or too narrow for its length or its losses",
+        _ => "a limit of the program is passed (docs/REFUSALS.md)",
+    }
+}
+
+/// What a cause means of a file as a whole.
+pub(crate) fn whole(cause: Cause) -> &'static str {
+    match cause {
+        Cause::Unsupported(1) =>
+            "there is no HEADLOSS line in [OPTIONS], so EPANET takes Hazen-Williams, which isn't supported. With Manning roughness in the file write HEADLOSS C-M; else scripts/manning.py gives each pipe the roughness of equal loss (docs/HAZEN_WILLIAMS.md)",
+        _ => general(cause),
+    }
+}
+
+// ---- Syntax
+
+/// What is wrong with the form of a row.
+#[derive(Clone, Copy)]
+pub(crate) enum Wrong<'a> {
+    /// A heading of no section.
+    Heading(&'a [u8]),
+    /// The beginning of a heading.
+    ShortHeading(&'a [u8], &'static str),
+    /// Words behind a heading.
+    BehindHeading(&'a [u8]),
+    /// A byte that isn't printing ASCII, and its column.
+    NotAscii(u8, usize),
+    /// A row before the first heading.
+    NoSection,
+    /// Words are missing; what the row should be.
+    TooFew(&'static str),
+    /// A word too many; what the row should be.
+    TooMany(&'a [u8], &'static str),
+    /// A word that isn't one of some keywords.
+    Word(&'a [u8], &'static str),
+    /// A word that isn't one of some keywords, whose beginning it is.
+    ShortWord(&'a [u8], &'static [u8]),
+    /// No form of a time.
+    Moment(&'a [u8]),
+    /// No unit of a time.
+    Unit(&'a [u8]),
+    /// A unit behind h:mm.
+    UnitBehindMoment(&'a [u8], &'a [u8]),
+}
+
+impl Display for Wrong<'_> {
+    fn fmt<W: fmt::Write>(&self, f: &mut Formatter<W>) -> fmt::Result {
+        match *self {
+            Wrong::Heading(word) => write!(f, "{} is no section's heading", Name(word)),
+            Wrong::ShortHeading(word, heading) => {
+                write!(f, "{} is no section's heading: write {heading}", Name(word))
+            }
+            Wrong::BehindHeading(word) => {
+                write!(
+                    f,
+                    "{} stands behind a heading, which stands alone in its line",
+                    Name(word)
+                )
+            }
+            Wrong::NotAscii(byte, column) => {
+                write!(
+                    f,
+                    "byte {byte} in column {column} isn't printing ASCII, and so may stand in comments alone"
+                )
+            }
+            Wrong::NoSection => f.write_str("a row before the first heading, as [JUNCTIONS]"),
+            Wrong::TooFew(form) => write!(f, "too few words for {form}"),
+            Wrong::TooMany(word, form) => write!(f, "{} is a word too many for {form}", Name(word)),
+            Wrong::Word(word, words) => write!(
+                f,
+                "{} stands where {} should",
+                Name(word),
+                OneOf(words)
+            ),
+            Wrong::ShortWord(word, whole) => {
+                write!(f, "{} isn't written in full: {}", Name(word), Name(whole))
+            }
+            Wrong::Moment(word) => {
+                write!(
+                    f,
+                    "{} is no time: h:mm or h:mm:ss, with minutes and seconds below 60",
+                    Name(word)
+                )
+            }
+            Wrong::Unit(word) => {
+                write!(
+                    f,
+                    "{} is no unit of a time: SEC, SECONDS, MIN, MINUTES, HOUR, HOURS, DAY or DAYS",
+                    Name(word)
+                )
+            }
+            Wrong::UnitBehindMoment(unit, moment) => {
+                write!(
+                    f,
+                    "{} may not stand behind {}, which says hours and minutes",
+                    Name(unit),
+                    Name(moment)
+                )
+            }
+        }
+    }
+}
+
+/// What is wrong with the form of a line of one section.
+#[derive(Clone, Copy)]
+pub(crate) enum WrongLine<'a> {
+    /// No option.
+    Option(&'a [u8]),
+    /// No time.
+    Time(&'a [u8]),
+    /// A first word of no line of a rule.
+    RuleWord(&'a [u8]),
+    /// A line of a rule in a wrong place; what may stand there.
+    RuleOrder(&'a [u8], &'static str),
+    /// A rule without THEN.
+    NoThen(&'a [u8]),
+    /// No keyword of a pump.
+    PumpWord(&'a [u8]),
+    /// A keyword of a pump for the second time.
+    PumpWordAgain(&'a [u8]),
+    /// A keyword of a pump without a value.
+    PumpWordAlone(&'a [u8]),
+    /// A pump without HEAD.
+    NoHead(&'a [u8]),
+    /// A pump as in EPANET 1.
+    OldPump,
+    /// A tank's row with the words of a reservoir.
+    ReservoirAmongTanks(&'a [u8]),
+    /// A number as the state of a pipe.
+    PipeHasNoSetting(&'a [u8]),
+    /// A number as the state of a general purpose valve.
+    GeneralValveHasNoSetting(&'a [u8]),
+}
+
+impl Display for WrongLine<'_> {
+    fn fmt<W: fmt::Write>(&self, f: &mut Formatter<W>) -> fmt::Result {
+        match *self {
+            WrongLine::Option(word) => write!(
+                f,
+                "{} is no option that this program knows",
+                Name(word)
+            ),
+            WrongLine::Time(word) => {
+                write!(
+                    f,
+                    "{} begins no line of [TIMES]: DURATION, HYDRAULIC, PATTERN, REPORT, RULE, START, QUALITY or STATISTIC",
+                    Name(word)
+                )
+            }
+            WrongLine::RuleWord(word) => {
+                write!(
+                    f,
+                    "{} begins no line of a rule: RULE, IF, AND, OR, THEN, ELSE or PRIORITY",
+                    Name(word)
+                )
+            }
+            WrongLine::RuleOrder(word, words) => {
+                write!(
+                    f,
+                    "{} can't stand here in a rule: {} can",
+                    Name(word),
+                    OneOf(words)
+                )
+            }
+            WrongLine::NoThen(rule) => write!(f, "the rule {} has no THEN line", Name(rule)),
+            WrongLine::PumpWord(word) => {
+                write!(
+                    f,
+                    "{} stands where HEAD, SPEED or PATTERN of a pump should",
+                    Name(word)
+                )
+            }
+            WrongLine::PumpWordAgain(word) => write!(f, "{} stands twice", Name(word)),
+            WrongLine::PumpWordAlone(word) => write!(f, "{} has nothing behind it", Name(word)),
+            WrongLine::NoHead(pump) => write!(
+                f,
+                "the pump {} has no HEAD with a curve",
+                Name(pump)
+            ),
+            WrongLine::OldPump => {
+                f.write_str(
+                    "numbers for a pump, as in EPANET 1: scripts/prepare.py writes a curve and HEAD instead",
+                )
+            }
+            WrongLine::ReservoirAmongTanks(id) => {
+                write!(
+                    f,
+                    "a tank has six words at least; if {} is a reservoir, its row goes to [RESERVOIRS]",
+                    Name(id)
+                )
+            }
+            WrongLine::PipeHasNoSetting(pipe) => {
+                write!(
+                    f,
+                    "{} is a pipe, whose state is OPEN or CLOSED and no number",
+                    Name(pipe)
+                )
+            }
+            WrongLine::GeneralValveHasNoSetting(valve) => {
+                write!(
+                    f,
+                    "{} is a general purpose valve, whose state is OPEN or CLOSED and no number",
+                    Name(valve)
+                )
+            }
+        }
+    }
+}
+
+// ---- Number
+
+/// What is wrong with a word that should be a number.
+#[derive(Clone, Copy)]
+pub(crate) enum WrongNumber<'a> {
+    /// No number.
+    NoNumber(&'a [u8]),
+    /// A comma for a point: what stands before it and behind it.
+    Comma(&'a [u8], &'a [u8], &'a [u8]),
+    /// Too large.
+    TooLarge(&'a [u8]),
+    /// Neither OPEN nor CLOSED nor a number.
+    State(&'a [u8]),
+    /// No number of hours.
+    Time(&'a [u8]),
+}
+
+impl Display for WrongNumber<'_> {
+    fn fmt<W: fmt::Write>(&self, f: &mut Formatter<W>) -> fmt::Result {
+        match *self {
+            WrongNumber::NoNumber(word) => write!(f, "{} is no number", Name(word)),
+            WrongNumber::Comma(word, whole, decimals) => {
+                write!(
+                    f,
+                    "{} is no number: write {}.{}",
+                    Name(word),
+                    Name(whole),
+                    Name(decimals)
+                )
+            }
+            WrongNumber::TooLarge(word) => write!(
+                f,
+                "{} is above 10^12 in magnitude, the most that a number may be",
+                Name(word)
+            ),
+            WrongNumber::State(word) => write!(
+                f,
+                "{} is neither OPEN nor CLOSED nor a number",
+                Name(word)
+            ),
+            WrongNumber::Time(word) => write!(
+                f,
+                "{} is no time: a number, h:mm or h:mm:ss",
+                Name(word)
+            ),
+        }
+    }
+}
+
+// ---- Range
+
+impl Display for Bound {
+    fn fmt<W: fmt::Write>(&self, f: &mut Formatter<W>) -> fmt::Result {
+        match *self {
+            Bound::Free => f.write_str("within its range"),
+            Bound::NotNegative => f.write_str("at least 0"),
+            Bound::UpTo(most) => write!(f, "from 0 to {most}"),
+            Bound::Above0To(most) => write!(f, "above 0 and at most {most}"),
+            Bound::Within(most) => write!(f, "at most {most} in magnitude"),
+        }
+    }
+}
+
+/// What is out of range in a row.
+#[derive(Clone, Copy)]
+pub(crate) enum WrongRange<'a> {
+    /// A number: what it is, its word, its range.
+    Number(&'static str, &'a [u8], Bound),
+    /// Both ends of a link are one node.
+    OneNode(&'a [u8]),
+    /// One level above another one: which, their words.
+    Levels(&'static str, &'a [u8], &'static str, &'a [u8]),
+    /// A diameter of a tank without a volume curve.
+    TankDiameter(&'a [u8]),
+    /// Something of a row of a section.
+    Section(Section),
+}
+
+impl Display for WrongRange<'_> {
+    fn fmt<W: fmt::Write>(&self, f: &mut Formatter<W>) -> fmt::Result {
+        match *self {
+            WrongRange::Number(what, word, bound) => {
+                write!(f, "the {what} is {}, and has to be {bound}", Name(word))
+            }
+            WrongRange::OneNode(node) => {
+                write!(
+                    f,
+                    "both ends are the node {}: a link joins two nodes",
+                    Name(node)
+                )
+            }
+            WrongRange::Levels(low, lower, high, higher) => {
+                write!(
+                    f,
+                    "the {low} {} is above the {high} {}",
+                    Name(lower),
+                    Name(higher)
+                )
+            }
+            WrongRange::TankDiameter(word) => {
+                write!(
+                    f,
+                    "the diameter is {}, and has to be from 0.1 to 1000 (from 0 with a volume curve)",
+                    Name(word)
+                )
+            }
+            WrongRange::Section(section) => write!(
+                f,
+                "a value is out of its range: {}",
+                ranges_of(section)
+            ),
+        }
+    }
+}
+
+/// The ranges of the numbers of a section.
+pub(crate) fn ranges_of(section: Section) -> &'static str {
+    match section {
+        Section::Junctions | Section::Demands =>
+            "elevations are at most 10,000 m in magnitude, demands at most 10^8 m3 a day",
+        Section::Reservoirs =>
+            "a head is at most 10,000 m in magnitude, also times each multiplier of its pattern",
+        Section::Tanks =>
+            "bottom, and bottom and maximum level together, are at most 10,000 m in magnitude; the maximum level is at least 0.01 foot (3.048 mm) above the minimum; a volume curve rises from at least 0 and reaches from the minimum to the maximum level",
+        Section::Pipes =>
+            "length above 0 to 10^6, diameter above 0 to 10^4, roughness above 0 to 10, minor loss 0 to 10^6",
+        Section::Pumps =>
+            "the speed, and each multiplier of its pattern, is 0 to 10; the head at flow 0 is at most 1,000 m; flows of its curve are at most 10^8 m3 a day; in a curve of four points and more flows rise from at least 0 and heads fall to at least 0",
+        Section::Valves =>
+            "the setting of an FCV is a flow of at most 10^8 m3 a day; the curve of a GPV begins at 0 and 0, and both its numbers rise",
+        Section::Emitters => "a coefficient is 0 to 10^6",
+        Section::Curves => "numbers are at most 10^12 in magnitude",
+        Section::Patterns => "multipliers are at most 10^6 in magnitude",
+        Section::Status =>
+            "the speed of a pump is 0 to 10, the setting of a TCV 0 to 10^6, of an FCV a flow from 0 to 10^8 m3 a day",
+        Section::Controls =>
+            "a time is 0 to 10^8 seconds, a time of day below 24 hours (with AM or PM from 1:00 to 12:59), a level at most 10,000 m, a speed 0 to 10, the setting of a TCV 0 to 10^6, of an FCV a flow from 0 to 10^8 m3 a day",
+        Section::Rules =>
+            "a time is 0 to 10^8 seconds, a time of day below 24 hours (with AM or PM from 1:00 to 12:59), a speed 0 to 10, the setting of a TCV 0 to 10^6, of an FCV a flow from 0 to 10^8 m3 a day",
+        Section::Options =>
+            "a pressure is at least 0 and at most 10,000 m; with DEMAND MODEL PDA the required pressure is at least 0.1 above the minimum one",
+        Section::Times =>
+            "a time is 0 to 10^8 seconds, a step at least 1 second, a time of day below 24 hours (with AM or PM from 1:00 to 12:59)",
+    }
+}
+
+// ---- DuplicateId and UnknownName
+
+/// An ID that an earlier row has: the ID, what the row is, its line.
+#[derive(Clone, Copy)]
+pub(crate) struct Duplicate<'a> {
+    /// The ID.
+    pub id: &'a [u8],
+    /// The section of the row that has it.
+    pub section: Section,
+    /// The line of that row.
+    pub line: u32,
+}
+
+impl Display for Duplicate<'_> {
+    fn fmt<W: fmt::Write>(&self, f: &mut Formatter<W>) -> fmt::Result {
+        let line = self.line;
+        write!(
+            f,
+            "{} is called {} already, in line {line}",
+            kind_of(self.section),
+            Name(self.id)
+        )
+    }
+}
+
+/// A name that names nothing, or nothing of the right kind.
+#[derive(Clone, Copy)]
+pub(crate) enum WrongName<'a> {
+    /// No node.
+    NoNode(&'a [u8]),
+    /// No link.
+    NoLink(&'a [u8]),
+    /// No pattern.
+    NoPattern(&'a [u8]),
+    /// No curve.
+    NoCurve(&'a [u8]),
+    /// A node that is no junction, and what it is.
+    NoJunction(&'a [u8], Section),
+    /// Another kind than the word before it says: that word, the name, what it is.
+    OtherKind(&'a [u8], &'a [u8], Section),
+    /// The pressure of a reservoir.
+    ReservoirPressure(&'a [u8]),
+}
+
+impl Display for WrongName<'_> {
+    fn fmt<W: fmt::Write>(&self, f: &mut Formatter<W>) -> fmt::Result {
+        match *self {
+            WrongName::NoNode(name) => write!(f, "no node is called {}", Name(name)),
+            WrongName::NoLink(name) => write!(f, "no link is called {}", Name(name)),
+            WrongName::NoPattern(name) => write!(f, "no pattern is called {}", Name(name)),
+            WrongName::NoCurve(name) => write!(f, "no curve is called {}", Name(name)),
+            WrongName::NoJunction(name, section) => {
+                write!(
+                    f,
+                    "{} is {}, and this row is for a junction alone",
+                    Name(name),
+                    kind_of(section)
+                )
+            }
+            WrongName::OtherKind(said, name, section) => {
+                write!(
+                    f,
+                    "{} stands before {}, which is {}",
+                    Name(said),
+                    Name(name),
+                    kind_of(section)
+                )
+            }
+            WrongName::ReservoirPressure(name) => {
+                write!(
+                    f,
+                    "{} is a reservoir, which has a HEAD and no PRESSURE",
+                    Name(name)
+                )
+            }
+        }
+    }
+}
+
+// ---- Unsupported
+
+/// A part that isn't supported, with its names.
+#[derive(Clone, Copy)]
+pub(crate) enum WrongPart<'a> {
+    /// Hazen-Williams.
+    HazenWilliams,
+    /// Darcy-Weisbach.
+    DarcyWeisbach,
+    /// A valve's ID and type.
+    Valve(&'a [u8], &'a [u8]),
+    /// A pump of constant power.
+    Power(&'a [u8]),
+    /// A pump, its curve, and how many points that has.
+    Curve(&'a [u8], &'a [u8], usize),
+    /// A control on a node that is no tank, and what it is.
+    ControlOn(&'a [u8], Section),
+    /// An attribute in a rule.
+    Attribute(&'a [u8]),
+    /// A relation of quantities.
+    Relation(&'a [u8]),
+    /// A pipe with a check valve.
+    CheckValve(&'a [u8]),
+    /// A number that has to be another one.
+    Only(u8, &'a [u8]),
+}
+
+impl Display for WrongPart<'_> {
+    fn fmt<W: fmt::Write>(&self, f: &mut Formatter<W>) -> fmt::Result {
+        match *self {
+            WrongPart::HazenWilliams => f.write_str(
+                "Hazen-Williams head losses (H-W) aren't supported, only Chezy-Manning (HEADLOSS C-M): scripts/manning.py gives each pipe the Manning roughness of equal loss (docs/HAZEN_WILLIAMS.md)",
+            ),
+            WrongPart::DarcyWeisbach => f.write_str(
+                "Darcy-Weisbach head losses (D-W) aren't supported, only Chezy-Manning (HEADLOSS C-M): give each pipe the Manning roughness that loses as much at its flow, as scripts/manning.py does for Hazen-Williams (docs/HAZEN_WILLIAMS.md)",
+            ),
+            WrongPart::Valve(valve, kind) => write!(
+                f,
+                "the valve {} is a {}: {}",
+                Name(valve),
+                Name(kind),
+                general_part(2)
+            ),
+            WrongPart::Power(pump) => write!(
+                f,
+                "the pump {} has POWER: {}",
+                Name(pump),
+                general_part(3)
+            ),
+            WrongPart::Curve(pump, curve, points) => {
+                write!(
+                    f,
+                    "the pump {} has the curve {} of {points} {}: {}",
+                    Name(pump),
+                    Name(curve),
+                    points_word(points),
+                    curve_advice(points)
+                )
+            }
+            WrongPart::ControlOn(node, section) => write!(
+                f,
+                "{} is {}: {}",
+                Name(node),
+                kind_of(section),
+                general_part(8)
+            ),
+            WrongPart::Attribute(word) => write!(
+                f,
+                "{} isn't supported in rules: take FLOW, PRESSURE or LEVEL",
+                Name(word)
+            ),
+            WrongPart::Relation(word) => write!(
+                f,
+                "{} isn't supported between quantities: take <= or >=",
+                Name(word)
+            ),
+            WrongPart::CheckValve(pipe) => write!(
+                f,
+                "{} is a pipe with a check valve: {}",
+                Name(pipe),
+                general_part(11)
+            ),
+            WrongPart::Only(part, word) => write!(
+                f,
+                "{}, and is {}",
+                general_part(part),
+                Name(word)
+            ),
+        }
+    }
+}
+
+// One point, or several.
+fn points_word(points: usize) -> &'static str {
+    if points == 1 {
+        return "point";
+    }
+    "points"
+}
+
+// What a pump's curve of so many points should be.
+fn curve_advice(points: usize) -> &'static str {
+    match points {
+        1 => "both numbers of the one point have to be above 0",
+        2 =>
+            "give it one point, three on a parabola with its top at flow 0, or four and more (scripts/prepare.py adds points on the same line)",
+        3 =>
+            "its three points have to lie on a parabola with its top at flow 0, with flows that rise from 0 and heads that fall; a fourth point makes straight lines of it",
+        _ => general_part(4),
+    }
+}
+
+// ---- Limit
+
+/// A limit that is passed, with its names.
+#[derive(Clone, Copy)]
+pub(crate) enum WrongSize<'a> {
+    /// How many bytes the line has.
+    Line(usize),
+    /// An ID, and how many bytes it has.
+    Id(&'a [u8], usize),
+    /// What the row is, and its ID.
+    Capacity(&'static str, &'a [u8]),
+}
+
+impl Display for WrongSize<'_> {
+    fn fmt<W: fmt::Write>(&self, f: &mut Formatter<W>) -> fmt::Result {
+        match *self {
+            WrongSize::Line(bytes) => {
+                write!(
+                    f,
+                    "the line has {bytes} bytes: 1,024 are the most, its comment counted and its end not"
+                )
+            }
+            WrongSize::Id(id, bytes) => write!(
+                f,
+                "the ID {} has {bytes} bytes: 31 are the most",
+                Name(id)
+            ),
+            WrongSize::Capacity(kind, id) => write!(
+                f,
+                "{kind} {}: {}",
+                Name(id),
+                general_limit(13)
+            ),
+        }
+    }
+}
+
+/// What is said of a row.
+#[derive(Clone, Copy)]
+pub(crate) enum Said<'a> {
+    /// The form of a line.
+    Wrong(Wrong<'a>),
+    /// The form of a line of one section.
+    WrongLine(WrongLine<'a>),
+    /// No number, or a large one.
+    WrongNumber(WrongNumber<'a>),
+    /// A value out of its range.
+    WrongRange(WrongRange<'a>),
+    /// An ID that stands twice.
+    Duplicate(Duplicate<'a>),
+    /// A name of nothing.
+    WrongName(WrongName<'a>),
+    /// A part that isn't supported.
+    WrongPart(WrongPart<'a>),
+    /// A limit that is passed.
+    WrongSize(WrongSize<'a>),
+    /// What a cause means, no more.
+    General(Cause),
+}
+
+impl Display for Said<'_> {
+    fn fmt<W: fmt::Write>(&self, f: &mut Formatter<W>) -> fmt::Result {
+        match *self {
+            Said::Wrong(wrong) => write!(f, "{wrong}"),
+            Said::WrongLine(wrong) => write!(f, "{wrong}"),
+            Said::WrongNumber(wrong) => write!(f, "{wrong}"),
+            Said::WrongRange(wrong) => write!(f, "{wrong}"),
+            Said::Duplicate(wrong) => write!(f, "{wrong}"),
+            Said::WrongName(wrong) => write!(f, "{wrong}"),
+            Said::WrongPart(wrong) => write!(f, "{wrong}"),
+            Said::WrongSize(wrong) => write!(f, "{wrong}"),
+            Said::General(cause) => f.write_str(general(cause)),
+        }
+    }
+}
+
+// ---- stops
+
+/// Which tank is pinned.
+#[derive(Clone, Copy)]
+pub(crate) enum Pinned<'a> {
+    /// None.
+    None,
+    /// This one.
+    Tank(&'a [u8]),
+}
+
+/// On which side of the solutions heads lie, and which tank is pinned.
+#[derive(Clone, Copy)]
+pub(crate) struct Bounded<'a> {
+    /// The tank.
+    pub pinned: Pinned<'a>,
+    /// The side.
+    pub side: Side,
+}
+
+/// An interval of a quantity.
+#[derive(Clone, Copy)]
+pub(crate) struct Compared {
+    /// The lower end.
+    pub lo: Quantity,
+    /// The upper end.
+    pub hi: Quantity,
+}
+
+/// What a clause of a rule speaks of.
+#[derive(Clone, Copy)]
+pub(crate) enum Watched<'a> {
+    /// The head of a node.
+    Head(&'a [u8]),
+    /// The pressure at a node.
+    Pressure(&'a [u8]),
+    /// The level of a tank.
+    Level(&'a [u8]),
+    /// The flow of a link.
+    Flow(&'a [u8]),
+    /// Anything else.
+    Other,
+}
+
+/// What a stop means.
+#[derive(Clone, Copy)]
+pub(crate) enum Meaning<'a> {
+    /// No heads bound the solutions; the junction that is a hint.
+    NoCertificate {
+        bounded: Bounded<'a>,
+        junction: &'a [u8],
+    },
+    /// A tank that may be full, or empty.
+    Tank {
+        id: &'a [u8],
+        level: Compared,
+        full: bool,
+        bound: Quantity,
+    },
+    /// A rule that may hold.
+    Rule {
+        id: &'a [u8],
+        clause: u64,
+        watched: Watched<'a>,
+        level: Compared,
+        value: i128,
+    },
+    /// A level control that may act.
+    Control {
+        number: u64,
+        tank: &'a [u8],
+        level: Compared,
+        bound: Quantity,
+    },
+    /// The end of the period.
+    Event {
+        earliest: Clock,
+        latest: Clock,
+    },
+    /// Rounds that are spent.
+    Rounds {
+        bounded: Bounded<'a>,
+        rounds: u32,
+    },
+    /// A demand out of range.
+    Demand {
+        junction: &'a [u8],
+        demand: Quantity,
+    },
+    /// Something isn't decided.
+    General,
+}
+
+impl Display for Pinned<'_> {
+    fn fmt<W: fmt::Write>(&self, f: &mut Formatter<W>) -> fmt::Result {
+        match *self {
+            Pinned::None => Ok(()),
+            Pinned::Tank(tank) => write!(f, ", with the tank {} pinned", Name(tank)),
+        }
+    }
+}
+
+impl Display for Bounded<'_> {
+    fn fmt<W: fmt::Write>(&self, f: &mut Formatter<W>) -> fmt::Result {
+        let pinned = self.pinned;
+        match self.side {
+            Side::Upper => write!(f, "from above (upper side{pinned})"),
+            Side::Lower => write!(f, "from below (lower side{pinned})"),
+        }
+    }
+}
+
+impl Display for Compared {
+    fn fmt<W: fmt::Write>(&self, f: &mut Formatter<W>) -> fmt::Result {
+        write!(f, "between {} and {}", self.lo, self.hi)
+    }
+}
+
+impl Display for Watched<'_> {
+    fn fmt<W: fmt::Write>(&self, f: &mut Formatter<W>) -> fmt::Result {
+        match *self {
+            Watched::Head(node) => write!(f, "the head of {}", Name(node)),
+            Watched::Pressure(node) => write!(f, "the pressure of {}", Name(node)),
+            Watched::Level(tank) => write!(f, "the level of {}", Name(tank)),
+            Watched::Flow(link) => write!(f, "the flow of {}", Name(link)),
+            Watched::Other => f.write_str("what it measures"),
+        }
+    }
+}
+
+// Which bound of a tank, and which state.
+fn tank_state(full: bool) -> &'static str {
+    if full { "full" } else { "empty" }
+}
+
+fn tank_bound(full: bool) -> &'static str {
+    if full { "maximum" } else { "minimum" }
+}
+
+impl Display for Meaning<'_> {
+    fn fmt<W: fmt::Write>(&self, f: &mut Formatter<W>) -> fmt::Result {
+        match *self {
+            Meaning::NoCertificate { bounded, junction } => {
+                write!(
+                    f,
+                    "no heads between -100,000 m and 100,000 m bound the solutions {bounded}. Look at junction {} and around it: closed or one-way links may cut it off from every source or outlet, or the links can't carry the demands",
+                    Name(junction)
+                )
+            }
+            Meaning::Tank {
+                id,
+                level,
+                full,
+                bound,
+            } => {
+                let state = tank_state(full);
+                write!(
+                    f,
+                    "it isn't decided whether the tank {} is {state} at the period's end. Its level is {level}, and its {} {bound}: --tight, a smaller --width or another hydraulic time step may decide it",
+                    Name(id),
+                    tank_bound(full)
+                )
+            }
+            Meaning::Rule {
+                id,
+                clause,
+                watched,
+                level,
+                value,
+            } => {
+                write!(
+                    f,
+                    "it isn't decided whether the rule {} holds. By its clause {clause} {watched} is compared with {}, and it is {level}: move the value away from where the quantity rests, or try --tight",
+                    Name(id),
+                    Billionths(value)
+                )
+            }
+            Meaning::Control {
+                number,
+                tank,
+                level,
+                bound,
+            } => {
+                write!(
+                    f,
+                    "it isn't decided whether control {number} acts. The level of the tank {} is {level}, and the control's {bound}: another level, --tight or a shorter hydraulic time step may decide it",
+                    Name(tank)
+                )
+            }
+            Meaning::Event { earliest, latest } => {
+                write!(
+                    f,
+                    "it isn't decided in which second the period ends, between {earliest} and {latest}: another level of a control or a tank, --tight, a smaller --width or a shorter hydraulic time step may decide it"
+                )
+            }
+            Meaning::Rounds { bounded, rounds } => {
+                write!(
+                    f,
+                    "{rounds} rounds didn't find heads that bound the solutions {bounded}: give a greater --sweeps, or leave --tight out"
+                )
+            }
+            Meaning::Demand { junction, demand } => {
+                write!(
+                    f,
+                    "the demand of junction {} is {demand}, which is above 10^8 m3 a day in magnitude: look at its demands, their patterns and DEMAND MULTIPLIER",
+                    Name(junction)
+                )
+            }
+            Meaning::General => f.write_str(
+                "something isn't decided (docs/ANSWERS.md, \"The last line\")",
+            ),
+        }
+    }
+}
+
+// ---- certificates
+
+/// What of a record of a certificate isn't so.
+#[derive(Clone, Copy)]
+pub(crate) enum Untrue<'a> {
+    /// Its number or its time.
+    Place,
+    /// A demand of the period.
+    Demand,
+    /// A vector, at a junction.
+    Fails {
+        bounded: Bounded<'a>,
+        junction: &'a [u8],
+    },
+    /// A matter that is open.
+    Open,
+    /// Its length.
+    Length,
+    /// It stands behind the end.
+    After,
+}
+
+// What too little water does at a junction where a vector of a side fails.
+fn passes(side: Side) -> &'static str {
+    match side {
+        Side::Upper => "leaves",
+        Side::Lower => "enters",
+    }
+}
+
+impl Display for Untrue<'_> {
+    fn fmt<W: fmt::Write>(&self, f: &mut Formatter<W>) -> fmt::Result {
+        match *self {
+            Untrue::Place => f.write_str(
+                "the record there has another number, or doesn't begin where the last one ended",
+            ),
+            Untrue::Demand => f.write_str(
+                "a demand is above 10^8 m3 a day in magnitude there, so no record can stand there",
+            ),
+            Untrue::Fails { bounded, junction } => write!(
+                f,
+                "its heads don't bound the solutions {bounded}: too little water {} junction {}",
+                passes(bounded.side),
+                Name(junction)
+            ),
+            Untrue::Open => f.write_str(
+                "its heads are right, and so wide apart that they leave open when the period ends or what follows it",
+            ),
+            Untrue::Length => f.write_str("the period ends at another second than the record says"),
+            Untrue::After => f.write_str("a record stands behind the one at the duration"),
+        }
+    }
+}
+
+/// What is wrong with a line of a certificate.
+pub(crate) fn line_fault(fault: LineFault) -> &'static str {
+    match fault {
+        LineFault::Grammar =>
+            "this line can't stand there: another word, a number that is too large or has a zero in front, a head too few or too many, more than 64 bytes, a text that is cut off, or something behind the END line (docs/CERTIFICATES.md, \"Its lines\")",
+        LineFault::Counts =>
+            "it is of another network: another version, or other numbers of junctions or tanks",
+        LineFault::End =>
+            "the END line isn't true: it counts other records than stand above it, or says FINISHED before the duration or STOPPED at it",
+    }
+}
+
+// ---- progress
+
+impl Display for Progress {
+    fn fmt<W: fmt::Write>(&self, f: &mut Formatter<W>) -> fmt::Result {
+        let time = Hours(self.time);
+        let duration = Hours(self.duration);
+        let periods = self.periods;
+        write!(f, "{time} of {duration}, {periods} periods")
+    }
+}
+
+impl Display for PipesDone {
+    fn fmt<W: fmt::Write>(&self, f: &mut Formatter<W>) -> fmt::Result {
+        let done = self.done;
+        let pipes = self.pipes;
+        write!(f, "{done} of {pipes} pipes")
+    }
+}
+
+// ---- help
+
+/// What helps where words aren't a command.
+pub(crate) const WRONG_WORDS: &str =
+    "these words aren't a command: hyd --help shows all, and hyd help run explains the words of one";
+
+pub(crate) const HELP: &str = "simulates pressurised water networks from EPANET input files,
+and proves the intervals that it prints.
+
+  hyd run NET CERT [--sweeps N] [--width W] [--tight] [--flows IDS]
+      runs the network in NET, writes the certificate CERT, prints the report
+      hyd run examples/net1.inp net1.cert
+  hyd check NET CERT
+      checks a certificate, whoever wrote it, and prints the same report
+      hyd check examples/net1.inp net1.cert
+  hyd gen SEED JUNCTIONS NET CERT
+      makes a network from a seed, runs it, and prints a summary
+      hyd gen 7 100 net.inp net.cert
+  hyd fire NET J P [--sweeps N]
+      prints how much more may be drawn at junction J at the start, its pressure
+      staying above P
+      hyd fire examples/net1.inp 22 20
+  hyd closures NET P [--sweeps N]
+      closes each pipe alone at the start, and prints the junctions that aren't
+      shown to keep the pressure P
+      hyd closures examples/net1.inp 20
+
+N is 200 where it isn't given, W is 0.01 metres.
+hyd help COMMAND explains the words of a command.
+
+Status 0: done. 2: the words aren't a command. 5: NET is refused.
+6: something can't be decided. 7: rounds are spent. 8: a demand is out of range.
+9: CERT isn't right. 1: memory ran out. 3: a file couldn't be read. 4: one
+couldn't be written. 10: a write took nothing.
+
+README.md: how to read a report. docs/ANSWERS.md: each line and status.
+docs/REFUSALS.md: what NET may have. docs/CERTIFICATES.md: what CERT is worth.";
+
+pub(crate) const HELP_OF_RUN: &str = "run NET CERT [--sweeps N] [--width W] [--tight] [--flows IDS]
+
+Runs the network, writes the certificate, prints the report.
+
+  NET          the network: an EPANET input file with Chezy-Manning losses
+               (docs/REFUSALS.md)
+  CERT         the certificate. A file that is there is overwritten where it is
+               empty or a certificate
+  --sweeps N   at most N rounds for each vector where the gradient method finds
+               none: 0 to 100000, else 200
+  --width W    how wide intervals of heads may become, in metres: above 0 to
+               1000, else 0.01
+  --tight      the tightest certificate on the grid of 10^-13 metres
+  --flows IDS  up to 16 links between junctions, parted by commas: tighter
+               intervals of their flows, in FLOW lines
+
+  hyd run examples/net1.inp net1.cert
+
+Status 0: done. 5: NET is refused, and CERT stays as it was. 6, 7, 8: the run
+stopped, and what is printed above the last line holds. 1, 3, 4, 10: memory or
+files. docs/ANSWERS.md: each line of the report.";
+
+pub(crate) const HELP_OF_CHECK: &str = "check NET CERT
+
+Checks a certificate record by record, and prints the report of all records
+that are right. It writes nothing.
+
+  NET   the network
+  CERT  the certificate, whoever wrote it
+
+  hyd check examples/net1.inp net1.cert
+
+Status 0: all records are right, up to the duration (DONE) or as far as they go
+(PARTIAL). 9: one isn't, and the last line says which. 5: NET is refused.
+1, 3, 4, 10: memory or files. docs/CERTIFICATES.md: what a certificate is worth.";
+
+pub(crate) const HELP_OF_GEN: &str = "gen SEED JUNCTIONS NET CERT
+
+Makes a network, runs it, and prints a summary.
+
+  SEED       which network: 0 to 2147483647
+  JUNCTIONS  how many junctions it has: 1 to 10000
+  NET        the network, which is written
+  CERT       the certificate, which is written
+
+  hyd gen 7 100 net.inp net.cert
+
+Status 0: done. 6, 7, 8: the run stopped. 1, 3, 4, 10: memory or files.";
+
+pub(crate) const HELP_OF_FIRE: &str = "fire NET J P [--sweeps N]
+
+Prints FIRE J a b for the first period: with at most a more drawn at J its
+pressure is above P, and from b on it is below P. NONE stands for a where it
+isn't above P even without. Nothing is written.
+
+  NET         the network
+  J           the junction
+  P           the pressure in the unit of NET, at most 10000 in magnitude; one
+              below 0 stands behind a word --
+  --sweeps N  at most N rounds for each vector: 0 to 100000, else 200
+
+  hyd fire examples/net1.inp 22 20
+
+Status 0: done, also where NOCERT or ROUNDS stands for a number. 5: NET is
+refused, or has no junction J. 8: a demand is out of range. 1, 3, 4, 10: memory
+or files.";
+
+pub(crate) const HELP_OF_CLOSURES: &str = "closures NET P [--sweeps N]
+
+Closes each pipe alone in the first period, and prints SHUT and its ID, and
+below it each junction that isn't shown to keep the pressure P: LOW where it is
+at most P, else UNSURE, NOCERT or ROUNDS. It writes nothing.
+
+  NET         the network
+  P           the pressure in the unit of NET, at most 10000 in magnitude; one
+              below 0 stands behind a word --
+  --sweeps N  at most N rounds for each vector: 0 to 100000, else 200
+
+  hyd closures examples/net1.inp 20
+
+Status 0: done. 5: NET is refused. 8: a demand is out of range. 1, 3, 4, 10:
+memory or files.";

@@ -1,0 +1,97 @@
+//! The ways in which a certificate is refused, and what is said of each.
+
+ghost use Rattle.hyd_net.specs.Sound.{IsSound};
+
+use hyd_net::Project;
+use hyd_sentences::{LineFault, RefusedLine, RefusedRecord};
+use hyd_spec_certificates::{Problem, Side};
+use hyd_spec_reports::CertRefused;
+use std::io;
+
+/// Refusals of records, each at least once.
+const RECORDS: &[CertRefused] = &[
+    CertRefused::Place { period: 3 },
+    CertRefused::Demand { period: 3 },
+    CertRefused::Fails {
+        period: 3,
+        problem: Problem::Main,
+        side: Side::Upper,
+        junction: 1,
+    },
+    CertRefused::Fails {
+        period: 3,
+        problem: Problem::Pinned(1),
+        side: Side::Lower,
+        junction: 0,
+    },
+    CertRefused::Open { period: 3 },
+    CertRefused::Length { period: 3 },
+    CertRefused::After { period: 3 },
+];
+
+/// Refusals of lines, each once.
+const LINES: &[LineFault] = &[LineFault::Grammar, LineFault::Counts, LineFault::End];
+
+/// The number of a way to refuse a record.
+fn number_of_record(cause: &CertRefused) -> u8 {
+    match cause {
+        CertRefused::Place { .. } => 0,
+        CertRefused::Demand { .. } => 1,
+        CertRefused::Fails { .. } => 2,
+        CertRefused::Open { .. } => 3,
+        CertRefused::Length { .. } => 4,
+        CertRefused::After { .. } => 5,
+    }
+}
+
+/// The number of a way to refuse a line.
+fn number_of_line(fault: &LineFault) -> u8 {
+    match fault {
+        LineFault::Grammar => 0,
+        LineFault::Counts => 1,
+        LineFault::End => 2,
+    }
+}
+
+/// Tells the refusals that have no case.
+fn tell_lacking(rt: &HostRuntime) -> io::Result<()> {
+    for number in 0..6_u8 {
+        if !RECORDS
+            .iter()
+            .any(|cause| number_of_record(cause) == number)
+        {
+            println!(rt; "refused record {number} HAS NO CASE")?;
+        }
+    }
+    for number in 0..3_u8 {
+        if !LINES.iter().any(|fault| number_of_line(fault) == number) {
+            println!(rt; "refused line {number} HAS NO CASE")?;
+        }
+    }
+    Ok(())
+}
+
+/// Says what of each refused certificate isn't so.
+pub(crate) fn say_all(rt: &HostRuntime, project: &Project) -> io::Result<()>
+    requires { IsSound project.now }
+{
+    for cause in RECORDS {
+        println!(rt;
+            "{}",
+            RefusedRecord {
+                project,
+                cause: *cause
+            }
+        )?;
+    }
+    for fault in LINES {
+        println!(rt;
+            "{}",
+            RefusedLine {
+                line: 12,
+                fault: *fault
+            }
+        )?;
+    }
+    tell_lacking(rt)
+}

@@ -1,0 +1,30 @@
+//! Stored sentences. `texts.txt` has texts that are refused, each with the line and the cause that the reader answers; the
+//! program prints what is said of each, of each way in which a run stops, of each in which a certificate is refused, the pages
+//! of help and the lines of progress. What is expected stands in `stdout`. A cause, a detail, a stop or a refusal without a
+//! case is told, and so is a text of which the reader answers another line or cause.
+#![tactic(auto)]
+
+mod causes;
+mod certificates;
+mod pages;
+mod stops;
+mod texts;
+
+use hyd_inp::read_project;
+use std::{fs, io};
+
+/// Prints all sentences.
+fn main(rt: HostRuntime) -> io::Result<()> {
+    let list = fs::read_to_string(&rt, "texts.txt")?;
+    texts::say_all(&rt, list.as_str())?;
+    causes::tell_lacking(&rt, list.as_str())?;
+    let text = fs::read(&rt, "network.inp")?;
+    match read_project(rt.alloc(), &text) {
+        Ok(project) => {
+            stops::say_all(&rt, &project)?;
+            certificates::say_all(&rt, &project)?;
+        }
+        Err(_) => println!(rt; "the network isn't read")?,
+    }
+    pages::say_all(&rt)
+}
