@@ -1,9 +1,9 @@
 #!/usr/bin/env python3
-"""show_sentences.py PROGRAM: shows each cause, part, limit, stop and refusal once beside its sentence.
+"""show_answers.py PROGRAM [--said]: shows each cause, part, limit, stop and refusal once.
 
 Each case is a small network and a command; what the program must answer stands with it. Behind the last line that it
-prints stands what it says on standard error. Status 1 where an answer isn't the one that is expected, or where nothing is
-said. Outside the gate, since a program of the gate can't start another one.
+prints stands what it says on standard error. Status 1 where an answer isn't the one that is expected or, with --said, where
+nothing is said of it. Outside the gate, since a program of the gate can't start another one.
 """
 
 import pathlib
@@ -147,7 +147,8 @@ def ran(program, words):
 def shown(title, found, status, begins):
     """Shows a case, and tells whether it is as expected."""
     last, got, said = found
-    good = got == status and begins in last and said.startswith("hyd: ") and len(said) > 20
+    is_said = said.startswith("hyd: ") or "--said" not in sys.argv[2:]
+    good = got == status and begins in last and is_said
     print(f"{title}\n    {last}\n" + "".join(f"    | {line}\n" for line in said.splitlines()))
     if not good:
         print(f"    NOT AS EXPECTED: status {got} for {status}, {begins!r} in the last line, a sentence\n")
