@@ -635,7 +635,7 @@ fn met(
     let before = stock(content);
     let inflow = inflow(flow)?;
     if project.tanks.len() != 1
-        || target.unsigned_abs() > 20_000 * METRE
+        || target.unsigned_abs() > 200_000_000_000_000_000
         || !is_held(project, &before)
     {
         return None;
