@@ -28,6 +28,7 @@ from pathlib import Path
 
 import compare_runs
 from compare_runs import MOST_PERIODS, OTHER_SECONDS, SECONDS, build, give_up
+from differences import printed_by
 
 CHANGES = 8
 
@@ -73,7 +74,7 @@ def changed(fuzz, rng, cert, other):
 
 def wanted(cli, text, cert):
     """The independent program's answer."""
-    return cli.Tool({'n.inp': text, 'n.cert': cert}, 'e').call(['check', 'n.inp', 'n.cert'])
+    return cli.Tool({'n.inp': text, 'n.cert': cert}, 'f').call(['check', 'n.inp', 'n.cert'])
 
 
 def got(program, text, cert):
@@ -86,14 +87,14 @@ def got(program, text, cert):
                                   capture_output=True, timeout=SECONDS)
         except subprocess.TimeoutExpired:
             return 'no end in %d seconds' % SECONDS, b''
-        return done.returncode, done.stdout + done.stderr
+        return done.returncode, printed_by(done)
 
 
 def certificate_of(cli, rng, program, text):
     """A certificate of a network and the number of its periods: of either program, of a run that stopped too."""
     if rng.randrange(2):
         files = {'n.inp': text}
-        cli.Tool(files, 'e', None, MOST_PERIODS).call(['run', 'n.inp', 'n.cert'])
+        cli.Tool(files, 'f', None, MOST_PERIODS).call(['run', 'n.inp', 'n.cert'])
         return files.get('n.cert')
     answer = compare_runs.found(program, text, ['--tight'] if rng.randrange(2) else [])
     return answer[2]

@@ -59,7 +59,7 @@ def jobs_of(cli, program, folder, name):
     """All that is tried with a network."""
     text = NETWORKS[name].encode()
     files = {'n.inp': text}
-    cli.Tool(files, 'e').call(['run', 'n.inp', 'n.cert'])
+    cli.Tool(files, 'f').call(['run', 'n.inp', 'n.cert'])
     cert = files['n.cert']
     tries = [('text cut off', one, None) for one in cuts(text)]
     tries += [('text changed', one, None) for one in changes(text)]

@@ -34,6 +34,7 @@ from decimal import Decimal
 from pathlib import Path
 
 from compare_input import ROOT, change_numbers
+from differences import printed_by
 from unproved import LINKER, crates_below, links_to_kit
 
 SPENT = 7
@@ -134,7 +135,7 @@ def expected(cli, text, words, audit=None):
     """The independent program's answer, with the tightest vectors; None where its run has too many periods."""
     files = {'n.inp': text}
     try:
-        status, printed = cli.Tool(files, 'e', audit, MOST_PERIODS).call(['run', 'n.inp', 'n.cert'] + words)
+        status, printed = cli.Tool(files, 'f', audit, MOST_PERIODS).call(['run', 'n.inp', 'n.cert'] + words)
     except cli.TooManyPeriods:
         return None
     return status, printed, files.get('n.cert')
@@ -152,8 +153,8 @@ def agreed(cli, text, words, got, audit=None):
 def followed(cli, text, words, got, audit):
     """What the independent program answers along the records that were found: it accepts each, and where the run
     stopped it looks for the next one itself."""
-    options = cli.parse_words(['run', 'n.inp', 'n.cert'] + words, 'e')[2]
-    sim = cli.Sim(cli.read_project(text, 'e'), options['sweeps'], audit)
+    options = cli.parse_words(['run', 'n.inp', 'n.cert'] + words, 'f')[2]
+    sim = cli.Sim(cli.read_project(text, 'f'), options['sweeps'], audit)
     try:
         printed, end = accepted(cli, sim, options, got[2])
     except (cli.CertFault, cli.CertRefused, Unsharp) as fault:
@@ -176,7 +177,7 @@ class Unsharp(Exception):
 
 def accepted(cli, sim, options, cert):
     """The report of the records of a certificate, and its end."""
-    reader, printed = cli.Tool({}, 'e').reader(sim.project, cert), []
+    reader, printed = cli.Tool({}, 'f').reader(sim.project, cert), []
     while True:
         item = reader.next()
         if item[0] == 'END':
@@ -227,8 +228,7 @@ def found(program, text, words):
         except subprocess.TimeoutExpired:
             return 'no end in %d seconds' % SECONDS, b'', None
         cert = Path(folder) / 'n.cert'
-        said = done.stdout + done.stderr
-        return done.returncode, said, cert.read_bytes() if cert.exists() else None
+        return done.returncode, printed_by(done), cert.read_bytes() if cert.exists() else None
 
 
 def compared(job):

@@ -26,6 +26,7 @@ from pathlib import Path
 
 from compare_input import change_numbers
 from compare_runs import OTHER_SECONDS, SECONDS, build, give_up, steady
+from differences import printed_by
 
 SPENT = 'ROUNDS'
 
@@ -89,7 +90,7 @@ def ended(program, folder, words):
                               timeout=SECONDS)
     except subprocess.TimeoutExpired:
         return None
-    return done.returncode, done.stdout + done.stderr
+    return done.returncode, printed_by(done)
 
 
 def expected(cli, text, words):

@@ -1,5 +1,12 @@
-"""What two readers answer differently."""
+"""What two programs answer differently, and what this repository's answered."""
 import collections
+
+
+def printed_by(done):
+    """What a command printed. Behind it stands what it said on standard error, where that isn't as it should be: nothing where
+    all was done, else lines that begin by `hyd: `."""
+    fits = done.stderr.startswith(b'hyd: ') if done.returncode else not done.stderr
+    return done.stdout if fits else done.stdout + done.stderr
 
 
 def tell(texts, want, got):

@@ -6,8 +6,9 @@
     scripts/report.py map NET REPORT [TIME] -o FILE.svg [--flow] [--names]
 
 `tables` writes nodes.csv, links.csv, tanks.csv and events.csv: a row for each node (link, tank) and time, with the
-lower and the upper end in columns; a spreadsheet opens them, and so does pandas.read_csv. A report has no units: with
---net they are taken from the file and stand in the headings.
+lower and the upper end in columns; of a run with --flows it writes flows.csv too, with the narrower intervals of its FLOW
+lines. A spreadsheet opens them, and so does pandas.read_csv. A report has no units: with --net they are taken from the
+file and stand in the headings.
 
 `plot` draws over time what the IDs have: the level of a tank, the pressure of a junction, the flow of a link. What is
 drawn is the band between the two ends at the report's times, joined to guide the eye where no event lies between;
@@ -54,6 +55,7 @@ class Report:
 
     def __init__(self, name):
         self.nodes, self.tanks, self.links, self.events, self.times, self.last = [], [], [], [], [], ""
+        self.flows = []
         with open(name, encoding="ascii", errors="replace") as file:
             lines = file.read().splitlines()
         if not lines or lines[0] != "HYD 1":
@@ -90,6 +92,9 @@ class Report:
 
     def take_link(self, words):
         self.links.append(self.now(words, flow=self.pair(words, 3), status=words[6]))
+
+    def take_flow(self, words):
+        self.flows.append(dict(time=seconds_of(words[1]), id=words[2], flow=self.pair(words, 3)))
 
     def take_event(self, words):
         self.event("EVENT", "", words[1], words[2:])
@@ -168,6 +173,8 @@ def tables(args):
     write_table(args.folder, "nodes.csv", ["kind", "id"], ["head", "pressure", "outflow"], report.nodes, net)
     write_table(args.folder, "tanks.csv", ["id", "state"], ["level", "inflow"], report.tanks, net)
     write_table(args.folder, "links.csv", ["id", "status"], ["flow"], report.links, net)
+    if report.flows:
+        write_table(args.folder, "flows.csv", ["id"], ["flow"], report.flows, net)
     write_table(args.folder, "events.csv", ["line", "cause", "object", "id", "what"], [], report.events, None)
     print(f"report: {len(report.nodes)} rows of nodes, {len(report.tanks)} of tanks, {len(report.links)} of links, "
           f"{len(report.events)} events; the report ends by {report.last}", file=sys.stderr)

@@ -204,6 +204,17 @@ def try_tables(trial, example, report):
     return folder
 
 
+def try_flows(trial):
+    """The table of FLOW lines, of a run that names a link."""
+    folder = trial.folder / "named"
+    done = subprocess.run(trial.program + ["run", ROOT / "examples/steep.inp", trial.folder / "steep.cert", "--flows", "V"],
+                          capture_output=True, text=True, check=False)
+    (trial.folder / "r.rpt").write_text(done.stdout)
+    trial.script("report.py", "tables", trial.folder / "r.rpt", folder)
+    rows = rows_of(folder / "flows.csv")
+    trial.holds("a row for a FLOW line:", [(row["id"], row["flow_low"]) for row in rows] == [("V", "999.9992")], done.stdout)
+
+
 def try_examples(trial):
     drawing, pandas = python_with("matplotlib"), python_with("pandas")
     for example in sorted((ROOT / "examples").glob("*.inp")):
@@ -302,7 +313,7 @@ def main():
         sys.exit(__doc__)
     with tempfile.TemporaryDirectory() as folder:
         trial = Trial(sys.argv[1], folder)
-        for each in (try_rows, try_forms, try_examples, try_manning, try_scenarios):
+        for each in (try_rows, try_forms, try_examples, try_flows, try_manning, try_scenarios):
             each(trial)
     print(f"{trial.tried} tried, {trial.failed} failed")
     return 1 if trial.failed else 0

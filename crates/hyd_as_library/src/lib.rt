@@ -19,7 +19,7 @@ ghost use Rattle.hyd_as_library.specs.Periods.{HasNoPeriod, PeriodFails};
 ghost use Rattle.hyd_as_library.specs.AtDesk.{IsRunAt, RunFails, RunHasCause, ChangesOnly};
 ghost use Rattle.hyd_as_library.specs.AtDesk.{IsCheckAt, CheckFails, CheckHasCause, LeavesFiles};
 
-use hyd_cert::{CertReader, Record, version_of};
+use hyd_cert::{CertReader, FlowPart, Record, version_of};
 use hyd_cert_check::{CheckEnd, CheckFault, check};
 use hyd_finders::Gradient;
 use hyd_io::{Channel, Desk, MemDesk, OutFault, Pen};
@@ -190,11 +190,13 @@ fn record_for(alloc: Global, project: &Project) -> Result<Record, OutOfMemory>
 fn check_opened<D: Desk>(
     sim: &mut Sim,
     row: &mut Record,
+    part: &mut FlowPart,
     desk: &mut D,
 ) -> Result<CheckEnd, CheckFault>
     requires start { standing_of sim.old ≡ initial_standing sim.old.project }
     requires running { sim.old.stopped ≡ None }
     requires header { header_of row.old ≡ header_for sim.old.project }
+    requires part { part.old.junctions ≡ row.old.junctions }
     ensures whole { (text : List ℕ) → D.rest desk.old ≡ Some text → IfOk result (λ end.
         IsPrinted (λ printed. CheckEnds sim.old.project text printed end)
         (D.printed desk.old) (D.printed desk.new)) }
@@ -211,14 +213,20 @@ fn check_opened<D: Desk>(
 {
     let mut reader = CertReader::new();
     let mut report = Pen::new(Channel::Report);
-    check(sim, &mut reader, row, &mut report, desk)
+    check(sim, &mut reader, row, part, &mut report, desk)
 }
 
-/// Checks the certificate at a desk, with a record.
-fn check_with(sim: &mut Sim, row: &mut Record, desk: &mut MemDesk) -> Result<CheckEnd, Ended>
+/// Checks the certificate at a desk, with a record and a part.
+fn check_with(
+    sim: &mut Sim,
+    row: &mut Record,
+    part: &mut FlowPart,
+    desk: &mut MemDesk,
+) -> Result<CheckEnd, Ended>
     requires start { standing_of sim.old ≡ initial_standing sim.old.project }
     requires running { sim.old.stopped ≡ None }
     requires header { header_of row.old ≡ header_for sim.old.project }
+    requires part { part.old.junctions ≡ row.old.junctions }
     ensures whole { IfOk result (λ end. IsCheckAt sim.old.project CERTIFICATE.now end
         (memory desk.old) (memory desk.new)) }
     ensures fails { IfErr result (λ why. CheckFails sim.old.project CERTIFICATE.now why
@@ -234,15 +242,45 @@ fn check_with(sim: &mut Sim, row: &mut Record, desk: &mut MemDesk) -> Result<Che
     if desk.open(CERTIFICATE).is_err() {
         return Err(Ended::Desk);
     }
-    match check_opened(sim, row, desk) {
+    match check_opened(sim, row, part, desk) {
         Ok(end) => Ok(end),
         Err(_) => Err(Ended::Desk),
     }
 }
 
+/// Opens room for the parts of a certificate with flows, and checks the certificate at a desk, with a record.
+fn check_with_room(
+    alloc: Global,
+    sim: &mut Sim,
+    row: &mut Record,
+    desk: &mut MemDesk,
+) -> Result<CheckEnd, Ended>
+    requires start { standing_of sim.old ≡ initial_standing sim.old.project }
+    requires running { sim.old.stopped ≡ None }
+    requires header { header_of row.old ≡ header_for sim.old.project }
+    ensures whole { IfOk result (λ end. IsCheckAt sim.old.project CERTIFICATE.now end
+        (memory desk.old) (memory desk.new)) }
+    ensures fails { IfErr result (λ why. CheckFails sim.old.project CERTIFICATE.now why
+        (memory desk.old) (memory desk.new)) }
+    ensures cause { IfErr result (λ why. CheckHasCause why (memory desk.old).counts (memory desk.new).counts) }
+    ensures steady { OnOk result ((memory desk.new).counts ≡ (memory desk.old).counts) }
+    ensures files { LeavesFiles (memory desk.old) (memory desk.new) }
+    ensures opens_once { IsErrOf result Ended.OutOfMemory
+        ⊎ ((memory desk.new).openings ≡ with_opened (memory desk.old).openings) }
+    ensures untouched { IsErrOf result Ended.OutOfMemory → sim.new ≡ sim.old }
+    ensures project { sim.new.project ≡ sim.old.project }
+    ensures settings { sim.new.settings ≡ sim.old.settings }
+{
+    match FlowPart::open(alloc, row.junctions) {
+        Ok(mut part) => check_with(sim, row, &mut part, desk),
+        Err(_) => Err(Ended::OutOfMemory),
+    }
+}
+
 /// Checks the certificate in the file `CERTIFICATE` at a desk, and prints the report behind what was printed before.
 /// One that is accepted is that of a run of the network, whoever wrote it, and every history that obeys the network
-/// lies inside. One that is refused is wrong in a line, a record or the END line, and the last line printed says which.
+/// lies inside. One that is refused is wrong in a line, a record, a part with flows or the END line, and the last line
+/// printed says which.
 ///
 /// - `OutOfMemory`: the run and the desk are as they were.
 /// - `Desk`: the file couldn't be opened, or a call broke the check off, and a beginning of such a report was printed.
@@ -263,7 +301,7 @@ pub fn check_at(alloc: Global, sim: &mut Sim, desk: &mut MemDesk) -> Result<Chec
     ensures settings { sim.new.settings ≡ sim.old.settings }
 {
     match record_for(alloc, sim.project()) {
-        Ok(mut row) => check_with(sim, &mut row, desk),
+        Ok(mut row) => check_with_room(alloc, sim, &mut row, desk),
         Err(_) => Err(Ended::OutOfMemory),
     }
 }

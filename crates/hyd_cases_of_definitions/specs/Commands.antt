@@ -1,5 +1,5 @@
 -- Command lines as they are typed, and what they ask for.
-use Rattle.std.specs.Prelude.{ℕ, ◌==◌, Bool, List, Option, Some, is_none, ℤ}
+use Rattle.std.specs.Prelude.{ℕ, ◌==◌, Bool, false, List, [], Option, Some, is_none, ℤ, pos, codes}
 use Rattle.std.specs.List.{slice_split, list_all}
 use Rattle.hyd_command_words.specs.CommandGrammar.{Order, run, check, gen, fire, closures}
 
@@ -13,6 +13,17 @@ asks_run net cert rounds width tight = Some (run (record {
   rounds = rounds;
   width = width;
   tight = tight;
+  flows = [];
+}))
+
+-- `run a b`, by default but for the names of links
+abbrev pub asks_flows : List (List ℕ) → Option Order
+asks_flows names = Some (run (record {
+  files = record { net = codes "a"; cert = codes "b" };
+  rounds = 200;
+  width = pos 100000000000;
+  tight = false;
+  flows = names;
 }))
 
 abbrev pub asks_check : (net cert : List ℕ) → Option Order

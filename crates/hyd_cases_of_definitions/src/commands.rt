@@ -4,7 +4,7 @@
 ghost use Rattle.std.specs.Prelude.{◌≡◌, pos, neg_ℤ, true, false, [], ◌∷◌, map, codes};
 ghost use Rattle.hyd_command_words.specs.CommandGrammar.{order_of};
 ghost use Rattle.hyd_cases_of_definitions.specs.Commands.{typed, asks_run, asks_check, asks_gen, are_none};
-ghost use Rattle.hyd_cases_of_definitions.specs.Commands.{asks_fire, asks_closures};
+ghost use Rattle.hyd_cases_of_definitions.specs.Commands.{asks_fire, asks_closures, asks_flows};
 
 /// The words of `run`: its options in each form, and where they stand.
 pub fn runs()
@@ -35,6 +35,33 @@ pub fn runs()
         asks_run (codes "a") (codes "--tight") 200 (pos 100000000000) false ∷
         asks_run (codes "a") (codes "b") 200 (pos 100000000000) false ∷
         asks_run (codes "a") (codes "--") 200 (pos 100000000000) false ∷ [] }
+{}
+
+/// The words of `run` with names of links: one to 16 of them, each of 1 to 31 bytes, whatever these are.
+pub fn runs_naming()
+    ensures names { map order_of (map typed (
+        codes "run a b --flows V" ∷ codes "run --flows V,W a b" ∷ codes "run a --flows=W,V b" ∷
+        codes "run a b --flows=-x" ∷ codes "run a b --flows=V,-,--" ∷ codes "run a b --flows=-" ∷
+        codes "run a b --flows a;b" ∷ codes "run a b --flows=V=W" ∷ codes "run a b --flows é,v,V" ∷
+        codes "run a b --flows 1234567890123456789012345678901" ∷
+        codes "run a b --flows 1,2,3,4,5,6,7,8,9,10,11,12,13,14,15,16" ∷ []))
+        ≡
+        asks_flows (codes "V" ∷ []) ∷ asks_flows (codes "V" ∷ codes "W" ∷ []) ∷
+        asks_flows (codes "W" ∷ codes "V" ∷ []) ∷
+        asks_flows (codes "-x" ∷ []) ∷ asks_flows (codes "V" ∷ codes "-" ∷ codes "--" ∷ []) ∷
+        asks_flows (codes "-" ∷ []) ∷
+        asks_flows (codes "a;b" ∷ []) ∷ asks_flows (codes "V=W" ∷ []) ∷
+        asks_flows (codes "é" ∷ codes "v" ∷ codes "V" ∷ []) ∷
+        asks_flows (codes "1234567890123456789012345678901" ∷ []) ∷
+        asks_flows (codes "1" ∷ codes "2" ∷ codes "3" ∷ codes "4" ∷ codes "5" ∷ codes "6" ∷ codes "7" ∷ codes "8" ∷
+        codes "9" ∷ codes "10" ∷ codes "11" ∷ codes "12" ∷ codes "13" ∷ codes "14" ∷ codes "15" ∷
+        codes "16" ∷ []) ∷ [] }
+    ensures positions { map order_of (map typed (
+        codes "run -- --flows -" ∷ codes "run a -- --flows" ∷ codes "run --flows=V -- a b" ∷ []))
+        ≡
+        asks_run (codes "--flows") (codes "-") 200 (pos 100000000000) false ∷
+        asks_run (codes "a") (codes "--flows") 200 (pos 100000000000) false ∷
+        asks_flows (codes "V" ∷ []) ∷ [] }
 {}
 
 /// The words of `check` and of `gen`.
@@ -88,6 +115,19 @@ pub fn refused()
         codes "run a b --width x" ∷ codes "run a b --width -5" ∷ codes "run a b --width=-5" ∷
         codes "run a b --width 1 --width=1" ∷ codes "run a b --sweeps -" ∷ codes "run a b --Tight" ∷
         codes "run a b --unknown" ∷ codes "run a b --help" ∷ codes "run a b --sweep 5" ∷ []))) ≡ true }
+    ensures flows { are_none (map order_of (map typed (
+        codes "run a b --flows" ∷ codes "run a b --flows=" ∷ codes "run a b --flows -" ∷ codes "run a b --flows -x" ∷
+        codes "run --flows - a b" ∷ codes "run --flows -- a b" ∷ codes "run a b --flows V --flows W" ∷
+        codes "run a b --flows=V --flows V" ∷ codes "run a b --flows V,V" ∷ codes "run a b --flows V,W,V" ∷
+        codes "run a b --flows ," ∷ codes "run a b --flows V," ∷ codes "run a b --flows ,V" ∷
+        codes "run a b --flows V,,W" ∷ codes "run a b --flows 12345678901234567890123456789012" ∷
+        codes "run a b --flows V,12345678901234567890123456789012" ∷
+        codes "run a b --flows 1,2,3,4,5,6,7,8,9,10,11,12,13,14,15,16,17" ∷ codes "run a b --Flows V" ∷
+        codes "run a b --flow V" ∷ codes "run a b V" ∷ []))) ≡ true }
+    ensures flows_alone { are_none (map order_of (map typed (
+        codes "check a b --flows V" ∷ codes "check a b --flows=V" ∷ codes "gen 7 1 a b --flows V" ∷
+        codes "fire a J 1 --flows V" ∷ codes "closures a 1 --flows V" ∷ codes "closures a 1 --flows=V" ∷
+        codes "fire a J --flows -" ∷ []))) ≡ true }
     ensures others { are_none (map order_of (map typed (
         codes "check a b --tight" ∷ codes "check a b --sweeps 5" ∷ codes "check a a" ∷ codes "check a" ∷
         codes "gen 7 1 a" ∷ codes "gen 2147483648 1 a b" ∷ codes "gen 7 0 a b" ∷ codes "gen 7 10001 a b" ∷

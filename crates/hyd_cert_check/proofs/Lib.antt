@@ -1,7 +1,8 @@
 pub mod PenLemmas
 pub mod TextLemmas
-pub mod LineCountLemmas
 pub mod ReadLemmas
+pub mod PlainConclusions
+pub mod ConclusionsWithFlows
 pub mod ConclusionLemmas
 pub mod WholeCheckLemmas
 pub mod RecordLemmas

@@ -1,31 +1,36 @@
 -- A check from its first line to its last, and what is printed of it.
-use Rattle.std.proofs.Common.{◌≡◌, ℕ, List, [], ◌∷◌, ◌++◌, length-append, Some, None, refl, sym, ap, subst, ◌∙◌, arith}
+use Rattle.std.proofs.Common.{◌≡◌, ℕ, List, [], ◌∷◌, ◌++◌, length-append, All, Some, None, refl, sym, ap, subst, ◌∙◌}
+use Rattle.std.proofs.Common.{arith}
 use Rattle.std.proofs.Common.{append-nil, inl, inr, ◌⊎◌}
 use Rattle.std.specs.Prelude.{⊤, Result, Ok, Err, IfOk, IfErr, OnOk}
+use Rattle.std.specs.List.{AllByRecursion}
+use Rattle.std.proofs.lemmas.List.Elements.{All-nil}
 use Rattle.hyd_net.specs.Sound.{IsSound}
 use Rattle.hyd_spec.specs.ProgramTypes.{Project}
+use Rattle.hyd_spec.specs.NodeNumbers.{junction_count, tank_count}
 use Rattle.hyd_spec_certificates.specs.RecordAndStanding.{Standing, initial_standing}
-use Rattle.hyd_spec_reports.specs.ReportLine.{report_text}
-use Rattle.hyd_spec_reports.specs.PromisesOfRunsAndChecks.{Found, IsRun, IsRunFrom, rows_of, lines_of, report_so_far}
+use Rattle.hyd_spec_reports.specs.PromisesOfRunsAndChecks.{Found, IsRun, IsRunFrom}
+use Rattle.hyd_spec_flows.specs.PromisesWithFlows.{FoundNaming, IsFoundNaming, founds_in, entry_of, entries_of}
+use Rattle.hyd_spec_flows.specs.PromisesWithFlows.{period_text, report_with_flows, report_so_far_naming}
+use Rattle.hyd_lemmas.proofs.ListsOptionsAndResults.{all-more}
 use Rattle.hyd_theorems_on_definitions.proofs.OnePeriodMore.{run_more}
-use Rattle.hyd_theorems_on_histories.proofs.HistoriesAlongRuns.{every_history}
 use Rattle.hyd_io.specs.DeskBytes.{PutOut}
 use Rattle.hyd_io.specs.Output.{PenState}
 use Rattle.hyd_cert.specs.ReaderView.{ReaderView, fresh, to_come}
-use Rattle.hyd_report.specs.NodeAndLinkLines.{texts}
 use Rattle.hyd_run.specs.Runs.{first_line}
 use Rattle.hyd_sim.specs.RunView.{header_for}
 use Rattle.hyd_cert_check.specs.Checks.{CheckEnds, CheckFinds, CheckBreaksOff, in_last_line, in_records}
 use Rattle.hyd_cert_check.specs.ReaderAndPen.{CheckMoment, new_pen, LeavesFiles, PutIn, IsCutOff, Rose}
-use Rattle.hyd_cert_check.specs.RecordByRecord.{coming, IsReadTo, nothing, IsRead, IsStep, IsSoFar, AllRead, IsWhole}
-use Rattle.hyd_cert_check.specs.RecordByRecord.{IsCutShort, IsPrinted, CheckPuts, conclusion_line, end_of}
+use Rattle.hyd_cert_check.specs.RecordByRecord.{coming, IsReadTo, nothing, IsRead, IsEntryAsRead, IsStep, IsSoFar}
+use Rattle.hyd_cert_check.specs.RecordByRecord.{AllRead}
+use Rattle.hyd_cert_check.specs.RecordByRecord.{IsWhole, IsCutShort, IsPrinted, CheckPuts, conclusion_line, end_of}
 use Rattle.hyd_cert_check.specs.declared.outcome.CheckEnd.{CheckEnd}
 use Rattle.hyd_cert_check.specs.declared.outcome.CheckFault.{CheckFault}
 use Rattle.hyd_cert_check.specs.declared.outcome.Conclusion.{Conclusion}
-use Rattle.hyd_run.proofs.RunLemmas.{rows-with, moved-whole, report-more}
+use Rattle.hyd_run.proofs.RunLemmas.{moved-whole}
 use Rattle.hyd_cert_check.proofs.PenLemmas.{put-then, cut-off-then, put-as, cut-off-as}
-use Rattle.hyd_cert_check.proofs.TextLemmas.{rows-more, report-last}
-use Rattle.hyd_cert_check.proofs.ReadLemmas.{read-more, begins-so}
+use Rattle.hyd_cert_check.proofs.TextLemmas.{founds-more, entries-more, report-last, report-more}
+use Rattle.hyd_cert_check.proofs.ReadLemmas.{read-more, fit-more}
 use Rattle.hyd_cert_check.proofs.ConclusionLemmas.{holds-whole, finds}
 
 -- ---- a check so far
@@ -35,14 +40,15 @@ so-far-begins : (project : Project) (start now : CheckMoment) → start.reader �
     → now.told.rest ≡ start.told.rest → PutIn first_line start now
     → IsSoFar project (initial_standing project) start now
 so-far-begins project start now new same rest put = record {
-  founds = [];
+  namings = [];
   is_run = IsRunFrom.none;
-  fit = λ k d inside. absurd (omega (arith, inside));
+  parts = tt;
+  fit = All-nil (IsEntryAsRead now.reader.flows (junction_count project) (tank_count project));
   each = refl;
   read = nothing (ap (λ (r : ReaderView). r.stand) (same ∙ new))
       (ap (λ (r : ReaderView). to_come r now.told.rest) same ∙ ap (to_come start.reader) rest)
       (ap (λ (r : ReaderView). r.line) (same ∙ new));
-  put = put-as first_line (report_so_far project (initial_standing project) [] None) start now (sym (append-nil
+  put = put-as first_line (report_so_far_naming project (initial_standing project) [] None) start now (sym (append-nil
       first_line)) put;
 }
 
@@ -53,125 +59,128 @@ so-far-begun project left start now first new same rest put =
     subst (λ (s : Standing). IsSoFar project s start now) (sym first)
     (so-far-begins project start now new same rest put)
 
--- a record more was accepted
-run-with : (project : Project) (founds : List Found) (left next : Standing) (found : Found)
-    → IsStep project left next found → IsRun project founds left → IsRun project (founds ++ (found ∷ [])) next
-run-with project founds left next found step run =
-    subst (λ (s : Standing). IsRun project (founds ++ (found ∷ [])) s) step.leaves
-    (run_more project founds left found run step.begins step.is_found)
+-- a record more was accepted with its part
+module _ (project : Project) (sound : IsSound project) (left next : Standing) (start before now : CheckMoment)
+    (naming : FoundNaming) (step : IsStep project left next naming.found) (part : IsFoundNaming project naming)
+    (read : IsRead (header_for project) (entry_of naming) before now) (so_far : IsSoFar project left start before) where
+  abbrev namings-with : List FoundNaming
+  namings-with = so_far.namings ++ (naming ∷ [])
 
-pub so-far-more : (project : Project) (left next : Standing) (start before now : CheckMoment) (found : Found)
-    → IsStep project left next found → IsRead (header_for project) found.row before now
-    → PutIn (texts project found.lines) before now → IsSoFar project left start before
-    → IsSoFar project next start now
-so-far-more project left next start before now found step read put so_far = record {
-  founds = so_far.founds ++ (found ∷ []);
-  is_run = run-with project so_far.founds left next found step so_far.is_run;
-  fit = rows-with project so_far.founds found so_far.fit read.fits;
-  each = (let l = length-append so_far.founds (found ∷ []) in let e = so_far.each in let n = step.number in omega
-      (arith, l, e, n));
-  read = subst (IsReadTo project start now) (sym (rows-more so_far.founds found))
-      (read-more project start (rows_of so_far.founds) found.row before now so_far.read read);
-  put = put-as (report_so_far project left so_far.founds None ++ texts project found.lines)
-      (report_so_far project next (so_far.founds ++ (found ∷ [])) None) start now
-      (report-more project left next so_far.founds found) (put-then (report_so_far project left so_far.founds None)
-      (texts project found.lines) start before now so_far.put put);
-}
+  run-with : IsRun project (founds_in namings-with) next
+  run-with =
+      subst (λ (founds : List Found). IsRun project founds next) (sym (founds-more so_far.namings naming))
+      (subst (λ (s : Standing). IsRun project (founds_in so_far.namings ++ (naming.found ∷ [])) s) step.leaves
+      (run_more project (founds_in so_far.namings) left naming.found so_far.is_run step.begins step.is_found))
+
+  parts-with : AllByRecursion (IsFoundNaming project) namings-with
+  parts-with = all-more (IsFoundNaming project) so_far.namings naming so_far.parts part
+
+  fit-with : All (IsEntryAsRead now.reader.flows (junction_count project) (tank_count project))
+      (entries_of namings-with)
+  fit-with =
+      subst (All (IsEntryAsRead now.reader.flows (junction_count project) (tank_count project)))
+      (sym (entries-more so_far.namings naming))
+      (fit-more project sound start (entries_of so_far.namings) (entry_of naming) before now so_far.read read
+      so_far.fit)
+
+  read-with : IsReadTo project start now (entries_of namings-with)
+  read-with =
+      subst (IsReadTo project start now) (sym (entries-more so_far.namings naming))
+      (read-more project sound start (entries_of so_far.namings) (entry_of naming) before now so_far.read read)
+
+  pub so-far-more : PutIn (period_text project naming) before now → IsSoFar project next start now
+  so-far-more put = record {
+    namings = namings-with;
+    is_run = run-with;
+    parts = parts-with;
+    fit = fit-with;
+    each = (let l = length-append so_far.namings (naming ∷ []) in let e = so_far.each in let n = step.number in omega
+        (arith, l, e, n));
+    read = read-with;
+    put = put-as (report_so_far_naming project left so_far.namings None ++ period_text project naming)
+        (report_so_far_naming project next namings-with None) start now
+        (report-more project left next so_far.namings naming)
+        (put-then (report_so_far_naming project left so_far.namings None) (period_text project naming) start before now
+        so_far.put put);
+  }
+
+  -- its report was cut off
+  pub record-cut-off : (why : CheckFault) → IsCutOff why (period_text project naming) before now
+      → IsCutShort project why start now
+  record-cut-off why cut_off = record {
+    report = report_with_flows project namings-with [];
+    holds = λ text told. inr (finds project sound next start now namings-with run-with parts-with fit-with read-with
+        text told);
+    cut_off = cut-off-as why (report_so_far_naming project left so_far.namings None ++ period_text project naming)
+        (report_with_flows project namings-with []) start now
+        (report-more project left next so_far.namings naming)
+        (cut-off-then why (report_so_far_naming project left so_far.namings None) (period_text project naming) start
+        before now so_far.put cut_off);
+  }
 
 -- ---- faults
 
 -- the first line was cut off
 pub first-cut-short : (project : Project) (why : CheckFault) (start now : CheckMoment) → IsSound project
-    → IsCutOff why first_line start now → IsCutShort project why start now
-first-cut-short project why start now sound cut_off = record {
-  report = report_text project [] [];
-  holds = λ text told. inr (record {
-    founds = [];
-    left = initial_standing project;
-    is_run = IsRunFrom.none;
-    rows_fit = λ k d inside. absurd (omega (arith, inside));
-    begins = inl refl;
-    report_so_far = refl;
-    every_history = every_history project sound [] (initial_standing project) IsRunFrom.none;
-  });
-  cut_off = cut-off-as why first_line (report_text project [] []) start now (sym (append-nil first_line)) cut_off;
+    → start.reader ≡ fresh → IsCutOff why first_line start now → IsCutShort project why start now
+first-cut-short project why start now sound new cut_off = record {
+  report = report_with_flows project [] [];
+  holds = λ text told. inr (finds project sound (initial_standing project) start start [] IsRunFrom.none tt
+      (All-nil (IsEntryAsRead start.reader.flows (junction_count project) (tank_count project)))
+      (nothing (ap (λ (r : ReaderView). r.stand) new) refl (ap (λ (r : ReaderView). r.line) new)) text told);
+  cut_off = cut-off-as why first_line (report_with_flows project [] []) start now (sym (append-nil first_line)) cut_off;
 }
 
 -- what was found so far is what was put in, where a fault came behind it
 pub so-far-cut-off : (project : Project) (why : CheckFault) (left : Standing) (start before now : CheckMoment) → IsSound
     project → IsCutOff why [] before now → IsSoFar project left start before → IsCutShort project why start now
 so-far-cut-off project why left start before now sound cut_off so_far = record {
-  report = report_text project (lines_of so_far.founds) [];
-  holds = λ text told. inr (finds project sound left start before so_far text told);
-  cut_off = cut-off-as why (report_so_far project left so_far.founds None ++ [])
-      (report_text project (lines_of so_far.founds) []) start now (report-last project left so_far.founds [])
-      (cut-off-then why (report_so_far project left so_far.founds None) [] start before now so_far.put cut_off);
+  report = report_with_flows project so_far.namings [];
+  holds = λ text told. inr (finds project sound left start before so_far.namings so_far.is_run so_far.parts so_far.fit
+      so_far.read text told);
+  cut_off = cut-off-as why (report_so_far_naming project left so_far.namings None ++ [])
+      (report_with_flows project so_far.namings []) start now (report-last project left so_far.namings [])
+      (cut-off-then why (report_so_far_naming project left so_far.namings None) [] start before now so_far.put cut_off);
 }
-
--- the report of a record that was accepted was cut off
-pub record-cut-off : (project : Project) (why : CheckFault) (left next : Standing) (start before now : CheckMoment)
-    (found : Found) → IsSound project → IsStep project left next found
-    → IsRead (header_for project) found.row before now
-    → IsCutOff why (texts project found.lines) before now → IsSoFar project left start before
-    → IsCutShort project why start now
-record-cut-off project why left next start before now found sound step read cut_off so_far =
-    let founds = so_far.founds ++ (found ∷ []) in
-    let run = run-with project so_far.founds left next found step so_far.is_run in
-    let fit = rows-with project so_far.founds found so_far.fit read.fits in
-    let read_to : IsReadTo project start now (rows_of founds) = subst (IsReadTo project start now) (sym (rows-more
-    so_far.founds found)) (read-more project start (rows_of so_far.founds) found.row before now so_far.read read) in
-    record {
-      report = report_text project (lines_of founds) [];
-      holds = λ text told. inr (record {
-        founds = founds;
-        left = next;
-        is_run = run;
-        rows_fit = fit;
-        begins = begins-so project start founds (rows_of founds) now text refl read_to told;
-        report_so_far = refl;
-        every_history = every_history project sound founds next run;
-      });
-      cut_off = cut-off-as why (report_so_far project left so_far.founds None ++ texts project found.lines)
-          (report_text project (lines_of founds) []) start now
-          (report-more project left next so_far.founds found)
-          (cut-off-then why (report_so_far project left so_far.founds None) (texts project found.lines) start before now
-          so_far.put cut_off);
-    }
 
 -- ---- the last line
 
-module _ (project : Project) (conclusion : Conclusion) (left : Standing) (start now after : CheckMoment)
+module _ (project : Project) (conclusion : Conclusion) (count : ℕ) (start now after : CheckMoment)
     (sound : IsSound project)
-    (read : AllRead conclusion project left start now) where
+    (read : AllRead conclusion project count start now) where
   abbrev last : List ℕ
-  last = conclusion_line project left.number conclusion
+  last = conclusion_line project count conclusion
 
   abbrev report-whole : List ℕ
-  report-whole = report_text project (lines_of read.so_far.founds) last
+  report-whole = report_with_flows project read.so_far.namings last
 
   whole-so : (text : List ℕ) → coming start ≡ Some text → CheckEnds project text report-whole (end_of conclusion)
-  whole-so text told = holds-whole project sound left start read.at_last read.so_far text told conclusion now read.is_so
+  whole-so text told =
+      subst (λ (l : List ℕ). CheckEnds project text (report_with_flows project read.so_far.namings l)
+      (end_of conclusion)) (sym read.last)
+      (holds-whole project sound read.left start read.at_last read.so_far text told conclusion now read.is_so)
 
-  text-so : report_so_far project left read.so_far.founds None ++ ([] ++ last) ≡ report-whole
-  text-so = report-last project left read.so_far.founds last
+  text-so : report_so_far_naming project read.left read.so_far.namings None ++ ([] ++ last) ≡ report-whole
+  text-so = report-last project read.left read.so_far.namings last
 
   pub last-whole : PutIn last now after → IsWhole project (end_of conclusion) start after
   last-whole put = record {
     report = report-whole;
     holds = whole-so;
-    put = put-as (report_so_far project left read.so_far.founds None ++ ([] ++ last)) report-whole start after text-so
-        (put-then (report_so_far project left read.so_far.founds None) ([] ++ last) start read.at_last after
-        read.so_far.put (put-then [] last read.at_last now after read.put put));
+    put = put-as (report_so_far_naming project read.left read.so_far.namings None ++ ([] ++ last)) report-whole start
+        after text-so
+        (put-then (report_so_far_naming project read.left read.so_far.namings None) ([] ++ last) start read.at_last
+        after read.so_far.put (put-then [] last read.at_last now after read.put put));
   }
 
   pub last-cut-short : (why : CheckFault) → IsCutOff why last now after → IsCutShort project why start after
   last-cut-short why cut_off = record {
     report = report-whole;
     holds = λ text told. inl (end_of conclusion, whole-so text told);
-    cut_off = cut-off-as why (report_so_far project left read.so_far.founds None ++ ([] ++ last)) report-whole start
-        after
-        text-so (cut-off-then why (report_so_far project left read.so_far.founds None) ([] ++ last) start read.at_last
-        after read.so_far.put (cut-off-then why [] last read.at_last now after read.put cut_off));
+    cut_off = cut-off-as why (report_so_far_naming project read.left read.so_far.namings None ++ ([] ++ last))
+        report-whole start after
+        text-so (cut-off-then why (report_so_far_naming project read.left read.so_far.namings None) ([] ++ last) start
+        read.at_last after read.so_far.put (cut-off-then why [] last read.at_last now after read.put cut_off));
   }
 
 -- ---- the pen is emptied
@@ -271,12 +280,12 @@ pub whole-as : (project : Project) (a b : CheckEnd) (start now : CheckMoment) �
 whole-as project a b start now e whole = subst (λ (end : CheckEnd). IsWhole project end start now) e whole
 
 -- what the last line makes of a check, as of the network at its start
-pub ending-puts : (project p : Project) (conclusion : Conclusion) (left : Standing)
+pub ending-puts : (project p : Project) (conclusion : Conclusion) (count : ℕ)
     (result : Result CheckEnd CheckFault)
     (start before now : CheckMoment) → p ≡ project
-    → ((x : CheckMoment) → AllRead conclusion p left x before → CheckPuts result p x now)
-    → AllRead conclusion project left start before → CheckPuts result project start now
-ending-puts project p conclusion left result start before now e puts read =
-    subst (λ (q : Project). (x : CheckMoment) → AllRead conclusion q left x before → CheckPuts result q x now) e puts
+    → ((x : CheckMoment) → AllRead conclusion p count x before → CheckPuts result p x now)
+    → AllRead conclusion project count start before → CheckPuts result project start now
+ending-puts project p conclusion count result start before now e puts read =
+    subst (λ (q : Project). (x : CheckMoment) → AllRead conclusion q count x before → CheckPuts result q x now) e puts
     start
     read

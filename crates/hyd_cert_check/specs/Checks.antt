@@ -1,37 +1,24 @@
 -- What a check of a certificate gives: it accepts it, or refuses it and says why, or is broken off.
 -- Source: this program's.
-use Rattle.std.specs.Prelude.{◌≡◌, ◌≢◌, ℕ, ◌-◌, ◌^◌, ◌⊎◌, min, List, [], ◌∷◌, ◌++◌, map, All, Some, codes, decimal}
+use Rattle.std.specs.Prelude.{◌≡◌, ◌≢◌, ℕ, ◌⊎◌, MatchBool, List, [], ◌∷◌, ◌++◌, map, All, Some}
 use Rattle.hyd_spec.specs.ProgramTypes.{Project}
 use Rattle.hyd_spec.specs.Lists.{joined}
 use Rattle.hyd_spec.specs.NodeNumbers.{junction_count, tank_count}
 use Rattle.hyd_spec_certificates.specs.RecordAndStanding.{Record, Standing}
-use Rattle.hyd_spec_reports.specs.CertificateText.{IsRow, line, version_of, header_line, record_text}
+use Rattle.hyd_spec_reports.specs.CertificateText.{IsRow, version_of, header_line, record_text}
 use Rattle.hyd_spec_reports.specs.ReportLine.{report_text}
 use Rattle.hyd_spec_reports.specs.declared.CertRefused.{CertRefused}
 use Rattle.hyd_spec_reports.specs.PromisesOfRunsAndChecks.{Found, IsRun, rows_of, lines_of, EveryHistoryAgrees}
 use Rattle.hyd_spec_reports.specs.PromisesOfRunsAndChecks.{CheckAccepts}
 use Rattle.hyd_spec_reports.specs.PromisesOfRunsAndChecks.{CheckRefuses, CheckRefusesEnd}
+use Rattle.hyd_spec_flows.specs.FlowTexts.{is_with_flows}
 use Rattle.hyd_cert.specs.Faults.{HasOtherHeader}
 use Rattle.hyd_cert.specs.FaultyLine.{IsFirstFault}
 use Rattle.hyd_sim.specs.RunView.{header_for}
+use Rattle.hyd_cert_check.specs.ChecksWithFlows.{CheckEndsNaming, CheckFindsNaming}
+use Rattle.hyd_cert_check.specs.LinesOfRefusals.{refused_grammar_line, refused_counts_line, printed_number}
 use Rattle.hyd_cert_check.specs.declared.outcome.CheckEnd.{CheckEnd}
 use Rattle.hyd_cert_check.specs.declared.outcome.CheckEnd.TheVariants.{Accepted, Refused}
-
--- ---- last lines
-
--- `BADCERT line N GRAMMAR` where the line of that number, counted from 1, is the first with which the text begins no
--- certificate.
-abbrev pub refused_grammar_line : ℕ → List ℕ
-refused_grammar_line number = line (codes "BADCERT" ∷ (codes "line" ∷ (decimal number ∷ (codes "GRAMMAR" ∷ []))))
-
--- `BADCERT line N COUNT` where the header line, the line of that number, has another version or other counts than the
--- network.
-abbrev pub refused_counts_line : ℕ → List ℕ
-refused_counts_line number = line (codes "BADCERT" ∷ (codes "line" ∷ (decimal number ∷ (codes "COUNT" ∷ []))))
-
--- The number of a line as it is printed: it stays at 2^64 - 1 once it is there.
-abbrev pub printed_number : ℕ → ℕ
-printed_number number = min number (2 ^ 64 - 1)
 
 -- ---- what a check refuses by its lines
 
@@ -78,14 +65,20 @@ pub data CheckRefusal (project : Project) (text printed : List ℕ) : Type 0 whe
   record_refused : (cause : CertRefused) → CheckRefuses project text printed cause → CheckRefusal project text printed
   other_end : CheckRefusesEnd project text printed → CheckRefusal project text printed
 
--- What was printed of a text that was checked to its end.
-abbrev pub CheckEnds : Project → List ℕ → List ℕ → CheckEnd → Type 0
-CheckEnds project text printed Accepted = CheckAccepts project text printed
-CheckEnds project text printed Refused = CheckRefusal project text printed
+-- What was printed of a text without flows that was checked to its end.
+abbrev pub CheckEndsPlainly : Project → List ℕ → List ℕ → CheckEnd → Type 0
+CheckEndsPlainly project text printed Accepted = CheckAccepts project text printed
+CheckEndsPlainly project text printed Refused = CheckRefusal project text printed
 
--- What was found of a text so far: it begins as the certificate of a run, and what is printed of it begins so. Every
--- history agrees with it.
-pub record CheckFinds (project : Project) (text report : List ℕ) : Type 0 where
+-- What was printed of a text that was checked to its end, by whether it begins as a certificate with flows.
+abbrev pub CheckEnds : Project → List ℕ → List ℕ → CheckEnd → Type 0
+CheckEnds project text printed end =
+    MatchBool (is_with_flows text) (CheckEndsNaming project text printed end)
+    (CheckEndsPlainly project text printed end)
+
+-- What was found of a text without flows so far: it begins as the certificate of a run, and what is printed of it
+-- begins so. Every history agrees with it.
+pub record CheckFindsPlainly (project : Project) (text report : List ℕ) : Type 0 where
   pub founds : List Found
   pub left : Standing
   pub is_run : IsRun project founds left
@@ -93,6 +86,11 @@ pub record CheckFinds (project : Project) (text report : List ℕ) : Type 0 wher
   pub begins : BeginsWithFound project founds text
   pub report_so_far : report ≡ report_text project (lines_of founds) []
   pub every_history : EveryHistoryAgrees project founds
+
+-- What was found of a text so far, by whether it begins as a certificate with flows.
+abbrev pub CheckFinds : Project → List ℕ → List ℕ → Type 0
+CheckFinds project text report =
+    MatchBool (is_with_flows text) (CheckFindsNaming project text report) (CheckFindsPlainly project text report)
 
 -- A fault of the outside broke a check off: what was printed is a front of the whole report of the text, or of that on
 -- the records so far, without a last line.

@@ -1,3 +1,5 @@
 pub mod ReaderAndPen
+pub mod LinesOfRefusals
+pub mod ChecksWithFlows
 pub mod Checks
 pub mod RecordByRecord

@@ -1,6 +1,7 @@
 //! How a check ends.
 
 use hyd_io::OutFault;
+use hyd_spec_flows::FlowFails;
 use hyd_spec_reports::CertRefused;
 use thiserror::Error;
 
@@ -31,6 +32,8 @@ pub(crate) enum Conclusion {
     Accepted(bool),
     /// The next record is refused.
     Refused(CertRefused),
+    /// The part behind the next record, which has this number, is refused.
+    RefusedPart(u32, FlowFails),
     /// Its END line, the line of this number, says what isn't so.
     OtherEnd(u64),
     /// The line of this number is the first with which it begins no certificate.

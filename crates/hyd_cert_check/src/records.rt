@@ -1,83 +1,142 @@
 //! The records of a certificate, one after another.
 #![tactic(auto)]
 
-ghost use Rattle.std.specs.Prelude.{◌≡◌, None, IsTrue, OnOk, []};
+ghost use Rattle.std.specs.Prelude.{◌≡◌, ◌++◌, None, IsTrue, OnOk, IfErr, [], List, All, length, map};
 ghost use Rattle.hyd_io.specs.Output.{OnCert};
+ghost use Rattle.hyd_io.specs.TextPutIn.{Puts};
+ghost use Rattle.hyd_spec.specs.Lists.{joined};
+ghost use Rattle.hyd_spec_certificates.specs.RecordAndStanding.{Standing};
+ghost use Rattle.hyd_spec_flows.specs.FlowLines.{FlowLine, AreFlowLines, flow_line_text};
+ghost use Rattle.hyd_spec_flows.specs.FlowParts.{IsFlowPart, IsRefusedPart};
+ghost use Rattle.hyd_spec_flows.specs.FlowTexts.{IsNamed};
+ghost use Rattle.hyd_cert.specs.FlowPartView.{part_of};
 ghost use Rattle.hyd_cert.specs.ReaderView.{ReaderView};
 ghost use Rattle.hyd_cert.specs.RecordView.{header_of, row_of};
 ghost use Rattle.hyd_period_network.specs.NetAsPeriodNetwork.{grid_of, states_of};
 ghost use Rattle.hyd_report.specs.NodeAndLinkLines.{texts};
 ghost use Rattle.hyd_report.specs.PeriodLines.{lines_of};
-ghost use Rattle.hyd_io.specs.TextPutIn.{Puts};
 ghost use Rattle.hyd_run.specs.Pens.{told};
-ghost use Rattle.hyd_sim.specs.RunView.{header_for, standing_of};
+ghost use Rattle.hyd_sim.specs.Acceptance.{IsAccepted};
+ghost use Rattle.hyd_sim.specs.RunView.{SimView, header_for, standing_of};
 ghost use Rattle.hyd_cert_check.specs.ReaderAndPen.{CheckMoment, moment, IsOpen, PutIn};
 ghost use Rattle.hyd_cert_check.specs.RecordByRecord.{CanGoOn, IsEnd, IsOfPeriod, IsRead, IsSo, TryGives, TurnGives};
 ghost use Rattle.hyd_cert_check.specs.RecordByRecord.{TurnsGive};
-ghost use Rattle.hyd_cert_check.specs.RecordByRecord.{end_number};
 
 use crate::outcome::{CheckFault, Conclusion};
-use hyd_cert::{CertFault, CertNext, CertReader, Record};
+use hyd_cert::{CertFault, CertNext, CertReader, FlowPart, Record};
+use hyd_flow::{check_flows, put_flow_lines};
 use hyd_io::{Desk, OutFault, Pen};
 use hyd_report::put_report;
 use hyd_sim::Sim;
-use hyd_spec_reports::CertRefused;
+use hyd_spec_flows::FlowFails;
 
-// The number of the END line behind the records of a run that stands where it does.
-fn end_number(sim: &Sim, row: &Record) -> u64
-    requires { header_of row.now ≡ header_for sim.now.project }
-    ensures { result ≡ end_number sim.now.project (standing_of sim.now) }
-{
-    // The counts of a network are small.
-    let _project = sim.project();
-    let records = u64::from(sim.number());
-    let heads = row.vectors.len() as u64;
-    records * (heads + 1) + 2
-}
-
-// What an END line says of the records before it.
-fn judge_end(sim: &Sim, row: &Record, periods: u32, finished: bool) -> Conclusion
-    requires { header_of row.now ≡ header_for sim.now.project }
-    ensures { (before now : CheckMoment) → IsEnd sim.now.project periods finished before
+// What an END line, the line of this number, says of the records before it.
+fn judge_end(sim: &Sim, line: u64, periods: u32, finished: bool) -> Conclusion
+    ensures { (before now : CheckMoment) → IsEnd sim.now.project periods finished before now → line ≡ now.reader.line
         → IsSo result sim.now.project (standing_of sim.now) before now }
 {
-    let other = Conclusion::OtherEnd(end_number(sim, row));
+    // So many periods aren't done.
+    let _project = sim.project();
     if periods != sim.number() {
-        return other;
+        return Conclusion::OtherEnd(line);
     }
     if finished != sim.is_finished() {
-        return other;
+        return Conclusion::OtherEnd(line);
     }
     Conclusion::Accepted(finished)
 }
 
-// Puts the report of the last period of a run.
-fn put_period<D: Desk>(sim: &Sim, pen: &mut Pen, desk: &mut D) -> Result<(), OutFault>
+// Checks the part behind the record of the last period of a run.
+fn check_part(sim: &Sim, part: &FlowPart) -> Result<(), FlowFails>
     requires period { IsOfPeriod sim.now }
-    requires ready { OnCert pen.old.to (IsTrue (D.ready desk.old)) }
-    ensures { Puts D.files D.rest D.written D.printed D.target D.ready D.counts D.openings
-        (texts sim.now.project (lines_of sim.now.project (grid_of sim.now.net) (states_of sim.now.net)
-        (row_of sim.now.row) sim.now.facts)) result pen.old pen.new desk.old desk.new }
+    requires named { All (IsNamed (length sim.now.project.junctions.list)) (part_of part.now) }
+    ensures good { OnOk result (IsFlowPart (grid_of sim.now.net) (row_of sim.now.row) (part_of part.now)) }
+    ensures refused { IfErr result (IsRefusedPart (grid_of sim.now.net) (row_of sim.now.row) (part_of part.now)) }
 {
-    let project = sim.project();
+    // The net is of its network.
+    let _project = sim.project();
     let net = sim.net();
     // Certificates are ordered where the net is steady.
     let _junctions = net.junctions();
-    put_report(project, net, sim.row(), sim.facts(), pen, desk)
+    check_flows(net, sim.row(), part)
 }
 
-// Tries a record as that of the period that is due, and puts its report. Answers why it is refused.
+// Puts the report of the last period of a run: its lines, and the FLOW lines behind them.
+fn put_period<D: Desk>(
+    sim: &Sim,
+    part: &FlowPart,
+    pen: &mut Pen,
+    desk: &mut D,
+) -> Result<(), OutFault>
+    requires period { IsOfPeriod sim.now }
+    requires part { IsFlowPart (grid_of sim.now.net) (row_of sim.now.row) (part_of part.now) }
+    requires ready { OnCert pen.old.to (IsTrue (D.ready desk.old)) }
+    ensures { (standing : Standing) → standing.time ≡ sim.now.row.time → (lines : List FlowLine)
+        × (AreFlowLines sim.now.project (grid_of sim.now.net) standing (part_of part.now) lines
+        × Puts D.files D.rest D.written D.printed D.target D.ready D.counts D.openings
+        (texts sim.now.project (lines_of sim.now.project (grid_of sim.now.net) (states_of sim.now.net)
+        (row_of sim.now.row) sim.now.facts) ++ joined (map (flow_line_text sim.now.project) lines))
+        result pen.old pen.new desk.old desk.new) }
+{
+    let project = sim.project();
+    let net = sim.net();
+    let row = sim.row();
+    // Certificates are ordered where the net is steady.
+    let _junctions = net.junctions();
+    match put_report(project, net, row, sim.facts(), pen, desk) {
+        Ok(()) => put_flow_lines(project, net, row, part, pen, desk),
+        Err(fault) => Err(fault),
+    }
+}
+
+// Reports a record that was accepted, or answers why its part is refused.
+fn take_part<D: Desk>(
+    sim: &Sim,
+    part: &FlowPart,
+    pen: &mut Pen,
+    desk: &mut D,
+) -> Result<Option<Conclusion>, OutFault>
+    requires period { IsOfPeriod sim.now }
+    requires named { All (IsNamed (length sim.now.project.junctions.list)) (part_of part.now) }
+    requires unbroken { IsOpen pen.old }
+    ensures { (before : CheckMoment) (earlier : SimView) (reader : ReaderView)
+        → IsAccepted earlier sim.now
+        → IsRead (header_for sim.now.project) (record { row = row_of sim.now.row; part = part_of part.now }) before
+        (moment reader pen.old
+        (told D.files D.rest D.written D.printed D.target D.ready D.counts D.openings desk.old))
+        → PutIn [] before (moment reader pen.old
+        (told D.files D.rest D.written D.printed D.target D.ready D.counts D.openings desk.old))
+        → TryGives result earlier sim.now before (moment reader pen.new
+        (told D.files D.rest D.written D.printed D.target D.ready D.counts D.openings desk.new)) }
+{
+    // The run stands behind a period of its network.
+    let _project = sim.project();
+    match check_part(sim, part) {
+        Ok(()) => {}
+        Err(cause) => return Ok(Some(Conclusion::RefusedPart(sim.row().number, cause))),
+    }
+    match put_period(sim, part, pen, desk) {
+        Ok(()) => Ok(None),
+        Err(fault) => Err(fault),
+    }
+}
+
+// Tries a record as that of the period that is due, then the part behind it, and puts its report. Answers why one of
+// them is refused.
 fn try_record<D: Desk>(
     sim: &mut Sim,
     row: &Record,
+    part: &FlowPart,
     pen: &mut Pen,
     desk: &mut D,
-) -> Result<Option<CertRefused>, OutFault>
+) -> Result<Option<Conclusion>, OutFault>
     requires running { sim.old.stopped ≡ None }
     requires header { header_of row.now ≡ header_for sim.old.project }
+    requires named { All (IsNamed row.now.junctions) (part_of part.now) }
     requires unbroken { IsOpen pen.old }
     ensures tries { (before : CheckMoment) (reader : ReaderView)
-        → IsRead (header_for sim.old.project) (row_of row.now) before (moment reader pen.old
+        → IsRead (header_for sim.old.project) (record { row = row_of row.now; part = part_of part.now }) before
+        (moment reader pen.old
         (told D.files D.rest D.written D.printed D.target D.ready D.counts D.openings desk.old))
         → PutIn [] before (moment reader pen.old
         (told D.files D.rest D.written D.printed D.target D.ready D.counts D.openings desk.old))
@@ -89,27 +148,26 @@ fn try_record<D: Desk>(
 {
     match sim.accept(row) {
         Ok(()) => {}
-        Err(cause) => return Ok(Some(cause)),
+        Err(cause) => return Ok(Some(Conclusion::Refused(cause))),
     }
     // The run stands behind a period of its network.
     let _project = sim.project();
-    match put_period(sim, pen, desk) {
-        Ok(()) => Ok(None),
-        Err(fault) => Err(fault),
-    }
+    take_part(sim, part, pen, desk)
 }
 
-// Reads the next record, tries it as that of the period that is due, and puts its report. Answers what is found where
-// there is none.
+// Reads the next record and the part behind it, tries them as those of the period that is due, and puts its report.
+// Answers what is found where there is none.
 fn take_record<D: Desk>(
     sim: &mut Sim,
     reader: &mut CertReader,
     row: &mut Record,
+    part: &mut FlowPart,
     pen: &mut Pen,
     desk: &mut D,
 ) -> Result<Option<Conclusion>, CheckFault>
     requires running { sim.old.stopped ≡ None }
     requires header { header_of row.old ≡ header_for sim.old.project }
+    requires part { part.old.junctions ≡ row.old.junctions }
     requires going { CanGoOn (moment reader.old pen.old
         (told D.files D.rest D.written D.printed D.target D.ready D.counts D.openings desk.old)) }
     ensures gives { TurnGives result sim.old sim.new
@@ -121,19 +179,19 @@ fn take_record<D: Desk>(
     ensures project { sim.new.project ≡ sim.old.project }
     ensures settings { sim.new.settings ≡ sim.old.settings }
     ensures header { header_of row.new ≡ header_of row.old }
+    ensures part { part.new.junctions ≡ row.new.junctions }
 {
-    match reader.next(desk, row) {
+    match reader.next_with(desk, row, part) {
         Ok(CertNext::Record) => {}
         Ok(CertNext::End { periods, finished }) => {
-            return Ok(Some(judge_end(sim, row, periods, finished)));
+            return Ok(Some(judge_end(sim, reader.line(), periods, finished)));
         }
         Err(CertFault::Read) => return Err(CheckFault::Read),
         Err(CertFault::Grammar { line }) => return Ok(Some(Conclusion::Grammar(line))),
         Err(CertFault::Count { line }) => return Ok(Some(Conclusion::Counts(line))),
     }
-    match try_record(sim, row, pen, desk) {
-        Ok(None) => Ok(None),
-        Ok(Some(cause)) => Ok(Some(Conclusion::Refused(cause))),
+    match try_record(sim, row, part, pen, desk) {
+        Ok(answer) => Ok(answer),
         Err(fault) => Err(CheckFault::Output(fault)),
     }
 }
@@ -143,11 +201,13 @@ pub(crate) fn take_records<D: Desk>(
     sim: &mut Sim,
     reader: &mut CertReader,
     row: &mut Record,
+    part: &mut FlowPart,
     pen: &mut Pen,
     desk: &mut D,
 ) -> Result<Conclusion, CheckFault>
     requires running { sim.old.stopped ≡ None }
     requires header { header_of row.old ≡ header_for sim.old.project }
+    requires part { part.old.junctions ≡ row.old.junctions }
     requires going { CanGoOn (moment reader.old pen.old
         (told D.files D.rest D.written D.printed D.target D.ready D.counts D.openings desk.old)) }
     ensures give { TurnsGive result sim.old sim.new
@@ -162,7 +222,7 @@ pub(crate) fn take_records<D: Desk>(
     // The network is sound.
     let _project = sim.project();
     loop {
-        match take_record(sim, reader, row, pen, desk) {
+        match take_record(sim, reader, row, part, pen, desk) {
             Ok(None) => {}
             Ok(Some(conclusion)) => return Ok(conclusion),
             Err(fault) => return Err(fault),

@@ -15,7 +15,7 @@ ghost use Rattle.hyd_cert_check.specs.RecordByRecord.{AllRead, CheckPuts, IsPrin
 use crate::last_report_line::put_conclusion;
 use crate::outcome::{CheckEnd, CheckFault, Conclusion};
 use crate::records::take_records;
-use hyd_cert::{CertReader, Record};
+use hyd_cert::{CertReader, FlowPart, Record};
 use hyd_io::{Desk, Pen};
 use hyd_run::{empty, put_first};
 use hyd_sim::Sim;
@@ -39,7 +39,7 @@ fn put_ending<D: Desk>(
 ) -> Result<CheckEnd, CheckFault>
     requires { IsOpen pen.old }
     ensures { (start : CheckMoment) (reader : ReaderView)
-        → AllRead conclusion sim.now.project (standing_of sim.now) start (moment reader pen.old
+        → AllRead conclusion sim.now.project (standing_of sim.now).number start (moment reader pen.old
         (told D.files D.rest D.written D.printed D.target D.ready D.counts D.openings desk.old))
         → CheckPuts result sim.now.project start (moment reader pen.new
         (told D.files D.rest D.written D.printed D.target D.ready D.counts D.openings desk.new)) }
@@ -55,6 +55,7 @@ fn put_check<D: Desk>(
     sim: &mut Sim,
     reader: &mut CertReader,
     row: &mut Record,
+    part: &mut FlowPart,
     pen: &mut Pen,
     desk: &mut D,
 ) -> Result<CheckEnd, CheckFault>
@@ -62,6 +63,7 @@ fn put_check<D: Desk>(
     requires running { sim.old.stopped ≡ None }
     requires reader { reader.old ≡ fresh }
     requires header { header_of row.old ≡ header_for sim.old.project }
+    requires part { part.old.junctions ≡ row.old.junctions }
     requires unbroken { IsOpen pen.old }
     ensures puts { CheckPuts result sim.old.project
         (moment reader.old pen.old
@@ -77,7 +79,7 @@ fn put_check<D: Desk>(
         Ok(()) => {}
         Err(fault) => return Err(CheckFault::Output(fault)),
     }
-    match take_records(sim, reader, row, pen, desk) {
+    match take_records(sim, reader, row, part, pen, desk) {
         Ok(conclusion) => put_ending(sim, conclusion, pen, desk),
         Err(fault) => Err(fault),
     }
@@ -100,14 +102,18 @@ fn finish<D: Desk>(end: CheckEnd, pen: &mut Pen, desk: &mut D) -> Result<CheckEn
 }
 
 /// Checks the certificate in the file that is being read: its header line, its records in order and its END line, each
-/// record as that of the period that is due in a run of the network. Puts the report out through the pen as it goes,
-/// the lines of a period when its record is accepted, and a last line that says how the check ends. Takes no memory.
-/// The pen is empty at the end.
+/// record as that of the period that is due in a run of the network. A text of version 3 goes with any network of its
+/// counts: it has a part behind each record, which is judged behind that record. Puts the report out through the pen as
+/// it goes, the lines of a period when its record and its part are accepted, the FLOW lines behind the others, and a
+/// last line that says how the check ends. Says to a person why a certificate is refused. Takes no memory. The pen is
+/// empty at the end.
 ///
-/// The run is at its start, the reader is new, and the record has the version and the counts of the network.
+/// The run is at its start, the reader is new, the record has the version and the counts of the network, and the part
+/// was opened for its junctions.
 ///
-/// - `Accepted`: the text is the certificate of a run of the network, whole or as far as it went.
-/// - `Refused`: its lines, a record or the END line aren't right; the last line says which.
+/// - `Accepted`: the text is the certificate of a run of the network, whole or as far as it went, with the flows of the
+///   links that it names.
+/// - `Refused`: its lines, a record, a part or the END line aren't right; the last line says which.
 /// - `Read`: a read failed, and the read faults rose by one.
 /// - `Output`: a call that prints failed or took nothing, and its faults or the stalls rose by one.
 ///
@@ -117,6 +123,7 @@ pub fn check<D: Desk>(
     sim: &mut Sim,
     reader: &mut CertReader,
     row: &mut Record,
+    part: &mut FlowPart,
     report: &mut Pen,
     desk: &mut D,
 ) -> Result<CheckEnd, CheckFault>
@@ -124,6 +131,7 @@ pub fn check<D: Desk>(
     requires running { sim.old.stopped ≡ None }
     requires reader { reader.old ≡ fresh }
     requires header { header_of row.old ≡ header_for sim.old.project }
+    requires part { part.old.junctions ≡ row.old.junctions }
     requires report { report.old ≡ new_pen }
     ensures whole { (text : List ℕ) → D.rest desk.old ≡ Some text → IfOk result (λ end.
         IsPrinted (λ printed. CheckEnds sim.old.project text printed end)
@@ -142,7 +150,7 @@ pub fn check<D: Desk>(
     ensures project { sim.new.project ≡ sim.old.project }
     ensures settings { sim.new.settings ≡ sim.old.settings }
 {
-    match put_check(sim, reader, row, report, desk) {
+    match put_check(sim, reader, row, part, report, desk) {
         Ok(end) => finish(end, report, desk),
         Err(fault) => Err(fault),
     }

@@ -19,6 +19,7 @@ use Rattle.hyd_cert_check.specs.declared.outcome.CheckEnd.TheVariants.{Accepted,
 use Rattle.hyd_cert_check.specs.declared.outcome.CheckFault.{CheckFault}
 use Rattle.hyd_cert_check.specs.declared.outcome.CheckFault.TheVariants.{Read, Output}
 use Rattle.hyd_theorems_on_checks.proofs.NeverRefused.{never_refused}
+use Rattle.hyd_theorems_on_checks.proofs.TextsWithoutFlows.{run_without_flows, plain_end}
 use Rattle.hyd_command_words.specs.CommandGrammar.{TwoFiles, check}
 use Rattle.hyd_command_answers.specs.DeskContents.{Seen, IsUntouched, OnlyPrinted, OnlyPrintedFront, OnlyPrintedSome}
 use Rattle.hyd_command_answers.specs.FaultsAndRefusals.{HasCause}
@@ -30,7 +31,7 @@ use Rattle.hyd_command_answers.specs.declared.status.Status.{Status}
 use Rattle.hyd_command_answers.specs.declared.status.Status.TheVariants.{Done, OutOfMemory, Usage, ReadFault, WriteFault}
 use Rattle.hyd_command_answers.specs.declared.status.Status.TheVariants.{InputRefused, Undecided, RoundsSpent, Demand}
 use Rattle.hyd_command_answers.specs.declared.status.Status.TheVariants.{CertificateRefused, Stalled}
-use Rattle.hyd_cli.proofs.AnswerLemmas.{since_before}
+use Rattle.hyd_command_answers.proofs.AnswerLemmas.{since_before}
 
 -- ---- that only something was printed
 
@@ -76,7 +77,11 @@ pub answers_end : (project : Project) (text : List ℕ) (end : CheckEnd) (before
     → IsPrinted (λ printed. CheckEnds project text printed end) before.printed now.printed
     → AnswersCert project text (status_of_check end) before now
 answers_end project text Accepted before now h = h
-answers_end project text Refused before now h = (h, λ is. never_refused project text h.report is h.holds)
+answers_end project text Refused before now h = (
+  h,
+  λ is. never_refused project text h.report is
+      (plain_end project text (run_without_flows project text is) h.report Refused h.holds),
+)
 
 pub leaves_end : (files : TwoFiles) (end : CheckEnd) (before now : Seen) → OnlyPrintedSome before now
     → Leaves (Some (check files)) (status_of_check end) before now

@@ -32,7 +32,7 @@ use Rattle.hyd_command_answers.specs.declared.status.Status.{Status}
 use Rattle.hyd_command_answers.specs.declared.status.Status.TheVariants.{Done, OutOfMemory, Usage, ReadFault, WriteFault}
 use Rattle.hyd_command_answers.specs.declared.status.Status.TheVariants.{InputRefused, Undecided, RoundsSpent, Demand}
 use Rattle.hyd_command_answers.specs.declared.status.Status.TheVariants.{CertificateRefused, Stalled}
-use Rattle.hyd_cli.proofs.AnswerLemmas.{new_text, new_file, other_target, number_of_end, by_end, printed_since}
+use Rattle.hyd_command_answers.proofs.AnswerLemmas.{new_text, new_file, other_target, number_of_end, by_end, printed_since}
 use Rattle.hyd_cli.proofs.AnswerLemmas.{refused_leaves_since, seen_of}
 
 -- ---- what a new pen on a file puts out in one put and a flush

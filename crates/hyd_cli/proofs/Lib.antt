@@ -4,3 +4,4 @@ pub mod CommandsOfWords
 pub mod GenLemmas
 pub mod TaskWithoutMemory
 pub mod TargetsWithoutMemory
+pub mod RunWordsLemmas

@@ -1,7 +1,7 @@
 -- What the answers of every command mean: what is asked of the desk, which call failed, how words and texts are
 -- refused, and what is left whatever the text was.
 -- Source: this program's.
-use Rattle.std.specs.Prelude.{ℕ, List, Option, Some, None, IsTrue, Bool, ⊤}
+use Rattle.std.specs.Prelude.{ℕ, List, [], ◌∷◌, Option, Some, None, IsTrue, Bool, ⊤}
 use Rattle.hyd_command_words.specs.CommandGrammar.{Order, run, check, gen, fire, closures}
 use Rattle.hyd_cli.specs.WordsAndUsageLine.{usage_line}
 use Rattle.hyd_command_answers.specs.declared.status.Status.{Status}
@@ -10,6 +10,7 @@ use Rattle.hyd_command_answers.specs.declared.status.Status.TheVariants.{InputRe
 use Rattle.hyd_command_answers.specs.DeskContents.{Seen, IsUntouched, OnlyPrinted, OnlyPrintedFront, OnlyPrintedSome}
 use Rattle.hyd_command_answers.specs.FaultsAndRefusals.{PrintsRefusal}
 use Rattle.hyd_target_commands.specs.CommandsOnTargets.{LeavesNet}
+use Rattle.hyd_naming_command.specs.NamingAnswers.{LeavesNaming}
 
 -- ---- names
 
@@ -54,10 +55,15 @@ LeavesCheck Usage before now = OnlyPrinted usage_line before now
 LeavesCheck InputRefused before now = PrintsRefusal before now
 LeavesCheck status before now = OnlyPrintedSome before now
 
--- What an answer leaves, by what was asked. Words that aren't a command ask for nothing.
+-- What the answer of a run leaves; where links were named, a refusal may be that of a name.
+abbrev pub LeavesOrder : List (List ℕ) → Status → Seen → Seen → Type 0
+LeavesOrder [] status before now = LeavesRun status before now
+LeavesOrder (name ∷ names) status before now = LeavesNaming (name ∷ names) status before now
+
+-- What an answer leaves, by what was asked. Words that aren't a command leave what a run may.
 abbrev pub Leaves : Option Order → Status → Seen → Seen → Type 0
 Leaves None status before now = LeavesRun status before now
-Leaves (Some (run order)) status before now = LeavesRun status before now
+Leaves (Some (run order)) status before now = LeavesOrder order.flows status before now
 Leaves (Some (check files)) status before now = LeavesCheck status before now
 Leaves (Some (gen order)) status before now = LeavesRun status before now
 Leaves (Some (fire order)) status before now = LeavesNet status before now

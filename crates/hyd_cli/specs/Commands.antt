@@ -1,7 +1,7 @@
 -- What each command does, by the name of its answer: what is said of what it was asked, of what the desk told before
 -- and tells now, of how often files were opened and created, and, of `gen`, of whether one can be written to.
 -- Source: this program's.
-use Rattle.std.specs.Prelude.{◌≢◌, ℕ, Bool, List}
+use Rattle.std.specs.Prelude.{◌≢◌, ℕ, Bool, List, [], ◌∷◌}
 use Rattle.hyd_io.specs.declared.desk.Openings.{Openings}
 use Rattle.hyd_io.specs.DeskBytes.{IsTold}
 use Rattle.hyd_net.specs.declared.refusal_cause.Cause.{Cause}
@@ -10,20 +10,29 @@ use Rattle.hyd_command_words.specs.CommandGrammar.{RunOrder, GenOrder, TwoFiles}
 use Rattle.hyd_command_answers.specs.DeskContents.{Seen, OnlyPrintedSome, ChangesOnly}
 use Rattle.hyd_command_answers.specs.FaultsAndRefusals.{AnswersRefused}
 use Rattle.hyd_command_answers.specs.OpeningsOfRuns.{OpensOnce}
-use Rattle.hyd_cli.specs.RunAnswers.{Holds, settings_of}
+use Rattle.hyd_command_answers.specs.WrittenCertificates.{Holds}
+use Rattle.hyd_cli.specs.RunAnswers.{settings_of}
 use Rattle.hyd_cli.specs.RunAnswers.{AnswersText}
+use Rattle.hyd_naming_command.specs.NamingAnswers.{AnswersTextNaming}
 use Rattle.hyd_cli.specs.CheckAnswers.{AnswersCheck, ReadsBoth}
 use Rattle.hyd_cli.specs.GenAnswers.{text_of, AnswersGen, ChangesBoth, CreatesBoth, KeepsCert, KeepsNet}
 use Rattle.hyd_command_answers.specs.declared.status.Status.{Status}
 use Rattle.hyd_command_answers.specs.declared.status.Status.TheVariants.{InputRefused}
 
--- `run`: a text with a fault is refused with it, and one without is run; CERT holds what was written, also where the
+-- What an answer says of a text without a fault: its network is run, with the flows of the links that are named if any
+-- are, or the first name that doesn't fit is refused.
+abbrev pub AnswersOrder : List ℕ → RunOrder → List (List ℕ) → Status → Seen → Seen → Type 0
+AnswersOrder text order [] status before now = AnswersText text (settings_of order) order.files.cert status before now
+AnswersOrder text order (name ∷ names) status before now =
+    AnswersTextNaming text (name ∷ names) (settings_of order) order.files.cert status before now
+
+-- `run`: a text with a fault is refused with it, and one without is run, or a name refused; CERT holds what was written, also where the
 -- text isn't told; no other file is changed; NET is opened and CERT created once at most.
 pub record DoesRun (order : RunOrder) (status : Status) (before now : Seen) (opened opens : Openings) : Type 0 where
   pub refused : (text : List ℕ) (line : ℕ) (why : Cause) → IsTold before.files order.files.net text
       → IsFault text line why → AnswersRefused line why status before now
   pub runs : (text : List ℕ) → IsTold before.files order.files.net text → HasNoFault text
-      → AnswersText text (settings_of order) order.files.cert status before now
+      → AnswersOrder text order order.flows status before now
   pub holds : Holds status order.files.cert before now
   pub others : ChangesOnly order.files.cert before now
   pub once : OpensOnce status opened opens

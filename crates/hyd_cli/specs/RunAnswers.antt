@@ -69,14 +69,3 @@ AnswersText text settings cert OutOfMemory before now = IsUntouched before now
 AnswersText text settings cert ReadFault before now = IsUntouched before now
 AnswersText text settings cert status before now = OfNetwork text (λ project. AnswersRun project settings cert status
     before now)
-
--- The file of the name CERT holds what was written, at the end of a run and, where any file isn't as it was, after a
--- fault.
-abbrev pub Holds : Status → List ℕ → Seen → Seen → Type 0
-Holds Done cert before now = file_at now.files cert ≡ now.written
-Holds Undecided cert before now = file_at now.files cert ≡ now.written
-Holds RoundsSpent cert before now = file_at now.files cert ≡ now.written
-Holds Demand cert before now = file_at now.files cert ≡ now.written
-Holds WriteFault cert before now = FilesStay before now ⊎ (file_at now.files cert ≡ now.written)
-Holds Stalled cert before now = FilesStay before now ⊎ (file_at now.files cert ≡ now.written)
-Holds status cert before now = ⊤

@@ -17,7 +17,7 @@ ghost use Rattle.hyd_cli.specs.CheckAnswers.{status_of_break};
 ghost use Rattle.hyd_command_answers.specs.declared.status.Status.TheVariants.{Usage, InputRefused};
 
 use crate::task_with_network::{Task, do_with_network};
-use hyd_cert::{CertReader, Record, version_of};
+use hyd_cert::{CertReader, FlowPart, Record, version_of};
 use hyd_cert_check::{CheckEnd, CheckFault, check};
 use hyd_command_answers::{Status, Unread, fault_status, read_network, refuse_text};
 use hyd_io::{Channel, Desk, Pen};
@@ -46,10 +46,17 @@ fn status_of_fault(fault: CheckFault) -> Status
 }
 
 /// Opens CERT, checks it by the run at its start, and prints the report.
-fn check_opened<D: Desk>(sim: &mut Sim, row: &mut Record, cert: &str, desk: &mut D) -> Status
+fn check_opened<D: Desk>(
+    sim: &mut Sim,
+    row: &mut Record,
+    part: &mut FlowPart,
+    cert: &str,
+    desk: &mut D,
+) -> Status
     requires start { standing_of sim.old ≡ initial_standing sim.old.project }
     requires running { sim.old.stopped ≡ None }
     requires header { header_of row.old ≡ header_for sim.old.project }
+    requires part { part.old.junctions ≡ row.old.junctions }
     requires opens { IsTrue (D.may_open cert.now) }
     ensures cause { HasCause result (D.counts desk.old) (D.counts desk.new) }
     ensures only_prints { OnlyPrintedSome
@@ -66,7 +73,7 @@ fn check_opened<D: Desk>(sim: &mut Sim, row: &mut Record, cert: &str, desk: &mut
     }
     let mut reader = CertReader::new();
     let mut report = Pen::new(Channel::Report);
-    match check(sim, &mut reader, row, &mut report, desk) {
+    match check(sim, &mut reader, row, part, &mut report, desk) {
         Ok(end) => status_of_end(end),
         Err(fault) => status_of_fault(fault),
     }
@@ -80,6 +87,34 @@ fn record_for(alloc: Global, project: &Project) -> Result<Record, AllocError>
     let junctions = project.junctions.len() as u32;
     let tanks = project.tanks.len() as u32;
     Record::open(alloc, version_of(project), junctions, tanks)
+}
+
+/// Takes room for the flows that CERT may hold, and checks it by the run at its start.
+fn check_with_flows<D: Desk>(
+    alloc: Global,
+    sim: &mut Sim,
+    row: &mut Record,
+    cert: &str,
+    desk: &mut D,
+) -> Status
+    requires start { standing_of sim.old ≡ initial_standing sim.old.project }
+    requires running { sim.old.stopped ≡ None }
+    requires header { header_of row.old ≡ header_for sim.old.project }
+    requires opens { IsTrue (D.may_open cert.now) }
+    ensures cause { HasCause result (D.counts desk.old) (D.counts desk.new) }
+    ensures only_prints { OnlyPrintedSome
+        (seen D.files D.written D.printed desk.old) (seen D.files D.written D.printed desk.new) }
+    ensures leaves { (files : TwoFiles) → Leaves (Some (check files)) result
+        (seen D.files D.written D.printed desk.old) (seen D.files D.written D.printed desk.new) }
+    ensures answers { (certificate : List ℕ) → IsTold (D.files desk.old) cert.now certificate
+        → AnswersCert sim.old.project certificate result
+        (seen D.files D.written D.printed desk.old) (seen D.files D.written D.printed desk.new) }
+    ensures opened { ReadsCert result (D.openings desk.old) (D.openings desk.new) }
+{
+    match FlowPart::open(alloc, row.junctions) {
+        Ok(mut part) => check_opened(sim, row, &mut part, cert, desk),
+        Err(_) => Status::OutOfMemory,
+    }
 }
 
 /// Opens a record, and checks CERT by the run at its start.
@@ -103,7 +138,7 @@ pub(crate) fn check_by_run<D: Desk>(
     ensures opened { ReadsCert result (D.openings desk.old) (D.openings desk.new) }
 {
     match record_for(alloc, sim.project()) {
-        Ok(mut row) => check_opened(sim, &mut row, cert, desk),
+        Ok(mut row) => check_with_flows(alloc, sim, &mut row, cert, desk),
         Err(_) => Status::OutOfMemory,
     }
 }

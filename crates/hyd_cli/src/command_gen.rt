@@ -22,13 +22,13 @@ ghost use Rattle.hyd_cli.specs.GenAnswers.{KeepsCert, KeepsNet};
 ghost use Rattle.hyd_command_answers.specs.Statuses.{status_of_outcome};
 ghost use Rattle.hyd_command_answers.specs.declared.status.Status.TheVariants.{Usage};
 
-use crate::command_run::status_of_end;
 use crate::task_with_network::{Task, do_with_network};
-use hyd_command_answers::{Status, Unread, fault_status, network_of, refuse_text};
+use hyd_command_answers::{Status, Unread, fault_status, network_told, refuse_text};
 use hyd_command_words::{Files, GenWords};
 use hyd_finders::{Finder, Gradient};
 use hyd_gen::generate;
 use hyd_io::{Channel, Desk, OutFault, Pen};
+use hyd_naming_command::{say_end, status_of_end};
 use hyd_run::RunEnd;
 use hyd_sim::Sim;
 use hyd_summarised_run::run_summed;
@@ -149,7 +149,10 @@ fn run_generated<D: Desk, F: Finder>(
         (D.openings desk.old) (D.openings desk.new) }
 {
     match put_generated(sim, finder, text, files, desk) {
-        Ok(end) => status_of_end(end),
+        Ok(end) => {
+            say_end(sim, end, desk);
+            status_of_end(end)
+        }
         Err(fault) => fault_status(fault),
     }
 }
@@ -211,7 +214,7 @@ fn run_text<D: Desk>(alloc: Global, text: &[u8], files: Files<'_>, desk: &mut D)
         (seen D.files D.written D.printed desk.old) (seen D.files D.written D.printed desk.new)
         (D.openings desk.old) (D.openings desk.new) }
 {
-    match network_of(alloc, text) {
+    match network_told(alloc, files.net, text, desk) {
         Ok(project) => do_with_network(alloc, project, Task::Gen { text, files }, desk),
         Err(Unread::Fault(fault)) => refuse_text(fault.line, fault.cause, desk),
         Err(Unread::Ended(status)) => status,

@@ -1,40 +1,32 @@
 //! The command `run`: a network is run, and its certificate and report are put out.
 
-ghost use Rattle.std.specs.Prelude.{◌≡◌, ◌≢◌, ℕ, List, IsTrue};
+ghost use Rattle.std.specs.Prelude.{◌≡◌, ◌≢◌, ℕ, List, Some, IsTrue};
 ghost use Rattle.hyd_io.specs.DeskBytes.{IsTold};
 ghost use Rattle.hyd_net.specs.declared.refusal_cause.Cause.{Cause};
 ghost use Rattle.hyd_spec_input.specs.Faults.{IsFault, HasNoFault};
 ghost use Rattle.hyd_spec_certificates.specs.RecordAndStanding.{initial_standing};
 ghost use Rattle.hyd_sim.specs.RunView.{standing_of};
-ghost use Rattle.hyd_run.specs.Runs.{outcome_of};
 ghost use Rattle.hyd_command_answers.specs.DeskContents.{seen, ChangesOnly};
 ghost use Rattle.hyd_command_answers.specs.FaultsAndRefusals.{HasCause, AnswersRefused};
-ghost use Rattle.hyd_cli.specs.Answers.{LeavesRun};
+ghost use Rattle.hyd_command_words.specs.CommandGrammar.{run};
+ghost use Rattle.hyd_command_words.specs.CommandView.{run_seen};
+ghost use Rattle.hyd_cli.specs.Answers.{LeavesRun, Leaves};
+ghost use Rattle.hyd_cli.specs.Commands.{DoesRun};
 ghost use Rattle.hyd_command_answers.specs.OpeningsOfRuns.{OpensCert, OpensOnce};
-ghost use Rattle.hyd_cli.specs.RunAnswers.{AnswersRun, Holds, AnswersText};
-ghost use Rattle.hyd_command_answers.specs.Statuses.{status_of_outcome};
+ghost use Rattle.hyd_command_answers.specs.WrittenCertificates.{Holds};
+ghost use Rattle.hyd_cli.specs.RunAnswers.{AnswersRun, AnswersText};
 ghost use Rattle.hyd_command_answers.specs.declared.status.Status.TheVariants.{Usage};
 
+use crate::run_settings::settings_of;
 use crate::task_with_network::{Task, do_with_network};
 use hyd_command_answers::{Status, Unread, fault_status, read_network, refuse_text};
+use hyd_command_words::RunWords;
 use hyd_finders::{Finder, Gradient};
 use hyd_io::{Channel, Desk, Pen};
-use hyd_run::{RunEnd, run};
+use hyd_naming_command::{run_naming_links, say_end, status_of_end};
+use hyd_run::run;
 use hyd_sim::{Settings, Sim};
-use hyd_spec_reports::StopCause;
 use std::alloc::Global;
-
-/// The status of the end of a run.
-pub(crate) fn status_of_end(end: RunEnd) -> Status
-    ensures { result ≡ status_of_outcome (outcome_of end) }
-{
-    match end {
-        RunEnd::Finished => Status::Done,
-        RunEnd::Stopped(StopCause::RoundsSpent { .. }) => Status::RoundsSpent,
-        RunEnd::Stopped(StopCause::Demand { .. }) => Status::Demand,
-        RunEnd::Stopped(_) => Status::Undecided,
-    }
-}
 
 /// Creates CERT, and puts a run out, the certificate into it and the report on standard output.
 fn put_run<D: Desk, F: Finder>(sim: &mut Sim, finder: &mut F, cert: &str, desk: &mut D) -> Status
@@ -53,7 +45,10 @@ fn put_run<D: Desk, F: Finder>(sim: &mut Sim, finder: &mut F, cert: &str, desk: 
     let mut certificate = Pen::new(Channel::Cert);
     let mut report = Pen::new(Channel::Report);
     match run(sim, finder, &mut certificate, &mut report, desk) {
-        Ok(end) => status_of_end(end),
+        Ok(end) => {
+            say_end(sim, end, desk);
+            status_of_end(end)
+        }
         Err(fault) => fault_status(fault),
     }
 }
@@ -81,7 +76,7 @@ pub(crate) fn run_by_gradient<D: Desk>(
 }
 
 /// Reads NET, runs its network, and writes CERT and prints the report.
-pub(crate) fn run_files<D: Desk>(
+fn run_files<D: Desk>(
     alloc: Global,
     net: &str,
     cert: &str,
@@ -110,5 +105,26 @@ pub(crate) fn run_files<D: Desk>(
         Ok(project) => do_with_network(alloc, project, Task::Run { cert, settings }, desk),
         Err(Unread::Fault(fault)) => refuse_text(fault.line, fault.cause, desk),
         Err(Unread::Ended(status)) => status,
+    }
+}
+
+/// The command `run`, with or without the flows of links.
+pub(crate) fn run_words<D: Desk>(alloc: Global, words: &RunWords<'_>, desk: &mut D) -> Status
+    requires opens { IsTrue (D.may_open words.now.files.net.now) }
+    requires creates { IsTrue (D.may_create words.now.files.cert.now) }
+    ensures cause { HasCause result (D.counts desk.old) (D.counts desk.new) }
+    ensures leaves { Leaves (Some (run (run_seen words.now))) result
+        (seen D.files D.written D.printed desk.old) (seen D.files D.written D.printed desk.new) }
+    ensures never_usage { result ≢ Usage }
+    ensures does { DoesRun (run_seen words.now) result
+        (seen D.files D.written D.printed desk.old) (seen D.files D.written D.printed desk.new)
+        (D.openings desk.old) (D.openings desk.new) }
+{
+    let files = words.files;
+    let settings = settings_of(words);
+    if words.flows.is_empty() {
+        run_files(alloc, files.net, files.cert, settings, desk)
+    } else {
+        run_naming_links(alloc, files.net, files.cert, &words.flows, settings, desk)
     }
 }

@@ -7,6 +7,7 @@
 mod command_check;
 mod command_gen;
 mod command_run;
+mod help;
 mod program;
 mod run_settings;
 mod standard_error;

@@ -14,19 +14,20 @@ ghost use Rattle.hyd_command_answers.specs.declared.status.Status.TheVariants.{U
 
 use crate::command_check::check_files;
 use crate::command_gen::generate_network;
-use crate::command_run::run_files;
-use crate::run_settings::settings_of;
+use crate::command_run::run_words;
+use crate::help::read_command;
 use crate::usage::print_usage;
 use hyd_command_answers::{Status, fault_status};
-use hyd_command_words::{Command, read_words};
+use hyd_command_words::Command;
 use hyd_io::Desk;
 use hyd_target_commands::{close_pipes, find_bracket};
 use std::alloc::Global;
 
 /// Runs the command of the words after the program's name.
 ///
-/// - `run NET CERT [--sweeps N] [--width W] [--tight]` reads the network of NET, writes its certificate to CERT and
-///   prints its report.
+/// - `run NET CERT [--sweeps N] [--width W] [--tight] [--flows IDS]` reads the network of NET, writes its certificate to
+///   CERT and prints its report. With `--flows` CERT has behind each record two vectors for each link of these names, and
+///   the report a FLOW line for each, behind the lines of a period that begins at a report time.
 /// - `check NET CERT` reads both, and prints the report of the certificate as far as it is right.
 /// - `gen SEED JUNCTIONS NET CERT` makes a network, writes it to NET, runs it as `run` does, and prints a summary.
 /// - `fire NET J P [--sweeps N]` reads the network of NET, and prints how much may be drawn at junction J with the
@@ -39,10 +40,11 @@ use std::alloc::Global;
 /// holds the whole text.
 ///
 /// - `Usage`: the words aren't a command.
-/// - `InputRefused`: the text of the network has a fault (one of more than 64 MiB among them), or J is no junction of it.
+/// - `InputRefused`: the text of the network has a fault (one of more than 64 MiB among them), J is no junction of it, or
+///   a name of `--flows` is no link between two junctions.
 /// - `Done`: the run finished, the certificate was accepted, or the lines of `fire` or `closures` were printed.
 /// - `Undecided`, `RoundsSpent`, `Demand`: how a run was stopped; `Demand` of `fire` and `closures` too.
-/// - `CertificateRefused`: the certificate's lines, a record or its END line aren't right.
+/// - `CertificateRefused`: the certificate's lines, a record, the part behind one or its END line aren't right.
 /// - `OutOfMemory`: nothing was created, written or printed.
 /// - `ReadFault`, `WriteFault`, `Stalled`: a call on the desk failed or took nothing. Nothing more was called then.
 pub fn tool<D: Desk>(alloc: Global, words: &[String], desk: &mut D) -> Status
@@ -70,7 +72,7 @@ pub fn tool<D: Desk>(alloc: Global, words: &[String], desk: &mut D) -> Status
         result (seen D.files D.written D.printed desk.old) (seen D.files D.written D.printed desk.new)
         (D.openings desk.old) (D.openings desk.new) }
 {
-    match read_words(alloc, words) {
+    match read_command(alloc, words, desk) {
         Ok(found) => carry_out(alloc, found, desk),
         Err(_) => Status::OutOfMemory,
     }
@@ -105,13 +107,7 @@ fn carry_out<D: Desk>(alloc: Global, found: Option<Command<'_>>, desk: &mut D) -
         (D.openings desk.old) (D.openings desk.new) }
 {
     match found {
-        Some(Command::Run(words)) => run_files(
-            alloc,
-            words.files.net,
-            words.files.cert,
-            settings_of(&words),
-            desk,
-        ),
+        Some(Command::Run(words)) => run_words(alloc, &words, desk),
         Some(Command::Check(files)) => check_files(alloc, files.net, files.cert, desk),
         Some(Command::Gen(words)) => generate_network(alloc, &words, desk),
         Some(Command::Fire(words)) => find_bracket(alloc, &words, desk),

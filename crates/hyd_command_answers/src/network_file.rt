@@ -16,6 +16,7 @@ use crate::status::Status;
 use hyd_inp::{InpFault, InpRefused, LONGEST_TEXT, TEXT_TOO_LONG, read_project};
 use hyd_io::{Desk, InFault, read_all};
 use hyd_net::Project;
+use hyd_sentences::RefusedText;
 use std::alloc::Global;
 
 /// Why there is no network.
@@ -53,8 +54,20 @@ fn read_text<D: Desk>(alloc: Global, net: &str, desk: &mut D) -> Result<Option<V
     }
 }
 
+// Says why a text is refused.
+fn say_fault<D: Desk>(net: &str, text: &[u8], unread: Unread, desk: &D) {
+    if let Unread::Fault(fault) = unread {
+        desk.say(&RefusedText {
+            file: net,
+            text,
+            line: fault.line,
+            cause: fault.cause,
+        });
+    }
+}
+
 /// The network of a text, or why there is none.
-pub fn network_of(alloc: Global, text: &[u8]) -> Result<Project, Unread>
+fn network_of(alloc: Global, text: &[u8]) -> Result<Project, Unread>
     ensures no_fault { IfOk result (λ _. HasNoFault text.now) }
     ensures project { IfOk result (IsProject (rows_in (items_of text.now))) }
     ensures sound { IfOk result IsSound }
@@ -68,7 +81,30 @@ pub fn network_of(alloc: Global, text: &[u8]) -> Result<Project, Unread>
     }
 }
 
-/// Opens and reads the whole of NET: its network, or why there is none.
+/// The same, and says to a person why a text is refused: `net` is the name of its file.
+pub fn network_told<D: Desk>(
+    alloc: Global,
+    net: &str,
+    text: &[u8],
+    desk: &D,
+) -> Result<Project, Unread>
+    ensures no_fault { IfOk result (λ _. HasNoFault text.now) }
+    ensures project { IfOk result (IsProject (rows_in (items_of text.now))) }
+    ensures sound { IfOk result IsSound }
+    ensures fault { IfErr result (λ unread. IfFault unread (λ fault. IsFault text.now fault.line fault.cause)) }
+    ensures ended { IfErr result (λ unread. IfEnded unread (λ status. status ≡ OutOfMemory)) }
+{
+    match network_of(alloc, text) {
+        Ok(project) => Ok(project),
+        Err(unread) => {
+            say_fault(net, text, unread, desk);
+            Err(unread)
+        }
+    }
+}
+
+/// Opens and reads the whole of NET: its network, or why there is none, which is said to a person where the text is
+/// refused.
 pub fn read_network<D: Desk>(alloc: Global, net: &str, desk: &mut D) -> Result<Project, Unread>
     requires { IsTrue (D.may_open net.now) }
     ensures no_fault { (text : List ℕ) → IsTold (D.files desk.old) net.now text
@@ -85,8 +121,11 @@ pub fn read_network<D: Desk>(alloc: Global, net: &str, desk: &mut D) -> Result<P
     ensures opened { D.openings desk.new ≡ with_opened (D.openings desk.old) }
 {
     match read_text(alloc, net, desk) {
-        Ok(Some(text)) => network_of(alloc, &text),
-        Ok(None) => Err(Unread::Fault(TEXT_TOO_LONG)),
+        Ok(Some(text)) => network_told(alloc, net, &text, desk),
+        Ok(None) => {
+            say_fault(net, b"", Unread::Fault(TEXT_TOO_LONG), desk);
+            Err(Unread::Fault(TEXT_TOO_LONG))
+        }
         Err(status) => Err(Unread::Ended(status)),
     }
 }

@@ -8,7 +8,7 @@ use Rattle.std.specs.Char.{encode_utf8}
 use Rattle.std.specs.Str.{chars}
 use Rattle.std.proofs.lemmas.Str.{encodes-chars}
 use Rattle.clap.specs.Lexer.{long_of, short_of, has_byte, name_and_value}
-use Rattle.hyd_command_words.specs.OptionsAndNames.{Word, Kind, sweeps, width, tight, name, wrong, says, wants}
+use Rattle.hyd_command_words.specs.OptionsAndNames.{Word, Kind, sweeps, width, flows, tight, name, wrong, says, wants}
 use Rattle.hyd_command_words.specs.OptionsAndNames.{begins_with_dash, kind_of, option_kind, ends}
 use lib.Pointwise.{bytes_decides}
 use Rattle.hyd_lemmas.proofs.BooleanTests.{or-false}
@@ -100,24 +100,28 @@ not_key (x ∷ xs) u (y ∷ ys) f = and_false (x == y) _ (not_key xs u ys (or-fa
 
 abbrev valued_kind : Word → Word → Kind
 valued_kind n v = cond (bytes_eq (codes "sweeps") n) (says (sweeps v))
-    (cond (bytes_eq (codes "width") n) (says (width v)) (says wrong))
+    (cond (bytes_eq (codes "width") n) (says (width v))
+    (cond (bytes_eq (codes "flows") n) (says (flows v)) (says wrong)))
 
 -- what an option is, by its name and the value behind `=`
-abbrev pub kind_by : (is_tight is_sweeps is_width : Bool) → Option Word → Kind
-kind_by is_tight is_sweeps is_width None =
-    cond is_tight (says tight) (cond is_sweeps (wants sweeps) (cond is_width (wants width) (says wrong)))
-kind_by is_tight is_sweeps is_width (Some v) =
-    cond is_tight (says wrong) (cond is_sweeps (says (sweeps v)) (cond is_width (says (width v)) (says wrong)))
+abbrev pub kind_by : (is_tight is_sweeps is_width is_flows : Bool) → Option Word → Kind
+kind_by is_tight is_sweeps is_width is_flows None = cond is_tight (says tight)
+    (cond is_sweeps (wants sweeps) (cond is_width (wants width) (cond is_flows (wants flows) (says wrong))))
+kind_by is_tight is_sweeps is_width is_flows (Some v) = cond is_tight (says wrong)
+    (cond is_sweeps (says (sweeps v)) (cond is_width (says (width v)) (cond is_flows (says (flows v)) (says wrong))))
 
 abbrev pub named_kind : Word → Option Word → Kind
-named_kind n v = kind_by (bytes_eq (codes "tight") n) (bytes_eq (codes "sweeps") n) (bytes_eq (codes "width") n) v
+named_kind n v = kind_by (bytes_eq (codes "tight") n) (bytes_eq (codes "sweeps") n) (bytes_eq (codes "width") n)
+    (bytes_eq (codes "flows") n) v
 
 kind_alone : (t : Word) → has_byte 61 t ≡ false → option_kind (45 ∷ 45 ∷ t) ≡ named_kind t None
 kind_alone t e = λ i. cond (same_swapped t (codes "tight") i) (says tight)
     (cond (same_swapped t (codes "sweeps") i) (wants sweeps)
     (cond (same_swapped t (codes "width") i) (wants width)
+    (cond (same_swapped t (codes "flows") i) (wants flows)
     (cond (no_key t (codes "sweeps") e i) (says (sweeps (drop 7 t)))
-    (cond (no_key t (codes "width") e i) (says (width (drop 6 t))) (says wrong)))))
+    (cond (no_key t (codes "width") e i) (says (width (drop 6 t)))
+    (cond (no_key t (codes "flows") e i) (says (flows (drop 6 t))) (says wrong)))))))
 
 sweeps_at : (n u : Word) (other : Kind) (b : Bool) → bytes_eq (codes "sweeps") n ≡ b
     → cond b (says (sweeps (drop 7 (n ++ 61 ∷ u)))) other ≡ cond b (says (sweeps u)) other
@@ -131,16 +135,26 @@ width_at n u other true e =
     ap (λ (m : Word). says (width (drop 6 (m ++ 61 ∷ u)))) (sym ((bytes_decides (codes "width") n).0 e))
 width_at n u other false e = refl
 
+flows_at : (n u : Word) (other : Kind) (b : Bool) → bytes_eq (codes "flows") n ≡ b
+    → cond b (says (flows (drop 6 (n ++ 61 ∷ u)))) other ≡ cond b (says (flows u)) other
+flows_at n u other true e =
+    ap (λ (m : Word). says (flows (drop 6 (m ++ 61 ∷ u)))) (sym ((bytes_decides (codes "flows") n).0 e))
+flows_at n u other false e = refl
+
 kind_with_value : (n u : Word) → has_byte 61 n ≡ false → option_kind (45 ∷ 45 ∷ (n ++ 61 ∷ u)) ≡ named_kind n (Some u)
 kind_with_value n u e =
     (λ i. cond (not_key n u (codes "tight") refl i) (says tight)
     (cond (not_key n u (codes "sweeps") refl i) (wants sweeps)
     (cond (not_key n u (codes "width") refl i) (wants width)
+    (cond (not_key n u (codes "flows") refl i) (wants flows)
     (cond (key_then_equals n u (codes "sweeps") e refl i) (says (sweeps (drop 7 (n ++ 61 ∷ u))))
-    (cond (key_then_equals n u (codes "width") e refl i) (says (width (drop 6 (n ++ 61 ∷ u)))) (says wrong))))))
+    (cond (key_then_equals n u (codes "width") e refl i) (says (width (drop 6 (n ++ 61 ∷ u))))
+    (cond (key_then_equals n u (codes "flows") e refl i) (says (flows (drop 6 (n ++ 61 ∷ u)))) (says wrong))))))))
     ∙ sweeps_at n u _ (bytes_eq (codes "sweeps") n) refl
     ∙ ap (λ (k : Kind). cond (bytes_eq (codes "sweeps") n) (says (sweeps u)) k)
-    (width_at n u (says wrong) (bytes_eq (codes "width") n) refl)
+    (width_at n u _ (bytes_eq (codes "width") n) refl
+    ∙ ap (λ (k : Kind). cond (bytes_eq (codes "width") n) (says (width u)) k)
+    (flows_at n u (says wrong) (bytes_eq (codes "flows") n) refl))
     ∙ no_value (bytes_eq (codes "tight") n) refl
   where
     no_value : (b : Bool) → bytes_eq (codes "tight") n ≡ b → valued_kind n u ≡ cond b (says wrong) (valued_kind n u)
@@ -175,7 +189,8 @@ IsShort word = (x : ℕ) × (xs : Word) × (c : ℕ) × ((bytes_eq word (45 ∷ 
 
 abbrev pub IsLong : Word → Type 0
 IsLong word = (n : Word) × (v : Option Word) × ((bytes_eq word (45 ∷ 45 ∷ []) ≡ false)
-    × (long_of word ≡ Some (n, v)) × (kind_of word ≡ named_kind n v) × (begins_with_dash word ≡ true))
+    × (long_of word ≡ Some (n, v)) × (kind_of word ≡ named_kind n v) × (begins_with_dash word ≡ true)
+    × (v ≡ None → word ≡ 45 ∷ 45 ∷ n))
 
 pub data Lexed (word : Word) : Type 0 where
   closing : word ≡ codes "--" → Lexed word
@@ -223,13 +238,30 @@ one_dash x xs e u =
     (cond (e i && bytes_eq xs (codes "tight")) (says tight)
     (cond (e i && bytes_eq xs (codes "sweeps")) (wants sweeps)
     (cond (e i && bytes_eq xs (codes "width")) (wants width)
+    (cond (e i && bytes_eq xs (codes "flows")) (wants flows)
     (cond (swapped i && starts_with nat_eq xs (codes "sweeps=")) (says (sweeps (drop 9 word)))
-    (cond (swapped i && starts_with nat_eq xs (codes "width=")) (says (width (drop 8 word))) (says wrong)))))) in
+    (cond (swapped i && starts_with nat_eq xs (codes "width=")) (says (width (drop 8 word)))
+    (cond (swapped i && starts_with nat_eq xs (codes "flows=")) (says (flows (drop 8 word))) (says wrong)))))))) in
     (x, xs, letter.0, (ap (λ (b : Bool). b && bytes_eq xs []) e, rw e refl, rw e refl, letter.1, kind, refl))
+
+-- an option without a value is its whole word
+alone : (t : Word) → (name_and_value t).1 ≡ None → 45 ∷ 45 ∷ t ≡ 45 ∷ 45 ∷ (name_and_value t).0
+alone t none = go (has_byte 61 t) refl
+  where
+    go : (b : Bool) → has_byte 61 t ≡ b → 45 ∷ 45 ∷ t ≡ 45 ∷ 45 ∷ before_first is_equals t
+    go true h =
+        let bad : ◌≡◌ {A = Option Word} (Some (after_first is_equals t)) None =
+        (λ i. cond (sym h i) (Some (after_first is_equals t)) None) ∙ none in
+        absurd (cc)
+    go false h = ap (λ (w : Word). 45 ∷ 45 ∷ w) (sym (no_equals t h))
 
 two_dashes : (x : ℕ) (xs : Word) → IsLong (45 ∷ 45 ∷ x ∷ xs)
 unfolding kind_of
-two_dashes x xs = ((name_and_value (x ∷ xs)).0, (name_and_value (x ∷ xs)).1, (refl, refl, kind_long (x ∷ xs), refl))
+two_dashes x xs = (
+  (name_and_value (x ∷ xs)).0,
+  (name_and_value (x ∷ xs)).1,
+  (refl, refl, kind_long (x ∷ xs), refl, alone (x ∷ xs)),
+)
 
 pub lexed : (word : Word) → IsUtf8 word → Lexed word
 lexed [] u = plain empty_word

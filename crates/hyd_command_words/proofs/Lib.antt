@@ -1,6 +1,8 @@
 pub mod KindsOfWords
 pub mod CommandOfMatches
+pub mod DashBehindFlows
 pub mod MatchRowLemmas
+pub mod NamesBetweenCommas
 pub mod SaidLemmas
 pub mod WalkEnds
 pub mod WalkGivesCommands

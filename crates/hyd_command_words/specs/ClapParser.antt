@@ -1,9 +1,10 @@
 -- The command of clap that reads the words behind a command's name: it takes each option as often as it stands.
-use Rattle.std.specs.Prelude.{List, [], ◌∷◌, length, Some, codes, true, false, unwrap_or}
+use Rattle.std.specs.Prelude.{List, [], ◌∷◌, length, Some, codes, Bool, true, false, ◌&&◌, ◌||◌, unwrap_or, bytes_eq}
+use Rattle.std.specs.Prelude.{if◌then◌else◌}
 use Rattle.clap.specs.Walk.{Row, Rule, Text, all_of}
 use Rattle.clap.specs.Simple.{App, new_app, new_rule, new_shape, with_rule}
 use Rattle.clap.specs.declared.builder.action.ArgAction.TheVariants.{Append}
-use Rattle.hyd_command_words.specs.OptionsAndNames.{Said}
+use Rattle.hyd_command_words.specs.OptionsAndNames.{Word, Said}
 
 -- `--name` with one value
 abbrev pub valued_rule : Text → Rule
@@ -31,9 +32,12 @@ bare = record (new_app (codes "hyd")) {
   };
 }
 
+abbrev pub with_options : App
+with_options = with_rule (with_rule (with_rule (with_rule bare tight_rule) (valued_rule (codes "sweeps")))
+    (valued_rule (codes "width"))) (valued_rule (codes "flows"))
+
 abbrev pub words_command : App
-words_command = with_rule (with_rule (with_rule (with_rule bare tight_rule) (valued_rule (codes "sweeps")))
-    (valued_rule (codes "width"))) names_rule
+words_command = with_rule with_options names_rule
 
 -- the values of an argument, of all its uses
 abbrev pub all_values : Text → List Row → List Text
@@ -44,7 +48,17 @@ abbrev pub said_of : List Row → Said
 said_of rows = record {
   sweeps_values = all_values (codes "sweeps") rows;
   width_values = all_values (codes "width") rows;
+  flows_values = all_values (codes "flows") rows;
   tight_count = length (all_values (codes "tight") rows);
   names = all_values (codes "names") rows;
   has_wrong = false;
 }
+
+-- The word `-` stands right behind `--flows`, before the first word `--`; or, where `--flows` stands before these words,
+-- it is the first of them. clap takes it for the option's value, and no command has a value that begins with `-` there.
+abbrev pub has_dash_behind_flows : Bool → List Word → Bool
+has_dash_behind_flows behind_flows [] = false
+has_dash_behind_flows behind_flows (word ∷ rest) =
+    if bytes_eq word (codes "--") then false
+    else ((behind_flows && bytes_eq word (codes "-"))
+    || has_dash_behind_flows (bytes_eq word (codes "--flows")) rest)

@@ -4,6 +4,7 @@ use Rattle.std.specs.Prelude.{unsigned_abs}
 use Rattle.std.specs.Prelude.{option_map, option_and_then, bytes_eq, codes, if◌then◌else◌, ℤ, pos, ◌*ℤ◌, int_lt, int_le}
 use Rattle.std.specs.List.{list_all}
 use Rattle.hyd_num.specs.Numeral.{is_digit, is_numeral, nano_of, number}
+use Rattle.hyd_command_words.specs.NamesOfLinks.{names_of_ids}
 use Rattle.hyd_command_words.specs.OptionsAndNames.{Word, Said, said}
 
 -- the two files of a command: NET, the network, and CERT, its certificate
@@ -11,12 +12,14 @@ pub record TwoFiles : Type 0 where
   pub net : Word
   pub cert : Word
 
--- `run`: its files, the greatest number of rounds, the width in head ticks of 10^-13 m, and whether vectors are tight
+-- `run`: its files, the greatest number of rounds, the width in head ticks of 10^-13 m, whether vectors are tight, and
+-- the names of the links whose flows are asked for
 pub record RunOrder : Type 0 where
   pub files : TwoFiles
   pub rounds : ℕ
   pub width : ℤ
   pub tight : Bool
+  pub flows : List Word
 
 -- `gen`: its seed, the number of junctions, and its files
 pub record GenOrder : Type 0 where
@@ -86,6 +89,10 @@ default_width = pos (10 ^ 11)
 abbrev pub width_of : List Word → Option ℤ
 width_of values = once default_width width_in_ticks values
 
+-- IDS, by default none: no name
+abbrev pub flows_of : List Word → Option (List Word)
+flows_of values = once [] names_of_ids values
+
 -- SEED: below 2^31
 abbrev pub seed_of : Word → Option ℕ
 seed_of word = number_within 10 0 (2 ^ 31 - 1) word
@@ -142,22 +149,25 @@ is_sound s = not s.has_wrong && nat_le s.tight_count 1
 -- nothing is wrong, and no option stands
 abbrev pub has_names_alone : Said → Bool
 has_names_alone s =
-    not s.has_wrong && (s.tight_count == 0 && (length s.sweeps_values == 0 && length s.width_values == 0))
+    not s.has_wrong && (s.tight_count == 0 && (length s.sweeps_values == 0
+    && (length s.width_values == 0 && length s.flows_values == 0)))
 
 -- nothing is wrong, and no option but `--sweeps` stands
 abbrev pub has_rounds_at_most : Said → Bool
-has_rounds_at_most s = not s.has_wrong && (s.tight_count == 0 && length s.width_values == 0)
+has_rounds_at_most s =
+    not s.has_wrong && (s.tight_count == 0 && (length s.width_values == 0 && length s.flows_values == 0))
 
--- `run NET CERT`, with `--sweeps N`, `--width W` and `--tight` once each at most
+-- `run NET CERT`, with `--sweeps N`, `--width W`, `--tight` and `--flows IDS` once each at most
 abbrev pub run_order : Said → Option RunOrder
 run_order s =
     if is_sound s
-    then option_and_then (λ n. option_and_then (λ w. option_map (λ f. record {
+    then option_and_then (λ n. option_and_then (λ w. option_and_then (λ links. option_map (λ f. record {
       files = f;
       rounds = n;
       width = w;
       tight = s.tight_count == 1;
-    }) (two_files s.names)) (width_of s.width_values)) (rounds_of s.sweeps_values)
+      flows = links;
+    }) (two_files s.names)) (flows_of s.flows_values)) (width_of s.width_values)) (rounds_of s.sweeps_values)
     else None
 
 abbrev pub run_command : Said → Option Order

@@ -1,13 +1,15 @@
 -- The commands that the reader hands out, and what it holds on its way, as the definitions see them.
-use Rattle.std.specs.Prelude.{false, List, map}
+use Rattle.std.specs.Prelude.{false, List, map, option_map}
 use Rattle.std.specs.Borrow.{Bor}
 use Rattle.hyd_command_words.specs.OptionsAndNames.{Word, Said}
+use Rattle.hyd_command_words.specs.NamesOfLinks.{names_given}
 use Rattle.hyd_command_words.specs.declared.said_words.Said.{Said as Read}
 use Rattle.hyd_command_words.specs.CommandGrammar.{Order, RunOrder, GenOrder, TwoFiles, run, check, gen}
 use Rattle.hyd_command_words.specs.CommandGrammar.{FireOrder, ClosuresOrder, fire, closures}
 use Rattle.hyd_command_words.specs.declared.command.Command.{Command}
 use Rattle.hyd_command_words.specs.declared.command.Command.TheVariants as command
 use Rattle.hyd_command_words.specs.declared.command.Files.{Files}
+use Rattle.hyd_command_words.specs.declared.command.LinkNames.{LinkNames}
 use Rattle.hyd_command_words.specs.declared.command.RunWords.{RunWords}
 use Rattle.hyd_command_words.specs.declared.command.GenWords.{GenWords}
 use Rattle.hyd_command_words.specs.declared.command.FireWords.{FireWords}
@@ -16,8 +18,18 @@ use Rattle.hyd_command_words.specs.declared.command.ClosuresWords.{ClosuresWords
 abbrev pub files_seen : Files → TwoFiles
 files_seen f = record { net = f.net.now; cert = f.cert.now }
 
+-- the names that are given, in order
+abbrev pub names_seen : LinkNames → List Word
+names_seen n = names_given (option_map (λ ids. ids.now) n.ids)
+
 abbrev pub run_seen : RunWords → RunOrder
-run_seen r = record { files = files_seen r.files; rounds = r.rounds; width = r.width; tight = r.tight }
+run_seen r = record {
+  files = files_seen r.files;
+  rounds = r.rounds;
+  width = r.width;
+  tight = r.tight;
+  flows = names_seen r.flows;
+}
 
 abbrev pub gen_seen : GenWords → GenOrder
 gen_seen g = record { seed = g.seed; junctions = g.junctions; files = files_seen g.files }
@@ -46,6 +58,7 @@ abbrev pub said_seen : Read → Said
 said_seen s = record {
   sweeps_values = texts_seen s.sweeps_values.now;
   width_values = texts_seen s.width_values.now;
+  flows_values = texts_seen s.flows_values.now;
   tight_count = s.tight_count;
   names = texts_seen s.names.now;
   has_wrong = false;

@@ -33,10 +33,17 @@ pub(crate) fn matches_in(
 fn words_command<'a>(alloc: Global) -> Result<Command<'a>, AllocError>
     ensures { IfOk result (λ command. app_of command ≡ parser.words_command) }
 {
+    let command = with_options(alloc)?;
+    command.arg(names(alloc))
+}
+
+fn with_options<'a>(alloc: Global) -> Result<Command<'a>, AllocError>
+    ensures { IfOk result (λ command. app_of command ≡ parser.with_options) }
+{
     let command = bare(alloc).arg(tight(alloc))?;
     let command = command.arg(valued(alloc, "sweeps"))?;
     let command = command.arg(valued(alloc, "width"))?;
-    command.arg(names(alloc))
+    command.arg(valued(alloc, "flows"))
 }
 
 fn bare<'a>(alloc: Global) -> Command<'a>

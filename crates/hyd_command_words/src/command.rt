@@ -1,6 +1,7 @@
 //! The commands, as their words give them.
 
-ghost use Rattle.std.specs.Prelude.{◌≤◌, ◌^◌, unsigned_abs};
+ghost use Rattle.std.specs.Prelude.{◌≤◌, ◌≢◌, ◌^◌, length, option_map, unsigned_abs, AllPairs};
+ghost use Rattle.hyd_command_words.specs.NamesOfLinks.{names_given};
 
 use hyd_num::Decimal;
 
@@ -13,7 +14,17 @@ pub struct Files<'a> {
     pub cert: &'a str,
 }
 
-/// What `run NET CERT [--sweeps N] [--width W] [--tight]` asks for.
+/// The names of links that `--flows IDS` gives: at most 16, and none twice. Contracts see their list, which is empty
+/// where the option isn't given.
+#[derive(Clone, Copy)]
+pub struct LinkNames<'a> {
+    /// IDS, the names between commas, where the option is given.
+    pub ids: Option<&'a str>,
+    pub ghost few: { length (names_given (option_map (λ text. text.now) ids)) ≤ 16 },
+    pub ghost distinct: { AllPairs (λ one later. one ≢ later) (names_given (option_map (λ text. text.now) ids)) },
+}
+
+/// What `run NET CERT [--sweeps N] [--width W] [--tight] [--flows IDS]` asks for.
 #[derive(Clone, Copy)]
 pub struct RunWords<'a> {
     /// The network, which is read, and the certificate, which is written.
@@ -24,6 +35,8 @@ pub struct RunWords<'a> {
     pub width: i64,
     /// Whether `--tight` is given.
     pub tight: bool,
+    /// The names of links that `--flows` gives.
+    pub flows: LinkNames<'a>,
 }
 
 /// What `gen SEED JUNCTIONS NET CERT` asks for.
@@ -66,7 +79,7 @@ pub struct ClosuresWords<'a> {
 /// A command of the program.
 #[derive(Clone, Copy)]
 pub enum Command<'a> {
-    /// `run NET CERT [--sweeps N] [--width W] [--tight]`.
+    /// `run NET CERT [--sweeps N] [--width W] [--tight] [--flows IDS]`.
     Run(RunWords<'a>),
     /// `check NET CERT`: both files are read.
     Check(Files<'a>),

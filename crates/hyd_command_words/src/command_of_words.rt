@@ -1,6 +1,7 @@
 //! The reader of a command's words.
 
-ghost use Rattle.std.specs.Prelude.{◌≡◌, map, option_map, string_bytes, IfOk};
+ghost use Rattle.std.specs.Prelude.{◌≡◌, map, option_map, string_bytes, false, IfOk};
+ghost use Rattle.hyd_command_words.specs.ClapParser.{has_dash_behind_flows};
 ghost use Rattle.hyd_command_words.specs.CommandGrammar.{order_of};
 ghost use Rattle.hyd_command_words.specs.CommandView.{order_seen};
 
@@ -13,8 +14,8 @@ use std::alloc::{AllocError, Global};
 /// The command of the words behind the program's name, or `None` exactly where they aren't one. The
 /// names in it are the words' own.
 ///
-/// The first word is the command's, in lower case. Of the others, from left to right, `--sweeps` and
-/// `--width` take the next word as value, which doesn't begin with `-`, or have it behind `=` in the
+/// The first word is the command's, in lower case. Of the others, from left to right, `--sweeps`,
+/// `--width` and `--flows` take the next word as value, which doesn't begin with `-`, or have it behind `=` in the
 /// same word. Behind a word `--` every word stands by its position, and before it each word that
 /// doesn't begin with `-` or is `-` alone. Each option stands once at most: `--sweeps` for `run`, `fire` and
 /// `closures`, the others for `run` alone.
@@ -26,8 +27,29 @@ pub fn read_words(alloc: Global, words: &[String]) -> Result<Option<Command<'_>>
     let Some((name, behind)) = words.split_first() else {
         return Ok(None);
     };
+    if has_dash_behind_flows(behind) {
+        return Ok(None);
+    }
     match matches_in(alloc, behind)? {
         Some(matches) => Ok(order_named(name.as_str(), said_by(&matches))),
         None => Ok(None),
     }
+}
+
+// Whether `-` stands right behind `--flows`, before a word `--`. clap takes it for the option's value; for the other
+// options it is no value in any case, since it is no number.
+fn has_dash_behind_flows(words: &[String]) -> bool
+    ensures { result ≡ has_dash_behind_flows false (map string_bytes words.now) }
+{
+    let mut behind_flows = false;
+    for word in words {
+        if word.as_str() == "--" {
+            return false;
+        }
+        if behind_flows && word.as_str() == "-" {
+            return true;
+        }
+        behind_flows = word.as_str() == "--flows";
+    }
+    false
 }

@@ -9,9 +9,11 @@ mod command;
 mod command_of_words;
 mod commands_on_targets;
 mod named_commands;
+mod names_of_links;
 mod numbers;
 mod said_words;
 
-pub use command::{ClosuresWords, Command, Files, FireWords, GenWords, RunWords};
+pub use command::{ClosuresWords, Command, Files, FireWords, GenWords, LinkNames, RunWords};
 pub use command_of_words::read_words;
+pub use names_of_links::MOST_NAMES;
 pub use numbers::{DEFAULT_ROUNDS, DEFAULT_WIDTH};

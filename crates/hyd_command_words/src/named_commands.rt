@@ -7,6 +7,7 @@ ghost use Rattle.hyd_command_words.specs.CommandView.{files_seen};
 
 use crate::command::{Command, Files, GenWords, RunWords};
 use crate::commands_on_targets::{closures_command, fire_command};
+use crate::names_of_links::flows_of;
 use crate::numbers::{number_within, rounds_of, width_of};
 use crate::said_words::Said;
 
@@ -40,12 +41,14 @@ fn run_command<'a>(said: Said<'_, 'a>) -> Option<Command<'a>>
     }
     let rounds = rounds_of(said.sweeps_values)?;
     let width = width_of(said.width_values)?;
+    let flows = flows_of(said.flows_values)?;
     let files = two_files(said.names)?;
     Some(Command::Run(RunWords {
         files,
         rounds,
         width,
         tight: said.tight_count == 1,
+        flows,
     }))
 }
 
@@ -73,7 +76,10 @@ fn gen_command<'a>(said: Said<'_, 'a>) -> Option<Command<'a>>
 fn has_options(said: Said<'_, '_>) -> bool
     ensures { result ≡ not (orders.has_names_alone (said_seen said.entry)) }
 {
-    said.tight_count > 0 || said.sweeps_values.len() > 0 || said.width_values.len() > 0
+    said.tight_count > 0
+        || said.sweeps_values.len() > 0
+        || said.width_values.len() > 0
+        || said.flows_values.len() > 0
 }
 
 fn two_files<'a>(names: &[&'a str]) -> Option<Files<'a>>

@@ -1,7 +1,7 @@
 -- Runs as far as they have gone, and what is put out of them.
 use Rattle.std.proofs.Common.{◌≡◌, ℕ, ◌<◌, ◌^◌, List, [], ◌∷◌, ◌++◌, length, length-append, map, Option, Some, None}
 use Rattle.std.proofs.Common.{refl, sym, ap, subst, ◌∙◌, arith, append-nil, append_assoc, Bool, true, false, inl, inr}
-use Rattle.std.specs.Prelude.{All, if◌then◌else◌, ◌≤◌}
+use Rattle.std.specs.Prelude.{All, if◌then◌else◌, ◌≤◌, ◌⊎◌}
 use Rattle.std.proofs.lemmas.List.Elements.{All-push}
 use Rattle.hyd_net.specs.Sound.{IsSound}
 use Rattle.hyd_spec.specs.ProgramTypes.{Project}
@@ -110,13 +110,45 @@ cut-off-as why a b a' b' m n e f cut_off = record {
 -- ---- the order of what went out
 
 -- what went out and what is held are what was put in, where nothing was held before
-out-and-held : (held a front left : List ℕ) → held ≡ [] → held ++ a ≡ front ++ left → front ++ left ≡ a
+pub out-and-held : (held a front left : List ℕ) → held ≡ [] → held ++ a ≡ front ++ left → front ++ left ≡ a
 out-and-held held a front left e w = sym w ∙ ap (λ (xs : List ℕ). xs ++ a) e
 
 -- nothing is put out of nothing
 nothing-out : (front held : List ℕ) → [] ≡ front ++ held → front ≡ []
 nothing-out [] held e = refl
 nothing-out (c ∷ front) held e = absurd (cc)
+
+module _ (fault : OutFault) (a b : List ℕ) (start before now : RunMoment) (c : start.certificate.held ≡ [])
+    (put : PutIn a b start before) where
+  -- the last texts were cut off: a front of what was printed before them, or all of the certificate was written
+  pub cut-at-end-in-order : (last_c last_r : List ℕ) → start.report.held ≡ []
+      → (cut : IsCutAtEnd fault last_c last_r before now)
+      → ((unprinted : List ℕ) × ((put.printed.front ++ cut.cut_off.printed.1.front) ++ unprinted ≡ b))
+      ⊎ (put.written.front ++ cut.cut_off.written.1.front ≡ a ++ last_c)
+  cut-at-end-in-order last_c last_r r cut = elim cut.in_order [
+    | inl nothing ↦ (let printed = put.printed.front in
+        inl (
+          before.report.held,
+          ap (λ (xs : List ℕ). (printed ++ xs) ++ before.report.held) nothing
+              ∙ (ap (λ (xs : List ℕ). xs ++ before.report.held) (append-nil printed)
+              ∙ out-and-held start.report.held b printed before.report.held r put.printed.whole),
+        ))
+    | inr all ↦ (let written = put.written.front in
+        inr (ap (λ (xs : List ℕ). written ++ xs) all
+        ∙ (sym (append_assoc written before.certificate.held last_c)
+        ∙ ap (λ (xs : List ℕ). xs ++ last_c) (out-and-held start.certificate.held a written before.certificate.held c
+        put.written.whole))))
+  ]
+
+  -- the pens were being emptied, when the certificate's held nothing: all of the certificate was written
+  pub cut-while-emptied : before.certificate.held ≡ [] → (cut : IsCutOff fault [] [] before now)
+      → put.written.front ++ cut.written.1.front ≡ a
+  cut-while-emptied emptied cut =
+      let written = put.written.front in
+      let none : cut.written.1.front ≡ [] = nothing-out cut.written.1.front cut.written.0
+      (ap (λ (xs : List ℕ). xs ++ []) (sym emptied) ∙ cut.written.1.whole) in
+      ap (λ (xs : List ℕ). written ++ xs) (none ∙ sym emptied)
+      ∙ out-and-held start.certificate.held a written before.certificate.held c put.written.whole
 
 module _ (project : Project) (settings : Settings) (outcome : Outcome) (start before now : RunMoment)
     (c : start.certificate.held ≡ []) (r : start.report.held ≡ []) where
@@ -128,36 +160,10 @@ module _ (project : Project) (settings : Settings) (outcome : Outcome) (start be
       → EndsInOrder project so_far.founds left (Some outcome)
       (so_far.put.written.front ++ cut.cut_off.written.1.front)
       (so_far.put.printed.front ++ cut.cut_off.printed.1.front)
-  at-end-in-order left fault so_far cut = elim cut.in_order [
-    | inl nothing ↦ (let printed = so_far.put.printed.front in
-        inl (
-          before.report.held,
-          ap (λ (xs : List ℕ). (printed ++ xs) ++ before.report.held) nothing
-              ∙ (ap (λ (xs : List ℕ). xs ++ before.report.held) (append-nil printed)
-              ∙ out-and-held start.report.held (report_so_far project left so_far.founds None) printed
-              before.report.held r so_far.put.printed.whole),
-        ))
-    | inr all ↦ (let written = so_far.put.written.front in
-        let end = end_line (length so_far.founds) (is_finished outcome) in
-        inr (ap (λ (xs : List ℕ). written ++ xs) all
-        ∙ (sym (append_assoc written before.certificate.held end)
-        ∙ (ap (λ (xs : List ℕ). xs ++ end) (out-and-held start.certificate.held
-        (certificate_so_far project so_far.founds None) written before.certificate.held c so_far.put.written.whole)
-        ∙ certificate-last project so_far.founds outcome))))
+  at-end-in-order left fault so_far cut = elim (cut-at-end-in-order fault _ _ start before now c so_far.put _ _ r cut) [
+    | inl some ↦ inl some
+    | inr all ↦ inr (all ∙ certificate-last project so_far.founds outcome)
   ]
-
-  -- the pens were being emptied
-  emptied-in-order : (fault : OutFault) (whole : IsWhole project settings outcome start before)
-      (cut : IsCutOff fault [] [] before now)
-      → EndsInOrder project whole.founds whole.left (Some outcome)
-      (whole.put.written.front ++ cut.written.1.front) (whole.put.printed.front ++ cut.printed.1.front)
-  emptied-in-order fault whole cut =
-      let written = whole.put.written.front in
-      let all = certificate_so_far project whole.founds (Some outcome) in
-      let none : cut.written.1.front ≡ [] = nothing-out cut.written.1.front cut.written.0
-      (ap (λ (xs : List ℕ). xs ++ []) (sym whole.emptied) ∙ cut.written.1.whole) in
-      inr (ap (λ (xs : List ℕ). written ++ xs) (none ∙ sym whole.emptied)
-      ∙ out-and-held start.certificate.held all written before.certificate.held c whole.put.written.whole)
 
 -- ---- a run so far
 
@@ -343,7 +349,7 @@ whole-cut-off project settings fault outcome start before now whole cut_off = re
   names = whole.names;
   cut_off = cut-off-as fault _ _ _ _ start now (append-nil _) (append-nil _) (cut-off-then fault _ _ _ _ start before
       now whole.put cut_off);
-  in_order = λ c r. emptied-in-order project settings outcome start before now c r fault whole cut_off;
+  in_order = λ c r. inr (cut-while-emptied fault _ _ start before now c whole.put whole.emptied cut_off);
 }
 
 -- ---- what is put out

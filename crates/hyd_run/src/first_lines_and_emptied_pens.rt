@@ -55,7 +55,7 @@ pub(crate) fn put_front<D: Desk>(
 }
 
 /// Puts out all that the two pens hold.
-pub(crate) fn empty_both<D: Desk>(
+pub fn empty_both<D: Desk>(
     certificate: &mut Pen,
     report: &mut Pen,
     desk: &mut D,

@@ -25,8 +25,9 @@ ghost use Rattle.hyd_run.specs.Runs.{outcome_of};
 
 use crate::first_lines_and_emptied_pens::empty;
 use crate::outcome::{RunEnd, is_finished};
+use crate::signs_of_life::Signs;
 use hyd_cert::{Record, put_end, put_record};
-use hyd_io::{Desk, OutFault, Pace, Pen};
+use hyd_io::{Desk, OutFault, Pen};
 use hyd_net::Project;
 use hyd_period_facts::Facts;
 use hyd_period_network::Net;
@@ -38,7 +39,7 @@ fn put_lines<D: Desk>(
     net: &Net,
     row: &Record,
     facts: &Facts,
-    pace: &mut Pace,
+    signs: &mut Signs,
     pen: &mut Pen,
     desk: &mut D,
 ) -> Result<(), OutFault>
@@ -57,10 +58,7 @@ fn put_lines<D: Desk>(
         Ok(()) => {}
         Err(fault) => return Err(fault),
     }
-    if pace.is_due(desk.milliseconds()) {
-        return empty(pen, desk);
-    }
-    Ok(())
+    signs.empty_when_due(pen, desk)
 }
 
 /// Puts the record of a period, and then its report, and empties the report's pen where that is due. Net, record and
@@ -70,7 +68,7 @@ pub(crate) fn put_period<D: Desk>(
     net: &Net,
     row: &Record,
     facts: &Facts,
-    pace: &mut Pace,
+    signs: &mut Signs,
     certificate: &mut Pen,
     report: &mut Pen,
     desk: &mut D,
@@ -98,7 +96,7 @@ pub(crate) fn put_period<D: Desk>(
         Ok(()) => {}
         Err(fault) => return Err(fault),
     }
-    put_lines(project, net, row, facts, pace, report, desk)
+    put_lines(project, net, row, facts, signs, report, desk)
 }
 
 /// Puts the last line of a report.
@@ -143,7 +141,7 @@ fn write_end<D: Desk>(
 
 /// Puts the END line, which goes out, and then the last line of a report, with the number of records and the time at
 /// which the run stopped.
-pub(crate) fn put_last<D: Desk>(
+pub fn put_last<D: Desk>(
     project: &Project,
     time: u32,
     records: u32,

@@ -1,6 +1,11 @@
 //! What shows a person that a run goes on.
 
-use hyd_io::{Desk, Pace};
+ghost use Rattle.std.specs.Prelude.{◌≡◌, [], None, IsTrue};
+ghost use Rattle.hyd_io.specs.Output.{OnCert};
+ghost use Rattle.hyd_io.specs.TextPutIn.{Puts};
+
+use crate::first_lines_and_emptied_pens::empty;
+use hyd_io::{Desk, OutFault, Pace, Pen};
 use hyd_sim::Sim;
 use std::fmt::{self, Display, Formatter};
 
@@ -12,10 +17,9 @@ const PUT_OUT: u64 = 1000;
 
 /// How far a run is, when it was shown last, and when the report's pen was emptied last.
 #[derive(Clone, Copy)]
-pub(crate) struct Signs {
+pub struct Signs {
     shown: Pace,
-    /// When the report's pen is to be emptied.
-    pub(crate) put_out: Pace,
+    put_out: Pace,
 }
 
 /// How far a run is: `12:00 of 168:00, 31 periods`.
@@ -48,7 +52,7 @@ impl Display for Progress {
 
 impl Signs {
     /// The signs of a run that begins now.
-    pub(crate) fn new<D: Desk>(desk: &D) -> Signs {
+    pub fn new<D: Desk>(desk: &D) -> Signs {
         let now = desk.milliseconds();
         Signs {
             shown: Pace::new(SHOWN, now),
@@ -57,7 +61,7 @@ impl Signs {
     }
 
     /// Shows how far a run is, where that is due.
-    pub(crate) fn show<D: Desk>(&mut self, sim: &Sim, desk: &D) {
+    pub fn show<D: Desk>(&mut self, sim: &Sim, desk: &D) {
         if self.shown.is_due(desk.milliseconds()) {
             desk.show(&Progress {
                 time: sim.time(),
@@ -65,5 +69,18 @@ impl Signs {
                 periods: sim.number(),
             });
         }
+    }
+
+    /// Puts out all that the report's pen holds, where that is due.
+    pub fn empty_when_due<D: Desk>(&mut self, pen: &mut Pen, desk: &mut D) -> Result<(), OutFault>
+        requires ready { OnCert pen.old.to (IsTrue (D.ready desk.old)) }
+        requires unbroken { pen.old.fault ≡ None }
+        ensures { Puts D.files D.rest D.written D.printed D.target D.ready D.counts D.openings
+            [] result pen.old pen.new desk.old desk.new }
+    {
+        if self.put_out.is_due(desk.milliseconds()) {
+            return empty(pen, desk);
+        }
+        Ok(())
     }
 }

@@ -52,7 +52,7 @@ fn put_step<D: Desk, F: Finder>(
         sim.net(),
         row,
         sim.facts(),
-        &mut signs.put_out,
+        signs,
         certificate,
         report,
         desk,

@@ -1,7 +1,8 @@
 //! The sentences that the program says to a person on standard error: why a text is refused, with the line, the row as it
-//! stands there and what is wrong with it; what a stop means and what to try; what of a certificate isn't so; the page of
-//! help; and how far long work has come. What they say is worked out from the text or the network again, and nothing is
-//! claimed of it: where nothing certain is found, the sentence is the general one of the cause. No memory is taken.
+//! stands there and what is wrong with it; why the name of a link is refused; what a stop means and what to try; what of
+//! a certificate isn't so; the page of help; and how far long work has come. What they say is worked out from the text or
+//! the network again, and nothing is claimed of it: where nothing certain is found, the sentence is the general one of the
+//! cause. No memory is taken.
 //!
 //! All texts stand in `sentences.rt`.
 //!
@@ -15,6 +16,7 @@ mod forms_of_rows;
 mod forms_of_rules;
 mod help;
 mod names;
+mod no_junction;
 mod numbers;
 mod parts_and_limits;
 mod progress;
@@ -22,6 +24,7 @@ mod pump_pairs;
 mod quantities;
 mod ranges;
 mod refused_certificates;
+mod refused_names;
 mod refused_text;
 mod rows;
 mod rule_lines;
@@ -32,7 +35,9 @@ mod syntax;
 mod unknown_names;
 
 pub use help::{Help, WrongWords};
+pub use no_junction::NoJunction;
 pub use progress::{PipesDone, Progress};
-pub use refused_certificates::{LineFault, RefusedLine, RefusedRecord};
+pub use refused_certificates::{LineFault, RefusedFlow, RefusedLine, RefusedRecord};
+pub use refused_names::RefusedName;
 pub use refused_text::RefusedText;
 pub use stopped::Stopped;

@@ -3,9 +3,10 @@
 ghost use Rattle.std.specs.Prelude.{◌≡◌, length};
 ghost use Rattle.hyd_net.specs.ControlsAndRules.{node_count};
 
-use crate::sentences::{Untrue, line_fault};
-use crate::stopped::{bounded_by, node_id};
+use crate::sentences::{Unbounded, Untrue, line_fault};
+use crate::stopped::{bounded_by, link_id, node_id};
 use hyd_net::Project;
+use hyd_spec_flows::FlowFails;
 use hyd_spec_reports::CertRefused;
 use std::fmt::{self, Display, Formatter};
 
@@ -17,6 +18,19 @@ pub struct RefusedRecord<'a> {
     /// Why the record is refused.
     pub cause: CertRefused,
     pub ghost nodes: { length project.now.node_ids ≡ node_count project.now },
+}
+
+/// Why the flow of a link that is named behind a record of a certificate can't be bounded.
+#[derive(Clone, Copy)]
+pub struct RefusedFlow<'a> {
+    /// The network.
+    pub project: &'a Project,
+    /// The number of the record, counted from 0.
+    pub period: u32,
+    /// Why the part behind it is refused.
+    pub cause: FlowFails,
+    pub ghost nodes: { length project.now.node_ids ≡ node_count project.now },
+    pub ghost links: { length project.now.link_ids ≡ length project.now.links.list },
 }
 
 /// What of a line of a certificate isn't so.
@@ -62,12 +76,42 @@ fn untrue_of(record: RefusedRecord<'_>) -> (u32, Untrue<'_>) {
     }
 }
 
+// Why the flow of a named link can't be bounded.
+fn unbounded_of(part: RefusedFlow<'_>) -> Unbounded<'_> {
+    let project = part.project;
+    match part.cause {
+        FlowFails::Name { link } => {
+            if link as usize >= project.links.len() {
+                return Unbounded::NoLink { number: link };
+            }
+            Unbounded::Name {
+                link: link_id(project, link),
+            }
+        }
+        FlowFails::Vector { link, junction, .. } => Unbounded::Heads {
+            link: link_id(project, link),
+            junction: node_id(project, junction),
+        },
+    }
+}
+
 impl Display for RefusedRecord<'_> {
     fn fmt<W: fmt::Write>(&self, f: &mut Formatter<W>) -> fmt::Result {
         let (period, untrue) = untrue_of(*self);
         write!(
             f,
             "the certificate isn't right in period {period}: {untrue}"
+        )
+    }
+}
+
+impl Display for RefusedFlow<'_> {
+    fn fmt<W: fmt::Write>(&self, f: &mut Formatter<W>) -> fmt::Result {
+        let period = self.period;
+        let unbounded = unbounded_of(*self);
+        write!(
+            f,
+            "the certificate isn't right in period {period}: {unbounded}"
         )
     }
 }

@@ -103,7 +103,7 @@ pub(crate) const LENGTH: &str = "length";
 
 pub(crate) const DIAMETER: &str = "diameter";
 
-pub(crate) const ROUGHNESS: &str = "roughness";
+pub(crate) const ROUGHNESS: &str = "roughness (Manning's n, no Hazen-Williams C)";
 
 pub(crate) const MINOR_LOSS: &str = "minor loss coefficient";
 
@@ -637,6 +637,18 @@ impl Display for WrongName<'_> {
     }
 }
 
+/// A name among the words that no junction of the file has.
+pub(crate) fn no_junction<W: fmt::Write>(
+    f: &mut Formatter<W>,
+    file: &str,
+    name: Name<'_>,
+) -> fmt::Result {
+    write!(
+        f,
+        "{file}: no junction is called {name} (reservoirs and tanks are none)"
+    )
+}
+
 // ---- Unsupported
 
 /// A part that isn't supported, with its names.
@@ -970,7 +982,7 @@ impl Display for Meaning<'_> {
             Meaning::NoCertificate { bounded, junction } => {
                 write!(
                     f,
-                    "no heads between -100,000 m and 100,000 m bound the solutions {bounded}. Look at junction {} and around it: closed or one-way links may cut it off from every source or outlet, or the links can't carry the demands",
+                    "no heads between -100,000 m and 100,000 m bound the solutions {bounded}. Look at junction {} and around it: closed or one-way links may cut it off from every source or outlet, or the links can't carry the demands. It is so too where the demand there is 0",
                     Name(junction)
                 )
             }
@@ -1023,7 +1035,7 @@ impl Display for Meaning<'_> {
             Meaning::Rounds { bounded, rounds } => {
                 write!(
                     f,
-                    "{rounds} rounds didn't find heads that bound the solutions {bounded}: give a greater --sweeps, or leave --tight out"
+                    "{rounds} rounds didn't find heads that bound the solutions {bounded}: give a greater --sweeps; with --tight, try it without. So it looks too where a demand is more than the links carry, or a tank has just become empty"
                 )
             }
             Meaning::Demand { junction, demand } => {
@@ -1081,7 +1093,7 @@ impl Display for Untrue<'_> {
             ),
             Untrue::Fails { bounded, junction } => write!(
                 f,
-                "its heads don't bound the solutions {bounded}: too little water {} junction {}",
+                "its heads don't bound the solutions {bounded}: too little water {} junction {}, or the network isn't the one that was run",
                 passes(bounded.side),
                 Name(junction)
             ),
@@ -1090,6 +1102,39 @@ impl Display for Untrue<'_> {
             ),
             Untrue::Length => f.write_str("the period ends at another second than the record says"),
             Untrue::After => f.write_str("a record stands behind the one at the duration"),
+        }
+    }
+}
+
+/// Why the flow of a named link can't be bounded.
+#[derive(Clone, Copy)]
+pub(crate) enum Unbounded<'a> {
+    /// There is no link of this number, counted from 0.
+    NoLink { number: u32 },
+    /// The link ends at a reservoir or a tank, or was named before.
+    Name { link: &'a [u8] },
+    /// The heads for it fail at a junction.
+    Heads { link: &'a [u8], junction: &'a [u8] },
+}
+
+impl Display for Unbounded<'_> {
+    fn fmt<W: fmt::Write>(&self, f: &mut Formatter<W>) -> fmt::Result {
+        match *self {
+            Unbounded::NoLink { number } => write!(
+                f,
+                "it names link number {number}, counted from 0, and there is no such link whose flow could be bounded"
+            ),
+            Unbounded::Name { link } => write!(
+                f,
+                "it names link {}, whose flow can't be bounded there: the link ends at a reservoir or a tank, or was named before",
+                Name(link)
+            ),
+            Unbounded::Heads { link, junction } => write!(
+                f,
+                "its heads for link {} don't bound the flow of that link: they fail at junction {}",
+                Name(link),
+                Name(junction)
+            ),
         }
     }
 }
@@ -1125,11 +1170,43 @@ impl Display for PipesDone {
     }
 }
 
+// ---- names of links
+
+/// Why a link can't be named.
+#[derive(Clone, Copy)]
+pub(crate) enum UnfitName<'a> {
+    /// No link has the name.
+    NoLink(&'a [u8]),
+    /// The link doesn't join two junctions.
+    NotBetweenJunctions(&'a [u8]),
+}
+
+impl Display for UnfitName<'_> {
+    fn fmt<W: fmt::Write>(&self, f: &mut Formatter<W>) -> fmt::Result {
+        match *self {
+            UnfitName::NoLink(name) => {
+                write!(
+                    f,
+                    "no link is called {}, which --flows names: it takes IDs of pipes, pumps and valves, in the letter case of the file and parted by commas",
+                    Name(name)
+                )
+            }
+            UnfitName::NotBetweenJunctions(name) => {
+                write!(
+                    f,
+                    "the link {}, which --flows names, ends at a reservoir or a tank: only links between two junctions can be named",
+                    Name(name)
+                )
+            }
+        }
+    }
+}
+
 // ---- help
 
 /// What helps where words aren't a command.
 pub(crate) const WRONG_WORDS: &str =
-    "these words aren't a command: hyd --help shows all, and hyd help run explains the words of one";
+    "these words aren't a command: one is missing, too many or misspelt, NET and CERT have one name, or a pressure below 0 lacks a word -- before it. hyd --help shows all commands, and hyd help run explains the words of one";
 
 pub(crate) const HELP: &str = "simulates pressurised water networks from EPANET input files,
 and proves the intervals that it prints.
@@ -1181,9 +1258,9 @@ Runs the network, writes the certificate, prints the report.
 
   hyd run examples/net1.inp net1.cert
 
-Status 0: done. 5: NET is refused, and CERT stays as it was. 6, 7, 8: the run
-stopped, and what is printed above the last line holds. 1, 3, 4, 10: memory or
-files. docs/ANSWERS.md: each line of the report.";
+Status 0: done. 5: NET is refused, or a name of --flows, and CERT stays as it
+was. 6, 7, 8: the run stopped, and what is printed above the last line holds.
+1, 3, 4, 10: memory or files. docs/ANSWERS.md: each line of the report.";
 
 pub(crate) const HELP_OF_CHECK: &str = "check NET CERT
 

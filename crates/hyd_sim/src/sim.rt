@@ -73,6 +73,13 @@ impl Sim {
         &self.project
     }
 
+    /// The most rounds of raises toward one vector that it was asked for.
+    pub fn rounds(&self) -> u32
+        ensures { result ≡ self.now.settings.rounds }
+    {
+        self.settings.rounds
+    }
+
     /// How many periods were done.
     pub fn number(&self) -> u32
         ensures { result ≡ (standing_of self.now).number }

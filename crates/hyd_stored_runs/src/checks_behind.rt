@@ -13,7 +13,7 @@ pub(crate) fn holds_behind(
     status: Status,
     desk: &mut MemDesk,
 ) -> Result<bool, AllocError> {
-    if word_at(words, 0) == "run" {
+    if word_at(words, 0) == "run" && !(names_flows(words) && is_refused(status)) {
         return is_checked(alloc, word_at(words, 1), word_at(words, 2), status, desk);
     }
     if word_at(words, 0) == "gen" && words.len() > 2 {
@@ -22,6 +22,16 @@ pub(crate) fn holds_behind(
         return is_made(alloc, net, cert, desk);
     }
     Ok(true)
+}
+
+/// Whether the words or what they name were refused.
+fn is_refused(status: Status) -> bool {
+    status == Status::Usage || status == Status::InputRefused
+}
+
+/// Whether the words ask for flows of named links: such a run may be refused for a name, of which a check knows nothing.
+fn names_flows(words: &[String]) -> bool {
+    words.iter().any(|word| word.starts_with("--flows"))
 }
 
 /// The words of a command on two files.

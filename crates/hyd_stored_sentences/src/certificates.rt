@@ -3,8 +3,9 @@
 ghost use Rattle.hyd_net.specs.Sound.{IsSound};
 
 use hyd_net::Project;
-use hyd_sentences::{LineFault, RefusedLine, RefusedRecord};
+use hyd_sentences::{LineFault, RefusedFlow, RefusedLine, RefusedRecord};
 use hyd_spec_certificates::{Problem, Side};
+use hyd_spec_flows::FlowFails;
 use hyd_spec_reports::CertRefused;
 use std::io;
 
@@ -27,6 +28,22 @@ const RECORDS: &[CertRefused] = &[
     CertRefused::Open { period: 3 },
     CertRefused::Length { period: 3 },
     CertRefused::After { period: 3 },
+];
+
+/// Refusals of parts: a link that isn't there, one that ends at a reservoir, and heads of each side.
+const PARTS: &[FlowFails] = &[
+    FlowFails::Name { link: 4 },
+    FlowFails::Name { link: 0 },
+    FlowFails::Vector {
+        link: 1,
+        side: Side::Upper,
+        junction: 0,
+    },
+    FlowFails::Vector {
+        link: 1,
+        side: Side::Lower,
+        junction: 1,
+    },
 ];
 
 /// Refusals of lines, each once.
@@ -71,6 +88,23 @@ fn tell_lacking(rt: &HostRuntime) -> io::Result<()> {
     Ok(())
 }
 
+/// Says why the flow of a link can't be bounded, of each refused part.
+fn say_parts(rt: &HostRuntime, project: &Project) -> io::Result<()>
+    requires { IsSound project.now }
+{
+    for cause in PARTS {
+        println!(rt;
+            "{}",
+            RefusedFlow {
+                project,
+                period: 3,
+                cause: *cause
+            }
+        )?;
+    }
+    Ok(())
+}
+
 /// Says what of each refused certificate isn't so.
 pub(crate) fn say_all(rt: &HostRuntime, project: &Project) -> io::Result<()>
     requires { IsSound project.now }
@@ -84,6 +118,7 @@ pub(crate) fn say_all(rt: &HostRuntime, project: &Project) -> io::Result<()>
             }
         )?;
     }
+    say_parts(rt, project)?;
     for fault in LINES {
         println!(rt;
             "{}",

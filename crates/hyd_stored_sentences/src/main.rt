@@ -1,11 +1,12 @@
 //! Stored sentences. `texts.txt` has texts that are refused, each with the line and the cause that the reader answers; the
-//! program prints what is said of each, of each way in which a run stops, of each in which a certificate is refused, the pages
-//! of help and the lines of progress. What is expected stands in `stdout`. A cause, a detail, a stop or a refusal without a
+//! program prints what is said of each, of each way in which the name of a link is refused, in which a run stops, and in which
+//! a certificate is refused, the pages of help and the lines of progress. What is expected stands in `stdout`. A cause, a detail, a stop or a refusal without a
 //! case is told, and so is a text of which the reader answers another line or cause.
 #![tactic(auto)]
 
 mod causes;
 mod certificates;
+mod names;
 mod pages;
 mod stops;
 mod texts;
@@ -18,6 +19,7 @@ fn main(rt: HostRuntime) -> io::Result<()> {
     let list = fs::read_to_string(&rt, "texts.txt")?;
     texts::say_all(&rt, list.as_str())?;
     causes::tell_lacking(&rt, list.as_str())?;
+    names::say_all(&rt)?;
     let text = fs::read(&rt, "network.inp")?;
     match read_project(rt.alloc(), &text) {
         Ok(project) => {

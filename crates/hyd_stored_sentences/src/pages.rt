@@ -1,6 +1,6 @@
-//! The pages of help, and the lines of progress.
+//! The pages of help, what is said of words, and the lines of progress.
 
-use hyd_sentences::{Help, PipesDone, Progress};
+use hyd_sentences::{Help, NoJunction, PipesDone, Progress, WrongWords};
 use std::io;
 
 /// Says the pages and the lines.
@@ -9,6 +9,14 @@ pub(crate) fn say_all(rt: &HostRuntime) -> io::Result<()> {
         println!(rt; "{}", Help { topic: Some(topic) })?;
     }
     println!(rt; "{}", Help { topic: None })?;
+    println!(rt; "{WrongWords}")?;
+    println!(rt;
+        "{}",
+        NoJunction {
+            file: "town.inp",
+            name: "Lake"
+        }
+    )?;
     println!(rt;
         "{}",
         Progress {

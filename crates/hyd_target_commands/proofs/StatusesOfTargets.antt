@@ -5,7 +5,7 @@ use Rattle.std.specs.Prelude.{⊤}
 use Rattle.hyd_io.specs.declared.desk.Openings.{Openings}
 use Rattle.hyd_io.specs.declared.output.OutFault.{OutFault}
 use Rattle.hyd_io.specs.declared.output.OutFault.TheVariants.{Fault, Stalled as Stall}
-use Rattle.hyd_io.specs.DeskBytes.{Files, append_known}
+use Rattle.hyd_io.specs.DeskBytes.{append_known}
 use Rattle.hyd_io.specs.DeskCounts.{with_opened}
 use Rattle.hyd_spec_lines.specs.Lines.{items_of, rows_in}
 use Rattle.hyd_net.specs.declared.refusal_cause.Cause.{Cause}
@@ -22,7 +22,13 @@ use Rattle.hyd_command_answers.specs.DeskContents.{Seen, IsUntouched, OnlyPrinte
 use Rattle.hyd_command_answers.specs.FaultsAndRefusals.{AnswersRefused, PrintsRefusal, status_of_fault}
 use Rattle.hyd_command_answers.specs.OpeningsOfRuns.{OpensCert}
 use Rattle.hyd_command_answers.specs.declared.status.Status.{Status}
-use Rattle.hyd_command_answers.specs.declared.status.Status.TheVariants.{Done, OutOfMemory, Usage, ReadFault, WriteFault}
+use Rattle.hyd_command_answers.specs.declared.status.Status.TheVariants.{
+  Done,
+  OutOfMemory,
+  Usage,
+  ReadFault,
+  WriteFault,
+}
 use Rattle.hyd_command_answers.specs.declared.status.Status.TheVariants.{InputRefused, Undecided, RoundsSpent, Demand}
 use Rattle.hyd_command_answers.specs.declared.status.Status.TheVariants.{CertificateRefused, Stalled}
 use Rattle.hyd_target_commands.specs.PrintedTexts.{Prints, PrintsFront}
@@ -30,25 +36,9 @@ use Rattle.hyd_target_commands.specs.PrintedDemands.{AnswersDemand}
 use Rattle.hyd_target_commands.specs.BracketAnswers.{AnswersFire, AnswersFireText, RefusesName, target_in}
 use Rattle.hyd_target_commands.specs.ClosuresAnswers.{AnswersClosures, AnswersClosuresText, ClosuresCutOff}
 use Rattle.hyd_target_commands.specs.CommandsOnTargets.{OpensNet, LeavesNet}
+use Rattle.hyd_command_answers.proofs.AnswerLemmas.{since_before}
 
 -- ---- contents
-
--- what was untouched is the same
-fields_of : Option Files → Option (List ℕ) → Option (List ℕ) → Seen
-fields_of files written printed = record { files = files; written = written; printed = printed }
-
-same_fields : (files files' : Option Files) (written written' printed printed' : Option (List ℕ)) → files' ≡ files
-    → written' ≡ written → printed' ≡ printed → fields_of files' written' printed' ≡ fields_of files written printed
-same_fields files files' written written' printed printed' f w p = rw (f, w, p) refl
-
-same_seen : (before now : Seen) → IsUntouched before now → now ≡ before
-unfolding fields_of
-same_seen before now u =
-    same_fields before.files now.files before.written now.written before.printed now.printed u.files u.written u.printed
-
--- a fact from a state on holds also from an earlier one, where nothing was touched between them
-pub since_before : (P : Seen → Type 0) (before between : Seen) → IsUntouched before between → P between → P before
-since_before P before between u h = subst P (same_seen before between u) h
 
 pub untouched : (same : Seen) → IsUntouched same same
 untouched same = record { files = refl; written = refl; printed = refl }
@@ -159,7 +149,12 @@ module _ (project : Project) (name : List ℕ) (target : Rational) (rounds : ℕ
   demand_fires place Usage before now is h = absurd h
   demand_fires place ReadFault before now is h = absurd h
   demand_fires place WriteFault before now is h =
-      record { text = h.text; holds = (Demand, record { place = place; is_place = is; names = h.holds }); only = h.only }
+      record {
+        text = h.text;
+        holds = (Demand, record { place = place; is_place = is; names = h.holds });
+        only =
+            h.only;
+      }
   demand_fires place InputRefused before now is h = absurd h
   demand_fires place Undecided before now is h = absurd h
   demand_fires place RoundsSpent before now is h = absurd h
@@ -167,7 +162,12 @@ module _ (project : Project) (name : List ℕ) (target : Rational) (rounds : ℕ
       record { text = h.text; holds = record { place = place; is_place = is; names = h.holds }; only = h.only }
   demand_fires place CertificateRefused before now is h = absurd h
   demand_fires place Stalled before now is h =
-      record { text = h.text; holds = (Demand, record { place = place; is_place = is; names = h.holds }); only = h.only }
+      record {
+        text = h.text;
+        holds = (Demand, record { place = place; is_place = is; names = h.holds });
+        only =
+            h.only;
+      }
 
   -- it isn't there
   pub refusal_fires : (status : Status) (before now : Seen) (start end : Openings) → NamesNoJunction project name
@@ -178,7 +178,18 @@ module _ (project : Project) (name : List ℕ) (target : Rational) (rounds : ℕ
   refusal_fires Usage before now start end none h o = absurd h
   refusal_fires ReadFault before now start end none h o = absurd o
   refusal_fires WriteFault before now start end none h o =
-      record { text = refused_text_line 0 UnknownName; holds = (InputRefused, record { no_junction = none; is_line = refl }); only = h }
+      record {
+        text = refused_text_line 0 UnknownName;
+        holds = (
+          InputRefused,
+          record {
+            no_junction = none;
+            is_line =
+                refl;
+          },
+        );
+        only = h;
+      }
   refusal_fires InputRefused before now start end none h o =
       record { text = refused_text_line 0 UnknownName; holds = record { no_junction = none; is_line = refl }; only = h }
   refusal_fires Undecided before now start end none h o = absurd h
@@ -186,7 +197,18 @@ module _ (project : Project) (name : List ℕ) (target : Rational) (rounds : ℕ
   refusal_fires Demand before now start end none h o = absurd h
   refusal_fires CertificateRefused before now start end none h o = absurd h
   refusal_fires Stalled before now start end none h o =
-      record { text = refused_text_line 0 UnknownName; holds = (InputRefused, record { no_junction = none; is_line = refl }); only = h }
+      record {
+        text = refused_text_line 0 UnknownName;
+        holds = (
+          InputRefused,
+          record {
+            no_junction = none;
+            is_line =
+                refl;
+          },
+        );
+        only = h;
+      }
 
   pub fire_is_answer : (status : Status) (before now : Seen) → AnswersFire project name target rounds status before now
       → IsAnswer status
@@ -277,7 +299,8 @@ module _ (project : Project) (target : Rational) (rounds : ℕ) where
   demand_closes CertificateRefused before now h = absurd h
   demand_closes Stalled before now h = inr h
 
-  pub closures_are_answer : (status : Status) (before now : Seen) → AnswersClosures project target rounds status before now
+  pub closures_are_answer : (status : Status) (before now : Seen) → AnswersClosures project target rounds status
+      before now
       → IsAnswer status
   closures_are_answer Done before now h = tt
   closures_are_answer OutOfMemory before now h = tt
@@ -335,22 +358,6 @@ closures_since text project order status before between now u is h =
     (closures_text text project order status between now is h)
 
 -- ---- a text that is refused
-
-pub refused_since : (line : ℕ) (cause : Cause) (status : Status) (before between now : Seen)
-    → IsUntouched before between → AnswersRefused line cause status between now
-    → AnswersRefused line cause status before now
-refused_since line cause status before between now u h =
-    since_before (λ b. AnswersRefused line cause status b now) before between u h
-
--- the same fault is refused by the same line
-pub same_refusal : (line other : ℕ) (cause second : Cause) (status : Status) (before now : Seen) → line ≡ other
-    → cause ≡ second → AnswersRefused line cause status before now → AnswersRefused other second status before now
-same_refusal line other cause second status before now l c h =
-    subst (λ w. AnswersRefused other w status before now) c (subst (λ n. AnswersRefused n cause status before now) l h)
-
-pub refusal_never_usage : (line : ℕ) (cause : Cause) (status : Status) (before now : Seen)
-    → AnswersRefused line cause status before now → status ≢ Usage
-refusal_never_usage line cause status before now h = λ e. subst (λ s. AnswersRefused line cause s before now) e h
 
 pub refusal_leaves : (line : ℕ) (cause : Cause) (status : Status) (before now : Seen)
     → AnswersRefused line cause status before now → LeavesNet status before now

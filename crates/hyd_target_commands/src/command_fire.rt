@@ -26,6 +26,7 @@ use hyd_command_answers::{Status, Unread, fault_status, read_network, refuse_tex
 use hyd_command_words::FireWords;
 use hyd_io::{Channel, Desk, OutFault, Pen};
 use hyd_net::{Cause, Project};
+use hyd_sentences::NoJunction;
 use hyd_targets::{Inquiry, put_bracket};
 use std::alloc::Global;
 
@@ -145,7 +146,13 @@ fn bracket_of_name<D: Desk>(
 {
     match junction_named(project, words.junction) {
         Some(junction) => bracket_at(alloc, project, junction, words, desk),
-        None => refuse_text(0, Cause::UnknownName, desk),
+        None => {
+            desk.say(&NoJunction {
+                file: words.net,
+                name: words.junction,
+            });
+            refuse_text(0, Cause::UnknownName, desk)
+        }
     }
 }
 

@@ -17,6 +17,7 @@ use hyd_io::{Channel, Desk, OutFault, Pen};
 use hyd_net::Project;
 use hyd_period_network::PeriodDemand;
 use hyd_report::put_stop;
+use hyd_sentences::Stopped;
 use hyd_spec_reports::StopCause;
 
 // The stop at the first period, whose demand is out of range.
@@ -56,6 +57,17 @@ fn print_demand<D: Desk>(
     pen.flush(desk)
 }
 
+// Says what a demand out of range in the first period means.
+fn say_demand<D: Desk>(project: &Project, demand: PeriodDemand, desk: &D)
+    requires { IsSound project.now }
+{
+    desk.say(&Stopped {
+        project,
+        time: 0,
+        cause: demand_cause(demand),
+    });
+}
+
 /// Prints the line of the first demand out of range in the first period, and answers so, or by the fault that kept it
 /// from being printed.
 pub(crate) fn stop_by_demand<D: Desk>(
@@ -71,7 +83,10 @@ pub(crate) fn stop_by_demand<D: Desk>(
     ensures openings_stay { D.openings desk.new ≡ D.openings desk.old }
 {
     match print_demand(project, demand, desk) {
-        Ok(()) => Status::Demand,
+        Ok(()) => {
+            say_demand(project, demand, desk);
+            Status::Demand
+        }
         Err(fault) => fault_status(fault),
     }
 }

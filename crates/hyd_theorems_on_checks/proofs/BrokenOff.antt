@@ -1,6 +1,6 @@
 -- What a check that was broken off has printed is a front of the one report of its text.
 use Rattle.std.proofs.Common.{◌≡◌, ℕ, ◌⊎◌, inl, inr, List, [], ◌∷◌, ◌++◌, map, sym, ap, ◌∙◌, append_assoc}
-use Rattle.std.proofs.Common.{append-nil, Bool, codes}
+use Rattle.std.proofs.Common.{append-nil, Bool, false, codes}
 use Rattle.std.specs.Fmt.{decimal}
 use Rattle.hyd_net.specs.Sound.{IsSound}
 use Rattle.hyd_spec.specs.ProgramTypes.{Project}
@@ -13,12 +13,15 @@ use Rattle.hyd_spec_reports.specs.ReportLine.{ReportLine, report_text, line_text
 use Rattle.hyd_spec_reports.specs.declared.CertRefused.{CertRefused}
 use Rattle.hyd_spec_reports.specs.PromisesOfRunsAndChecks.{Found, IsRun, rows_of, lines_of, CheckAccepts, CheckRefuses}
 use Rattle.hyd_spec_reports.specs.PromisesOfRunsAndChecks.{CheckRefusesEnd}
-use Rattle.hyd_cert_check.specs.Checks.{refused_counts_line, BeginsWithFound}
-use Rattle.hyd_cert_check.specs.Checks.{CheckRefusesGrammar, CheckRefusesCounts, CheckRefusal, CheckEnds, CheckFinds}
+use Rattle.hyd_spec_flows.specs.FlowTexts.{is_with_flows}
+use Rattle.hyd_cert_check.specs.LinesOfRefusals.{refused_counts_line}
+use Rattle.hyd_cert_check.specs.Checks.{BeginsWithFound, CheckEndsPlainly, CheckFindsPlainly}
+use Rattle.hyd_cert_check.specs.Checks.{CheckRefusesGrammar, CheckRefusesCounts, CheckRefusal, CheckEnds}
 use Rattle.hyd_cert_check.specs.Checks.{grammar, counts, record_refused, other_end, CheckBreaksOff, in_last_line}
 use Rattle.hyd_cert_check.specs.Checks.{in_records}
 use Rattle.hyd_cert_check.specs.declared.outcome.CheckEnd.{CheckEnd}
 use Rattle.hyd_cert_check.specs.declared.outcome.CheckEnd.TheVariants.{Accepted, Refused}
+use Rattle.hyd_theorems_on_checks.proofs.TextsWithoutFlows.{plain_end, plain_find}
 use Rattle.hyd_theorems_on_checks.proofs.RecordsOfOneText.{compared, other_header}
 use Rattle.hyd_theorems_on_checks.proofs.FirstRecords.{first_rows}
 use Rattle.hyd_theorems_on_checks.proofs.BeginningsOfLists.{Begins, before_last}
@@ -53,7 +56,7 @@ module _ (project : Project) where
         let front = longer a runs.more last in
         (front.0, front.1 ∙ (ap (λ fs. report_text project (lines_of fs) last) (sym runs.is) ∙ sym e))
 
-    module _ (report whole : List ℕ) (f : CheckFinds project text report) where
+    module _ (report whole : List ℕ) (f : CheckFindsPlainly project text report) where
       by_certificate : (rows : List Record) (periods : ℕ) (finished : Bool)
           → IsCertificateText text (version_of project) (junction_count project) (tank_count project) rows periods
           finished
@@ -135,22 +138,25 @@ module _ (project : Project) where
       in_refused (record_refused cause a) = in_record cause a
       in_refused (other_end a) = in_end a
 
-      in_whole : (end : CheckEnd) → CheckEnds project text whole end
+      in_whole : (end : CheckEnd) → CheckEndsPlainly project text whole end
           → IsFrontOf (report_text project (lines_of f.founds) []) whole
       in_whole Accepted ends = in_accepted ends
       in_whole Refused ends = in_refused ends
 
     -- what was found so far is a front
     found_front : (printed unprinted whole : List ℕ) (end : CheckEnd)
-        → CheckFinds project text (printed ++ unprinted) → CheckEnds project text whole end → IsFrontOf printed whole
+        → CheckFindsPlainly project text (printed ++ unprinted) → CheckEndsPlainly project text whole end
+        → IsFrontOf printed whole
     found_front printed unprinted whole end f ends =
         let front = in_whole (printed ++ unprinted) whole f end ends in (
           unprinted ++ front.0,
           sym (append_assoc printed unprinted front.0) ∙ (ap (λ t. t ++ front.0) f.report_so_far ∙ front.1),
         )
 
-    pub broken_front : (printed whole : List ℕ) (end : CheckEnd) → CheckBreaksOff project text printed
-        → CheckEnds project text whole end → IsFrontOf printed whole
-    broken_front printed whole end (in_last_line other unprinted x) ends =
-        (unprinted, same_report project sound text (printed ++ unprinted) whole other end x ends)
-    broken_front printed whole end (in_records unprinted f) ends = found_front printed unprinted whole end f ends
+    pub broken_front : is_with_flows text ≡ false → (printed whole : List ℕ) (end : CheckEnd)
+        → CheckBreaksOff project text printed → CheckEnds project text whole end → IsFrontOf printed whole
+    broken_front has_none printed whole end (in_last_line other unprinted x) ends =
+        (unprinted, same_report project sound text (printed ++ unprinted) whole has_none other end x ends)
+    broken_front has_none printed whole end (in_records unprinted f) ends =
+        found_front printed unprinted whole end (plain_find project text has_none (printed ++ unprinted) f)
+        (plain_end project text has_none whole end ends)

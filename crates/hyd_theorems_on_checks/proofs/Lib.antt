@@ -4,6 +4,7 @@ pub mod RecordsNotRefused
 pub mod RecordsOfOneText
 pub mod FirstRecords
 pub mod BeginningsOfLists
+pub mod TextsWithoutFlows
 pub mod NeverRefused
 pub mod WrittenAndAccepted
 pub mod OneReason

@@ -1,5 +1,5 @@
 -- A text is accepted or refused, and refused for one reason: so it has one report.
-use Rattle.std.proofs.Common.{◌≡◌, ℕ, ◌⊎◌, inl, inr, List, [], ◌∷◌, ◌++◌, map, refl, sym, ap, ap₂}
+use Rattle.std.proofs.Common.{◌≡◌, ℕ, ◌⊎◌, false, inl, inr, List, [], ◌∷◌, ◌++◌, map, refl, sym, ap, ap₂}
 use Rattle.std.proofs.Common.{subst, ◌∙◌, append_assoc, append-nil}
 use Rattle.std.proofs.lemmas.List.Elements.{All-head, All-tail}
 use Rattle.hyd_net.specs.Sound.{IsSound}
@@ -20,8 +20,10 @@ use Rattle.hyd_theorems_on_definitions.proofs.OneRun.{one_left}
 use Rattle.hyd_cert.specs.FaultyLine.{IsCertificate}
 use Rattle.hyd_cert.proofs.WholeTextLemmas.{fault_no_certificate, no_certificate_of_others, one_fault, fault_or_header}
 use Rattle.hyd_sim.specs.RunView.{header_for}
-use Rattle.hyd_cert_check.specs.Checks.{refused_grammar_line, printed_number, BeginsWithFound, CheckRefusesGrammar}
-use Rattle.hyd_cert_check.specs.Checks.{CheckRefusesCounts, CheckRefusal, CheckEnds}
+use Rattle.hyd_spec_flows.specs.FlowTexts.{is_with_flows}
+use Rattle.hyd_cert_check.specs.LinesOfRefusals.{refused_grammar_line, printed_number}
+use Rattle.hyd_cert_check.specs.Checks.{BeginsWithFound, CheckRefusesGrammar}
+use Rattle.hyd_cert_check.specs.Checks.{CheckRefusesCounts, CheckRefusal, CheckEnds, CheckEndsPlainly}
 use Rattle.hyd_cert_check.specs.Checks.{grammar, counts, record_refused, other_end}
 use Rattle.hyd_cert_check.specs.declared.outcome.CheckEnd.{CheckEnd}
 use Rattle.hyd_cert_check.specs.declared.outcome.CheckEnd.TheVariants.{Accepted, Refused}
@@ -30,6 +32,7 @@ use Rattle.hyd_theorems_on_checks.proofs.EndLineNotRefused.{one_report}
 use Rattle.hyd_theorems_on_checks.proofs.RecordsOfOneText.{AreRows, BeginsWith, compared, other_header}
 use Rattle.hyd_theorems_on_checks.proofs.FirstRecords.{first_rows, both_rows}
 use Rattle.hyd_theorems_on_checks.proofs.BeginningsOfLists.{Begins, both_ways, before_last, lasts}
+use Rattle.hyd_theorems_on_checks.proofs.TextsWithoutFlows.{plain_end}
 use Rattle.hyd_theorems_on_checks.proofs.NeverRefused.{never_refused}
 use Rattle.hyd_theorems_on_checks.proofs.WrittenAndAccepted.{accepted_is}
 use Rattle.hyd_theorems_on_checks.proofs.RunsByRecords.{one_by_records, next_valid}
@@ -255,15 +258,25 @@ module _ (project : Project) (sound : IsSound project) (text : List ℕ) where
         one_report project text printed
         (record { founds = b.founds; left = b.left; is_run = b.is_run; certificate = b.certificate }) a ∙ sym b.report
 
-    pub same_report : (a b : CheckEnd) → CheckEnds project text printed a → CheckEnds project text other b
+    report_by : (a b : CheckEnd) → CheckEndsPlainly project text printed a → CheckEndsPlainly project text other b
         → printed ≡ other
-    same_report Accepted Accepted x y = two_accepted x y
-    same_report Accepted Refused x y = absurd (never_refused project text other (accepted_is project text printed x) y)
-    same_report Refused Accepted x y = absurd (never_refused project text printed (accepted_is project text other y) x)
-    same_report Refused Refused x y = by_reason x y (one_reason x y)
+    report_by Accepted Accepted x y = two_accepted x y
+    report_by Accepted Refused x y = absurd (never_refused project text other (accepted_is project text printed x) y)
+    report_by Refused Accepted x y = absurd (never_refused project text printed (accepted_is project text other y) x)
+    report_by Refused Refused x y = by_reason x y (one_reason x y)
 
-    pub same_end : (a b : CheckEnd) → CheckEnds project text printed a → CheckEnds project text other b → a ≡ b
-    same_end Accepted Accepted x y = refl
-    same_end Accepted Refused x y = absurd (never_refused project text other (accepted_is project text printed x) y)
-    same_end Refused Accepted x y = absurd (never_refused project text printed (accepted_is project text other y) x)
-    same_end Refused Refused x y = refl
+    end_by : (a b : CheckEnd) → CheckEndsPlainly project text printed a → CheckEndsPlainly project text other b → a ≡ b
+    end_by Accepted Accepted x y = refl
+    end_by Accepted Refused x y = absurd (never_refused project text other (accepted_is project text printed x) y)
+    end_by Refused Accepted x y = absurd (never_refused project text printed (accepted_is project text other y) x)
+    end_by Refused Refused x y = refl
+
+    pub same_report : is_with_flows text ≡ false → (a b : CheckEnd) → CheckEnds project text printed a
+        → CheckEnds project text other b → printed ≡ other
+    same_report has_none a b x y = report_by a b (plain_end project text has_none printed a x)
+        (plain_end project text has_none other b y)
+
+    pub same_end : is_with_flows text ≡ false → (a b : CheckEnd) → CheckEnds project text printed a
+        → CheckEnds project text other b → a ≡ b
+    same_end has_none a b x y = end_by a b (plain_end project text has_none printed a x)
+        (plain_end project text has_none other b y)

@@ -5,7 +5,7 @@ use Rattle.hyd_spec_certificates.specs.PeriodNetwork.{Grid}
 use Rattle.hyd_spec_certificates.specs.RecordAndStanding.{Record, Standing}
 use Rattle.hyd_spec_certificates.specs.Valid.{IsValid}
 use Rattle.hyd_spec_reports.specs.Report.{IsReport}
-use Rattle.hyd_spec_reports.specs.PromisesOfRunsAndChecks.{Found, IsFound, IsRunFrom, more, rows_of}
+use Rattle.hyd_spec_reports.specs.PromisesOfRunsAndChecks.{Found, IsFound, IsRunFrom, rows_of}
 use Rattle.hyd_theorems_on_definitions.proofs.OneReport.{one_report}
 use Rattle.hyd_theorems_on_definitions.proofs.OneRun.{one_grid, steps, ends_here}
 use Rattle.hyd_theorems_on_definitions.proofs.OneStandingAndTightVector.{one_standing}

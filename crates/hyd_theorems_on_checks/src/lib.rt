@@ -3,7 +3,7 @@
 //! statements on the way stand before these, each the contract of a small function.
 #![tactic(auto)]
 
-ghost use Rattle.std.specs.Prelude.{◌≡◌, ℕ, Bool, List, ◌∷◌, ◌++◌, length, map, All};
+ghost use Rattle.std.specs.Prelude.{◌≡◌, ℕ, Bool, false, List, ◌∷◌, ◌++◌, length, map, All};
 ghost use Rattle.hyd_net.specs.Sound.{IsSound};
 ghost use Rattle.hyd_spec.specs.ProgramTypes.{Project};
 ghost use Rattle.hyd_spec.specs.Lists.{joined};
@@ -19,6 +19,7 @@ ghost use Rattle.hyd_spec_reports.specs.PromisesOfRunsAndChecks.{Found, IsRun, r
 ghost use Rattle.hyd_spec_reports.specs.PromisesOfRunsAndChecks.{RunWrites};
 ghost use Rattle.hyd_spec_reports.specs.PromisesOfRunsAndChecks.{accepted_line, CheckAccepts, CheckRefuses};
 ghost use Rattle.hyd_spec_reports.specs.PromisesOfRunsAndChecks.{CheckRefusesEnd};
+ghost use Rattle.hyd_spec_flows.specs.FlowTexts.{is_with_flows};
 ghost use Rattle.hyd_cert_check.specs.Checks.{CheckRefusal, CheckEnds, CheckBreaksOff};
 ghost use Rattle.hyd_cert_check.specs.declared.outcome.CheckEnd.{CheckEnd};
 ghost use Rattle.hyd_cert_check.specs.declared.outcome.CheckEnd.TheVariants.{Accepted};
@@ -44,13 +45,16 @@ pub fn runs()
         → (grid : Grid) × (next : Standing) × IsValid project last grid row next }
 {}
 
-/// What a run writes is the certificate of a run, and so is what a check accepts.
+/// What a run writes is the certificate of a run, and so is what a check accepts of texts without flows. The certificate
+/// of a run has no flows.
 pub fn certificates_of_runs()
     ensures written { (project : Project) (rounds : ℕ) (sharpness : Sharpness) (outcome : Outcome)
         (text printed : List ℕ) → RunWrites project rounds sharpness outcome text printed
         → IsCertificateOfRun project text }
     ensures accepted { (project : Project) (text printed : List ℕ) → CheckAccepts project text printed
         → IsCertificateOfRun project text }
+    ensures without_flows { (project : Project) (text : List ℕ) → IsCertificateOfRun project text
+        → is_with_flows text ≡ false }
 {}
 
 /// No record of the certificate of a run is refused.
@@ -103,22 +107,25 @@ pub fn valid_records()
 
 // ---- one answer
 
-/// Checks of one text by a sound network that come to their end end in one way: all of them accept it, or all refuse it
-/// for one reason, and they print one report.
+/// Checks of one text without flows by a sound network that come to their end end in one way: all of them accept it, or
+/// all refuse it for one reason, and they print one report.
 pub fn one_report()
-    ensures end { (project : Project) → IsSound project → (text printed other : List ℕ) (a b : CheckEnd)
+    ensures end { (project : Project) → IsSound project → (text printed other : List ℕ)
+        → is_with_flows text ≡ false → (a b : CheckEnd)
         → CheckEnds project text printed a → CheckEnds project text other b → a ≡ b }
     ensures reason { (project : Project) → IsSound project → (text printed other : List ℕ)
         (a : CheckRefusal project text printed) (b : CheckRefusal project text other)
         → HaveOneReason project text printed other a b }
-    ensures report { (project : Project) → IsSound project → (text printed other : List ℕ) (a b : CheckEnd)
+    ensures report { (project : Project) → IsSound project → (text printed other : List ℕ)
+        → is_with_flows text ≡ false → (a b : CheckEnd)
         → CheckEnds project text printed a → CheckEnds project text other b → printed ≡ other }
 {}
 
-/// What a check that was broken off has printed, in its last line or before, is a front of the report that each check
-/// of the text prints that comes to its end.
+/// What a check of a text without flows that was broken off has printed, in its last line or before, is a front of the
+/// report that each check of the text prints that comes to its end.
 pub fn broken_off()
-    ensures { (project : Project) → IsSound project → (text printed report : List ℕ) (end : CheckEnd)
+    ensures { (project : Project) → IsSound project → (text : List ℕ) → is_with_flows text ≡ false
+        → (printed report : List ℕ) (end : CheckEnd)
         → CheckBreaksOff project text printed → CheckEnds project text report end
         → (unprinted : List ℕ) × (printed ++ unprinted ≡ report) }
 {}

@@ -22,3 +22,11 @@ returns-clause-others c = refl
 pub returns-clause-targets : goal.returns-clause-targets
 unfolding kind_of is_numeral nano_of magnitude_of
 returns-clause-targets c = refl
+
+pub returns-clause-flows : goal.returns-clause-flows
+unfolding kind_of is_numeral nano_of magnitude_of
+returns-clause-flows c = refl
+
+pub returns-clause-flows_alone : goal.returns-clause-flows_alone
+unfolding kind_of is_numeral nano_of magnitude_of
+returns-clause-flows_alone c = refl

@@ -4,6 +4,9 @@ use Rattle.hyd_cert_check.proofs.last_report_line.put_conclusion.Goals as goal
 pub returns-in-Refused : goal.returns-in-Refused
 returns-in-Refused g c = rw c.in-Refused.is c.put_refused.ensures
 
+pub returns-in-RefusedPart : goal.returns-in-RefusedPart
+returns-in-RefusedPart g c = rw c.in-RefusedPart.is c.put_refused_flow.ensures
+
 pub returns-in-OtherEnd : goal.returns-in-OtherEnd
 returns-in-OtherEnd g c = rw c.in-OtherEnd.is c.put_refused_end.ensures
 

@@ -37,7 +37,9 @@ loop-conclusion-preserved g c =
       running = c.take_record.ensures.running;
       header = c.take_record.ensures.header ∙ i.header;
       going = goes-on _ _ _ _ did;
-      so_far = λ start so_far. turn-more _ _ _ start _ _ p did (i.so_far start so_far);
+      part = c.take_record.ensures.part;
+      so_far = λ start so_far. turn-more _ _ _ start _ _ p c.project-project.ensures.is_sim.sound did
+          (i.so_far start so_far);
     }
 
 pub loop-conclusion-smaller : goal.loop-conclusion-smaller

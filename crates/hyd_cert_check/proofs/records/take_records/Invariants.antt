@@ -16,6 +16,7 @@ invariant-loop-conclusion g l =
       settings : l.sim.settings ≡ l.fn.sim.settings;
       running : l.sim.stopped ≡ None;
       header : header_of l.row ≡ header_for l.fn.sim.project;
+      part : l.part.junctions ≡ l.row.junctions;
       going : CanGoOn (moment l.reader l.pen
           (told D.files D.rest D.written D.printed D.target D.ready D.counts D.openings l.desk));
       so_far : (start : CheckMoment) → IsSoFar l.fn.sim.project (standing_of l.fn.sim) start

@@ -16,6 +16,7 @@ take_records-requires g c =
     record {
       running = c.requires.running;
       header = c.requires.header;
+      part = c.requires.part;
       going = record {
         going = subst (λ (v : ReaderView). IsGoing v.stand) (sym c.requires.reader) tt;
         pen = (put-in _ r r _ _ _ _ c.requires.unbroken c.in-Ok.ensures).open_still;
@@ -29,7 +30,7 @@ pub returns-in-Err-clause-puts : goal.returns-in-Err-clause-puts
 returns-in-Err-clause-puts g c =
     let r = c.args.reader.now in
     first-cut-short c.args.sim.now.project (Output c.in-Err.fault) _ _ c.project-project.ensures.is_sim.sound
-    (put-cut-off _ c.in-Err.fault r r _ _ _ _ c.requires.unbroken c.in-Err.ensures)
+    c.requires.reader (put-cut-off _ c.in-Err.fault r r _ _ _ _ c.requires.unbroken c.in-Err.ensures)
 
 pub returns-in-Err-take_records-clause-puts : goal.returns-in-Err-take_records-clause-puts
 returns-in-Err-take_records-clause-puts g c =
@@ -45,6 +46,6 @@ returns-in-Ok-take_records-clause-puts g c =
     let begun = so-far-begun project (standing_of c.args.sim.now) _ _ c.requires.start c.requires.reader refl
     c.in-Ok.ensures.rest_stays (put-in _ r r _ _ _ _ c.requires.unbroken c.in-Ok.ensures) in
     ending-puts project c.take_records.new.sim.project c.in-Ok-take_records.conclusion
-    (standing_of c.take_records.new.sim)
+    (standing_of c.take_records.new.sim).number
     c.put_ending.result _ _ _ c.take_records.ensures.project
     (λ x. c.put_ending.ensures x c.take_records.new.reader) (c.in-Ok-take_records.ensures.give _ begun)

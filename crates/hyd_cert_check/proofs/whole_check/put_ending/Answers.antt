@@ -21,7 +21,7 @@ returns-in-Ok g c = λ start reader read.
     let text = ap (λ (p : Project). conclusion_line p c.number.result c.args.conclusion) c.project.ensures.project
     ∙ ap (λ (n : ℕ). conclusion_line sim.project n c.args.conclusion) c.number.ensures in
     whole-as sim.project _ _ start _ (sym c.end_of.ensures)
-    (last-whole sim.project c.args.conclusion (standing_of sim) start _ _ c.project.ensures.is_sim.sound read
+    (last-whole sim.project c.args.conclusion (standing_of sim).number start _ _ c.project.ensures.is_sim.sound read
     (put-as _ _ _ _ text (put-in _ reader reader _ _ _ _ c.requires c.in-Ok.ensures)))
 
 pub returns-in-Err : goal.returns-in-Err
@@ -29,7 +29,7 @@ returns-in-Err g c = λ start reader read.
     let sim = c.args.sim.now in
     let text = ap (λ (p : Project). conclusion_line p c.number.result c.args.conclusion) c.project.ensures.project
     ∙ ap (λ (n : ℕ). conclusion_line sim.project n c.args.conclusion) c.number.ensures in
-    last-cut-short sim.project c.args.conclusion (standing_of sim) start _ _ c.project.ensures.is_sim.sound read
+    last-cut-short sim.project c.args.conclusion (standing_of sim).number start _ _ c.project.ensures.is_sim.sound read
     (Output c.in-Err.fault)
     (cut-off-as (Output c.in-Err.fault) _ _ _ _ text (put-cut-off _ c.in-Err.fault reader reader _ _ _ _ c.requires
     c.in-Err.ensures))

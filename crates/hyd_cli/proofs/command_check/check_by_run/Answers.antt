@@ -8,8 +8,8 @@ use Rattle.hyd_cli.proofs.command_check.check_by_run.Goals as goal
 pub record_for-requires : goal.record_for-requires
 record_for-requires g c = subst IsSound (sym c.project.ensures.project) c.project.ensures.is_sim.sound
 
-pub check_opened-requires-clause-header : goal.check_opened-requires-clause-header
-check_opened-requires-clause-header g c = c.in-Ok.ensures ∙ ap header_for c.project.ensures.project
+pub check_with_flows-requires-clause-header : goal.check_with_flows-requires-clause-header
+check_with_flows-requires-clause-header g c = c.in-Ok.ensures ∙ ap header_for c.project.ensures.project
 
 pub returns-in-Err-clause-only_prints : goal.returns-in-Err-clause-only_prints
 returns-in-Err-clause-only_prints g c = prints_nothing _

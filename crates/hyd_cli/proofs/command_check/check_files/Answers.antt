@@ -5,7 +5,7 @@ use Rattle.hyd_theorems_on_input.proofs.OneFault.{one_fault, no_fault_beside}
 use Rattle.hyd_command_answers.specs.DeskContents.{seen}
 use Rattle.hyd_command_answers.specs.FaultsAndRefusals.{AnswersRefused}
 use Rattle.hyd_command_answers.specs.declared.status.Status.TheVariants.{ReadFault, OutOfMemory}
-use Rattle.hyd_cli.proofs.AnswerLemmas.{refused_since, same_refusal, refusal_never_usage}
+use Rattle.hyd_command_answers.proofs.AnswerLemmas.{refused_since, same_refusal, refusal_never_usage}
 use Rattle.hyd_cli.proofs.CheckLemmas.{check_never_refused, ended_not_refused, prints_since, leaves_since}
 use Rattle.hyd_cli.proofs.CheckLemmas.{answers_since, reads_both, check_never_usage, refused_prints_since}
 use Rattle.hyd_cli.proofs.CheckLemmas.{refused_check_leaves, refusal_reads, untouched_prints, ended_leaves}

@@ -6,7 +6,7 @@ use Rattle.hyd_command_answers.specs.DeskContents.{seen}
 use Rattle.hyd_command_answers.specs.FaultsAndRefusals.{HasCause}
 use Rattle.hyd_cli.specs.GenAnswers.{AnswersGenerated, CreatesBoth}
 use Rattle.hyd_command_answers.specs.declared.status.Status.{Status}
-use Rattle.hyd_cli.proofs.AnswerLemmas.{cause_of_end, cause_of_fault}
+use Rattle.hyd_command_answers.proofs.AnswerLemmas.{cause_of_end, cause_of_fault}
 use Rattle.hyd_cli.proofs.GenLemmas.{generated_end, generated_fault, creates_of_end, creates_of_fault}
 use Rattle.hyd_cli.proofs.command_gen.run_generated.Goals as goal
 

@@ -5,7 +5,7 @@ use Rattle.hyd_theorems_on_input.proofs.OneFault.{one_fault, no_fault_beside}
 use Rattle.hyd_command_words.specs.CommandView.{files_seen}
 use Rattle.hyd_command_answers.specs.DeskContents.{seen}
 use Rattle.hyd_command_answers.specs.FaultsAndRefusals.{AnswersRefused}
-use Rattle.hyd_cli.proofs.AnswerLemmas.{same_refusal, refusal_never_usage}
+use Rattle.hyd_command_answers.proofs.AnswerLemmas.{same_refusal, refusal_never_usage}
 use Rattle.hyd_cli.proofs.GenLemmas.{generated_leaves, generated_never_usage, generated_answers, gen_refusal_leaves}
 use Rattle.hyd_cli.proofs.GenLemmas.{refusal_creates}
 use Rattle.hyd_cli.proofs.command_gen.run_text.Goals as goal

@@ -8,8 +8,9 @@ use Rattle.hyd_command_answers.specs.FaultsAndRefusals.{HasCause}
 use Rattle.hyd_cli.specs.RunAnswers.{AnswersRun}
 use Rattle.hyd_command_answers.specs.OpeningsOfRuns.{OpensCert}
 use Rattle.hyd_command_answers.specs.declared.status.Status.{Status}
-use Rattle.hyd_cli.proofs.AnswerLemmas.{delivered, cut_short, cause_of_end, cause_of_fault, opens_of_end}
-use Rattle.hyd_cli.proofs.AnswerLemmas.{opens_of_fault, other_target}
+use Rattle.hyd_command_answers.proofs.AnswerLemmas.{cause_of_end, cause_of_fault, opens_of_end}
+use Rattle.hyd_cli.proofs.AnswerLemmas.{delivered, cut_short}
+use Rattle.hyd_command_answers.proofs.AnswerLemmas.{opens_of_fault, other_target}
 use Rattle.hyd_cli.proofs.command_run.put_run.Goals as goal
 
 -- ---- the run was put out whole

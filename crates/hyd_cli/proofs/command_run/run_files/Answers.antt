@@ -5,9 +5,11 @@ use Rattle.hyd_spec_input.specs.Faults.{IsFault}
 use Rattle.hyd_theorems_on_input.proofs.OneFault.{one_fault, no_fault_beside}
 use Rattle.hyd_command_answers.specs.DeskContents.{seen}
 use Rattle.hyd_command_answers.specs.FaultsAndRefusals.{AnswersRefused}
-use Rattle.hyd_cli.proofs.AnswerLemmas.{leaves_since, holds_since, run_since, refused_since, refused_leaves_since}
-use Rattle.hyd_cli.proofs.AnswerLemmas.{refused_holds_since, same_refusal, opens_once, run_never_usage}
-use Rattle.hyd_cli.proofs.AnswerLemmas.{refusal_never_usage}
+use Rattle.hyd_command_answers.proofs.AnswerLemmas.{refused_since}
+use Rattle.hyd_cli.proofs.AnswerLemmas.{leaves_since, holds_since, run_since, refused_leaves_since}
+use Rattle.hyd_command_answers.proofs.AnswerLemmas.{same_refusal, opens_once}
+use Rattle.hyd_cli.proofs.AnswerLemmas.{refused_holds_since, run_never_usage}
+use Rattle.hyd_command_answers.proofs.AnswerLemmas.{refusal_never_usage}
 use Rattle.hyd_cli.proofs.command_run.run_files.Goals as goal
 
 -- ---- a network was read

@@ -1,18 +1,27 @@
 -- What a command does is what was asked for.
 use Rattle.std.proofs.Common.{◌≡◌, Option, Some, option_map, sym, ap, ◌∙◌, subst}
-use Rattle.hyd_sim.specs.declared.settings.Settings.{Settings}
-use Rattle.hyd_command_words.specs.CommandGrammar.{Order, RunOrder, GenOrder, TwoFiles, check, gen}
+use Rattle.hyd_command_words.specs.CommandGrammar.{Order, RunOrder, GenOrder, TwoFiles, run, check, gen}
 use Rattle.hyd_command_words.specs.CommandGrammar.{FireOrder, ClosuresOrder, fire, closures}
 use Rattle.hyd_command_words.specs.CommandView.{order_seen, run_seen, gen_seen, files_seen, fire_seen, closures_seen}
 use Rattle.hyd_command_words.specs.declared.command.Command.{Command}
 use Rattle.hyd_command_words.specs.declared.command.Command.TheVariants.{Run, Check, Gen, Fire, Closures}
 use Rattle.hyd_command_answers.specs.DeskContents.{seen}
 use Rattle.hyd_cli.specs.Answers.{Leaves}
-use Rattle.hyd_cli.specs.RunAnswers.{AnswersText}
 use Rattle.hyd_cli.specs.Commands.{DoesRun, DoesCheck, DoesGen}
 use Rattle.hyd_target_commands.specs.CommandsOnTargets.{DoesFire, DoesClosures}
 use Rattle.hyd_cli.proofs.CommandsOfWords.{same_run, same_check, same_gen_order, same_fire, same_closures}
 use Rattle.hyd_cli.proofs.whole_command.carry_out.Goals as goal
+
+pub returns-in-Some-Run-clause-leaves : goal.returns-in-Some-Run-clause-leaves
+returns-in-Some-Run-clause-leaves g c =
+    let words = c.in-Some-Run.words in
+    let kind : c.in-Some-Run.field-0 ≡ Run words = rw c.in-Some-Run.is at c.in-Some-Run.field-0-is in
+    let found : c.args.found ≡ Some (Run words) = c.in-Some-Run.is ∙ ap Some kind in
+    let before = seen g.D.Desk.files g.D.Desk.written g.D.Desk.printed c.args.desk.now in
+    let now = seen g.D.Desk.files g.D.Desk.written g.D.Desk.printed c.run_words.new.desk in
+    let known : option_map order_seen c.args.found ≡ Some (run (run_seen words)) =
+    ap (λ (f : Option Command). option_map order_seen f) found in
+    subst (λ (o : Option Order). Leaves o c.run_words.result before now) (sym known) c.run_words.ensures.leaves
 
 pub returns-in-Some-Run-clause-runs : goal.returns-in-Some-Run-clause-runs
 returns-in-Some-Run-clause-runs g c order asked =
@@ -20,16 +29,10 @@ returns-in-Some-Run-clause-runs g c order asked =
     let kind : c.in-Some-Run.field-0 ≡ Run words = rw c.in-Some-Run.is at c.in-Some-Run.field-0-is in
     let found : c.args.found ≡ Some (Run words) = c.in-Some-Run.is ∙ ap Some kind in
     let before = seen g.D.Desk.files g.D.Desk.written g.D.Desk.printed c.args.desk.now in
-    let now = seen g.D.Desk.files g.D.Desk.written g.D.Desk.printed c.run_files.new.desk in
-    subst (λ (o : RunOrder). DoesRun o c.run_files.result before now (g.D.Desk.openings c.args.desk.now)
-    (g.D.Desk.openings c.run_files.new.desk)) (sym (same_run words c.args.found order found asked)) (record {
-      refused = c.run_files.ensures.refused;
-      runs = λ text told none. subst (λ (s : Settings). AnswersText text s (run_seen words).files.cert
-          c.run_files.result before now) c.settings_of.ensures (c.run_files.ensures.run text told none);
-      holds = c.run_files.ensures.holds;
-      others = c.run_files.ensures.others;
-      once = c.run_files.ensures.once;
-    })
+    let now = seen g.D.Desk.files g.D.Desk.written g.D.Desk.printed c.run_words.new.desk in
+    subst (λ (o : RunOrder). DoesRun o c.run_words.result before now (g.D.Desk.openings c.args.desk.now)
+    (g.D.Desk.openings c.run_words.new.desk)) (sym (same_run words c.args.found order found asked))
+    c.run_words.ensures.does
 
 pub returns-in-Some-Check-clause-leaves : goal.returns-in-Some-Check-clause-leaves
 returns-in-Some-Check-clause-leaves g c =

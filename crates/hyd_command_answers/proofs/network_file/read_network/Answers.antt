@@ -9,17 +9,17 @@ use Rattle.hyd_command_answers.proofs.network_file.read_network.Goals as goal
 pub returns-in-Ok-Some-clause-no_fault : goal.returns-in-Ok-Some-clause-no_fault
 returns-in-Ok-Some-clause-no_fault g c text told =
     let same : c.in-Ok-Some.text.items ≡ text = rw c.in-Ok-Some.field-0-is at (c.in-Ok-Some.ensures.text text told) in
-    subst (λ (t : List ℕ). IfOk c.network_of.result (λ _. HasNoFault t)) (c.deref.ensures.value ∙ same)
-    c.network_of.ensures.no_fault
+    subst (λ (t : List ℕ). IfOk c.network_told.result (λ _. HasNoFault t)) (c.deref.ensures.value ∙ same)
+    c.network_told.ensures.no_fault
 
 pub returns-in-Ok-Some-clause-project : goal.returns-in-Ok-Some-clause-project
 returns-in-Ok-Some-clause-project g c text told =
     let same : c.in-Ok-Some.text.items ≡ text = rw c.in-Ok-Some.field-0-is at (c.in-Ok-Some.ensures.text text told) in
-    subst (λ (t : List ℕ). IfOk c.network_of.result (IsProject (rows_in (items_of t)))) (c.deref.ensures.value ∙ same)
-    c.network_of.ensures.project
+    subst (λ (t : List ℕ). IfOk c.network_told.result (IsProject (rows_in (items_of t)))) (c.deref.ensures.value ∙ same)
+    c.network_told.ensures.project
 
 pub returns-in-Ok-Some-clause-fault : goal.returns-in-Ok-Some-clause-fault
 returns-in-Ok-Some-clause-fault g c text told =
     let same : c.in-Ok-Some.text.items ≡ text = rw c.in-Ok-Some.field-0-is at (c.in-Ok-Some.ensures.text text told) in
-    subst (λ (t : List ℕ). IfErr c.network_of.result (λ u. IfFault u (λ f. IsFault t f.line f.cause)))
-    (c.deref.ensures.value ∙ same) c.network_of.ensures.fault
+    subst (λ (t : List ℕ). IfErr c.network_told.result (λ u. IfFault u (λ f. IsFault t f.line f.cause)))
+    (c.deref.ensures.value ∙ same) c.network_told.ensures.fault

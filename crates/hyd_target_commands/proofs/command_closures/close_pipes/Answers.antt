@@ -9,7 +9,7 @@ use Rattle.hyd_command_answers.specs.declared.status.Status.TheVariants.{ReadFau
 use Rattle.hyd_target_commands.specs.BracketAnswers.{target_in}
 use Rattle.hyd_target_commands.proofs.StatusesOfTargets.{leaves_since, prints_since, leaves_prints, answer_never_usage}
 use Rattle.hyd_target_commands.proofs.StatusesOfTargets.{answer_opens, closures_are_answer, closures_leave, closures_since}
-use Rattle.hyd_target_commands.proofs.StatusesOfTargets.{refused_since, same_refusal, refusal_never_usage}
+use Rattle.hyd_command_answers.proofs.AnswerLemmas.{refused_since, same_refusal, refusal_never_usage}
 use Rattle.hyd_target_commands.proofs.StatusesOfTargets.{refusal_leaves, refusal_prints, refusal_opens}
 use Rattle.hyd_target_commands.proofs.StatusesOfTargets.{ended_leaves, ended_refused, ended_closes, ended_opens}
 use Rattle.hyd_target_commands.proofs.StatusesOfTargets.{ended_never_usage, untouched_prints}

@@ -1,0 +1,5 @@
+pub mod Scales
+pub mod ScaledRoots
+pub mod ComposedWindows
+pub mod LineAtScale
+pub mod Pressures

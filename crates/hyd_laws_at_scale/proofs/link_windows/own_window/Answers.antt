@@ -1,0 +1,22 @@
+use Rattle.std.proofs.Common.{◌≡◌, to_z, of_z, w64, arith}
+use Rattle.std.proofs.lemmas.Int.{ints}
+use Rattle.hyd_period_network.specs.ExactLaw.{exact_law}
+use Rattle.hyd_laws_at_scale.specs.Scales.{parts_of}
+use Rattle.hyd_laws_at_scale.proofs.ComposedWindows.{answered, unanswered}
+use Rattle.hyd_laws_at_scale.proofs.link_windows.own_window.Goals as goal
+
+pub returns-clause-some : goal.returns-clause-some
+returns-clause-some c =
+    let S = parts_of c.args.scale in
+    let some = c.in_ok-inside.ensures.some in
+    let kept : to_z w64 (of_z w64 c.in_ok-inside.inside) ≡ c.args.d = omega (arith, ints, some.0, some.1) in
+    answered S (exact_law c.args.law.now) c.args.d c.window_at.result
+    (rw kept at c.window_at.ensures)
+
+pub returns-clause-none : goal.returns-clause-none
+returns-clause-none c =
+    let S = parts_of c.args.scale in
+    let some = c.in_ok-inside.ensures.some in
+    let kept : to_z w64 (of_z w64 c.in_ok-inside.inside) ≡ c.args.d = omega (arith, ints, some.0, some.1) in
+    unanswered S (exact_law c.args.law.now) c.args.d c.window_at.result
+    (rw kept at c.window_at.ensures)

@@ -1,0 +1,4 @@
+pub mod PartLemmas
+pub mod StepLemmas
+pub mod RunLemmas
+pub mod WholeRunLemmas

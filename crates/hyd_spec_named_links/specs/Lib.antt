@@ -1,0 +1,2 @@
+pub mod NamedLinks
+pub mod RefusedNames

@@ -1,0 +1,5 @@
+pub mod FirstLines
+pub mod LinesThatPass
+pub mod ReadingsOfLines
+pub mod FaultsInEntries
+pub mod LinesOfEntries

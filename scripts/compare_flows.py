@@ -1,0 +1,225 @@
+#!/usr/bin/env python3
+"""Compares runs with flows of named links, and checks of their certificates, with an independent program.
+
+    scripts/compare_flows.py OTHER [RUNS [CHECKS [SEED]]]
+
+OTHER is the folder of an independent program in Python: its module `fuzz` makes texts and changes certificates, its module
+`cli` answers. Each of RUNS random networks (2,000 where it isn't given), over some hours or of a single instant, is run with
+`--tight`, 100,000 rounds and `--flows` with one to sixteen of its links between junctions; now and then one of the names is no link, a link at
+a reservoir or tank, a repeated one or one of a form that no file has. Status, printed bytes and certificate must be the same,
+but where rounds were spent in one of the two. Each certificate with flows is then checked by both, and up to CHECKS changed ones (2,000): heads of the
+vectors moved, numbers of links changed, repeated or put out of range, parts left out, doubled or put elsewhere, and what
+`fuzz` changes in any certificate. It says how many runs and checks came to each last line.
+
+The program of this repository is built as compare_runs.py builds it; PROGRAM, KEEP and JOBS in the environment are those of
+that script. It stands outside the gate.
+"""
+import collections
+import multiprocessing
+import os
+import random
+import re
+import signal
+import subprocess
+import sys
+import tempfile
+from pathlib import Path
+
+from compare_checks import kind, tell
+from compare_runs import SECONDS, build, give_up, steady
+from differences import printed_by
+
+# Longer runs are left out, and those on which the other program spends more seconds.
+MOST_PERIODS = 12
+OTHER_SECONDS = 20
+SPENT = b' ROUNDS '
+ODD_NAMES = ['nobody', 'a;b', '\u00e9', 'x' * 31]
+WRONG_NAMES = ['', 'x' * 32]
+
+
+# ---------------------------------------------------------------- questions
+
+def network(fuzz, rng):
+    """A text."""
+    maker = steady(fuzz, rng) if rng.randrange(2) else fuzz.Maker(rng, True)
+    return maker.make()
+
+
+def links_of(cli, text):
+    """The names of a text's links between two junctions, and those of the others; none where it has a fault."""
+    try:
+        project = cli.read_project(text, 'f')
+    except Exception:
+        return [], []
+    inner, outer = [], []
+    for name, link in zip(project.link_ids, project.links):
+        name = name.decode('latin-1') if isinstance(name, bytes) else name
+        (inner if max(link.a, link.b) < len(project.junctions) else outer).append(name)
+    return inner, outer
+
+
+def names_for(rng, inner, outer):
+    """The value of `--flows`."""
+    inner = [name for name in inner if ',' not in name]
+    outer = [name for name in outer if ',' not in name]
+    names = rng.sample(inner, min(len(inner), rng.choice([1, 1, 2, 3, 5, 16])))
+    how = rng.randrange(12)
+    if how == 0:
+        names.insert(rng.randrange(len(names) + 1), rng.choice(ODD_NAMES))
+    elif how == 1 and outer:
+        names.insert(rng.randrange(len(names) + 1), rng.choice(outer))
+    elif how == 2 and rng.randrange(3) == 0:
+        names.insert(rng.randrange(len(names) + 1), rng.choice(WRONG_NAMES + names))
+    return ','.join(names) or 'nobody'
+
+
+# ---------------------------------------------------------------- changed certificates
+
+def change_part(rng, cert):
+    """A certificate whose flow parts are others."""
+    lines = cert.split(b'\n')
+    places = {front: [k for k, line in enumerate(lines) if line.startswith(front)]
+              for front in (b'FU ', b'FL ', b'LINK ', b'FLOWS ')}
+    how = rng.randrange(7)
+    heads = places[b'FU '] + places[b'FL ']
+    if how < 2 and heads:
+        k = rng.choice(heads)
+        front, head = lines[k].split()
+        lines[k] = b'%s %d' % (front, int(head) + rng.choice([-1, 1, -10 ** 3, 10 ** 3, 10 ** 9, -10 ** 9]))
+    elif how == 2 and heads:
+        step = rng.choice([1, 10 ** 6, 10 ** 12])
+        for k in heads:
+            front, head = lines[k].split()
+            lines[k] = b'%s %d' % (front, int(head) + (step if front == b'FU' else -step))
+    elif how == 3 and places[b'LINK ']:
+        k = rng.choice(places[b'LINK '])
+        other = rng.choice([lines[j].split()[1] for j in places[b'LINK ']] + [b'0', b'1', b'2', b'7', b'4294967295', b'4294967296'])
+        lines[k] = b'LINK ' + other
+    elif how == 4 and places[b'FLOWS ']:
+        k = rng.choice(places[b'FLOWS '])
+        lines[k] = b'FLOWS %d' % rng.choice([0, 1, 2, 3, 16, 17])
+    else:
+        text = b'\n'.join(lines)
+        parts = re.split(rb'(?=PERIOD |FLOWS |LINK |END )', text)
+        k = rng.randrange(1, len(parts)) if len(parts) > 1 else 0
+        if how == 5:
+            parts[k:k + 1] = rng.choice([[], [parts[k], parts[k]]])
+        else:
+            parts.insert(rng.randrange(1, len(parts) + 1), parts[k])
+        return b''.join(parts)
+    return b'\n'.join(lines)
+
+
+def changed(fuzz, rng, cert):
+    """A certificate with a change."""
+    return change_part(rng, cert) if rng.randrange(3) else fuzz.change_certificate(rng, cert)
+
+
+# ---------------------------------------------------------------- answers
+
+def ended(program, files, words):
+    """This repository's answer: status, printed bytes, and the certificate."""
+    with tempfile.TemporaryDirectory() as folder:
+        for name, text in files.items():
+            (Path(folder) / name).write_bytes(text)
+        try:
+            done = subprocess.run([program] + words, cwd=folder, stdin=subprocess.DEVNULL, capture_output=True,
+                                  timeout=SECONDS)
+        except subprocess.TimeoutExpired:
+            return 'no end in %d seconds' % SECONDS, b'', None
+        cert = Path(folder) / 'n.cert'
+        return done.returncode, printed_by(done), cert.read_bytes() if cert.exists() else None
+
+
+def expected(cli, files, words):
+    """The independent program's answer."""
+    files = dict(files)
+    status, printed = cli.Tool(files, 'f', None, MOST_PERIODS).call(words)
+    return status, printed, files.get('n.cert')
+
+
+def compared(job):
+    """A seed's run and checks: for each its words, its files, and both answers."""
+    program, other, changes, seed = job
+    if other not in sys.path:
+        sys.path.insert(0, other)
+    import cli
+    import fuzz
+    rng = random.Random(seed)
+    signal.signal(signal.SIGVTALRM, give_up)
+    signal.setitimer(signal.ITIMER_VIRTUAL, OTHER_SECONDS)
+    out = []
+    try:
+        text = network(fuzz, rng)
+        while not links_of(cli, text)[0]:
+            text = network(fuzz, rng)
+        words = ['run', 'n.inp', 'n.cert', '--tight', '--sweeps', '100000', '--flows', names_for(rng, *links_of(cli, text))]
+        files = {'n.inp': text}
+        want = expected(cli, files, words)
+        out.append((words, files, want, ended(program, files, words)))
+        if want[2] and want[2].startswith(b'HYDCERT 3'):
+            for cert in [want[2]] + [changed(fuzz, rng, want[2]) for _ in range(changes)]:
+                files, words = {'n.inp': text, 'n.cert': cert}, ['check', 'n.inp', 'n.cert']
+                out.append((words, files, expected(cli, files, words), ended(program, files, words)))
+    except (TimeoutError, cli.TooManyPeriods):
+        pass
+    finally:
+        signal.setitimer(signal.ITIMER_VIRTUAL, 0)
+    return seed, out
+
+
+def is_usage(want, got):
+    """Whether both refuse the words: the usage line of the other program names commands that aren't here yet."""
+    return want[0] == got[0] == 2 and want[2] == got[2] and all(it[1].startswith(b'USAGE ') for it in (want, got))
+
+
+def is_spent(words, want, got):
+    """Whether one of two runs spent its rounds."""
+    return words[0] == 'run' and (SPENT in want[1] or SPENT in got[1])
+
+
+def main():
+    given = sys.argv[1:]
+    if not given:
+        sys.exit(__doc__)
+    runs = int(given[1]) if len(given) > 1 else 2_000
+    checks = int(given[2]) if len(given) > 2 else 2_000
+    first = int(given[3]) if len(given) > 3 else 1
+    each = max(1, -(-checks // max(1, runs // 2)))
+    came, wrong = collections.Counter(), 0
+    with tempfile.TemporaryDirectory() as folder:
+        program = Path(os.environ.get('PROGRAM', Path(folder) / 'program')).resolve()
+        if not program.exists():
+            build(program)
+        jobs = [(str(program), given[0], each, 'flows/%d/%d' % (first, k)) for k in range(runs)]
+        with multiprocessing.Pool(int(os.environ.get('JOBS', '2'))) as pool:
+            for seed, out in pool.imap_unordered(compared, jobs, 4):
+                for number, (words, files, want, got) in enumerate(out):
+                    if want == got or is_usage(want, got) or is_spent(words, want, got):
+                        how = 'rounds spent' if is_spent(words, want, got) and want != got else 'same'
+                    else:
+                        how, wrong = 'DIFFERENT', wrong + 1
+                        tell(seed, files['n.inp'], files.get('n.cert', b''), want, got)
+                        print('words', *words)
+                        if 'KEEP' in os.environ:
+                            keep(os.environ['KEEP'], seed, number, words, files, want, got)
+                    came['%s: %s: %s' % (words[0], kind(want) if want[1] else want[0], how)] += 1
+                if not out:
+                    came['left out'] += 1
+    for what, count in sorted(came.items()):
+        print('%7d %s' % (count, what))
+    print('%d differ' % wrong)
+    return 1 if wrong else 0
+
+
+def keep(folder, seed, number, words, files, want, got):
+    """Keeps the files and both answers."""
+    base = '%s/%s-%d' % (folder, seed.replace('/', '_'), number)
+    Path(folder).mkdir(parents=True, exist_ok=True)
+    Path(base + '.words').write_text(' '.join(words) + '\n')
+    for name, data in {**files, 'want': want[1], 'got': got[1], 'want.cert': want[2] or b'', 'got.cert': got[2] or b''}.items():
+        Path('%s.%s' % (base, name)).write_bytes(data)
+
+
+if __name__ == '__main__':
+    sys.exit(main())
