@@ -30,7 +30,7 @@ from unproved import crates_below, links_to_kit
 
 MAIN = ROOT / 'benchmark' / 'main.txt'
 USES = ['hyd_cert', 'hyd_vector_check', 'hyd_period_network', 'hyd_inp', 'hyd_io', 'hyd_finders', 'hyd_report', 'hyd_sim',
-        'hyd_spec_certificates', 'hyd_spec_reports']
+        'hyd_spec_certificates']
 TIMES = ['reading', 'ordering', 'opening', 'step', 'proposing', 'checking', 'writing']
 FIELDS = ['outcome', 'passes', 'width', 'junctions', 'links'] + TIMES + ['bytes']
 # Head intervals of a narrow record are at most 0.01 m wide, in head ticks.

@@ -1,9 +1,10 @@
 #!/usr/bin/env python3
 """show_answers.py PROGRAM [--said]: shows each cause, part, limit, stop and refusal once.
 
-Each case is a small network and a command; what the program must answer stands with it. Behind the last line that it
-prints stands what it says on standard error. Status 1 where an answer isn't the one that is expected or, with --said, where
-nothing is said of it. Outside the gate, since a program of the gate can't start another one.
+Each case is a small network and a command; what the program must answer stands with it, and of some what its sentence
+has. Behind the last line that it prints stands what it says on standard error. Status 1 where an answer isn't the one
+that is expected or, with --said, where nothing is said of it or something else. Outside the gate, since a program of the
+gate can't start another one.
 """
 
 import pathlib
@@ -31,6 +32,19 @@ P R J 1000 300 0.012
 U R T HEAD C
 [VALVES]
 V R J 300 TCV 10 0
+"""
+
+
+HAZEN_WILLIAMS = """[JUNCTIONS]
+J 0 1000
+[RESERVOIRS]
+R 100
+[PIPES]
+P R J 1000 300 110
+[COORDINATES]
+J 1 1
+[OPTIONS]
+HEADLOSS H-W
 """
 
 
@@ -117,8 +131,21 @@ REFUSALS = [
     ("no source", 8, 0, lambda: "[OPTIONS]\nHEADLOSS C-M\n[JUNCTIONS]\nJ 0\n"),
 ]
 
+# Rows of which the sentence has more than the cause: what it has.
+SAID = [
+    ("a pipe without its length", 3, 0, lambda: added("PIPES", "Q R J 300 0.012 0 OPEN"), "the row has 7 words"),
+    ("a roughness with Hazen-Williams", 3, 0, lambda: HAZEN_WILLIAMS, "Line 10 says HEADLOSS H-W"),
+    ("a roughness without a formula", 3, 0, lambda: HAZEN_WILLIAMS.replace("HEADLOSS H-W\n", ""), "scripts/manning.py"),
+    ("a heading that isn't whole", 1, 0, lambda: BASE + "[COORD]\n", "scripts/prepare.py"),
+    ("a state that isn't whole", 2, 0, lambda: added("STATUS", "U Opened"), "scripts/prepare.py"),
+    ("an option without a value", 1, 0, lambda: added("OPTIONS", "Pattern"), "scripts/prepare.py"),
+    ("hour 0 with AM", 3, 0, lambda: added("TIMES", "START CLOCKTIME 0:00 am"), "scripts/prepare.py"),
+    ("a pump's curve of three points", 6, 4, lambda: replaced("C 1000 30", "C 0 40\nC 1000 30\nC 2000 25"),
+     "scripts/prepare.py"),
+]
+
 STOPS = [
-    ("NOCERT", "stops/a-junction-that-is-cut-off-later.inp", ["--tight"], 6),
+    ("NOCERT", "stops/a-junction-that-is-cut-off-later.inp", ["--tight"], 6, "Links there: "),
     ("TANK", "stops/a-tank-whose-state-is-open.inp", ["--tight"], 6),
     ("RULE", "stops/a-rule-that-is-open.inp", ["--tight"], 6),
     ("CONTROL", "stops/a-control-that-is-open.inp", ["--tight"], 6),
@@ -127,8 +154,18 @@ STOPS = [
     ("DEMAND", "stops/a-demand-that-is-out-of-range-later.inp", ["--tight"], 8),
 ]
 
+# Words that aren't a command, and what is said of them.
+WORDS = [
+    ([], "hyd run NET CERT"), (["--help"], "hyd run NET CERT"), (["help", "run"], "run NET CERT"),
+    (["help", "walk"], "there is no command walk"), (["walk"], "walk is no command"),
+    (["run", "n.inp", "n.cert", "--widht", "1"], "--widht is no option of hyd run"),
+    (["run", "n.inp", "n.cert", "--width", "20,5"], "20,5 can't stand for --width"),
+    (["run", "n.inp"], "missing: CERT"), (["fire", "n.inp", "J"], "missing: P"),
+    (["fire", "n.inp", "J", "-5"], "-5 is read as an option"),
+]
+
 CERTIFICATES = [
-    ("GRAMMAR", "valves/no-demand.inp", "checks/no-end-line.cert"),
+    ("GRAMMAR", "valves/no-demand.inp", "checks/no-end-line.cert", "seems to be cut off"),
     ("COUNT", "valves/no-demand.inp", "checks/the-header-of-two-junctions.cert"),
     ("END", "valves/no-demand.inp", "checks/an-end-line-of-two-records.cert"),
     ("PLACE", "valves/no-demand.inp", "checks/another-number.cert"),
@@ -144,14 +181,14 @@ def ran(program, words):
     return lines[-1], done.returncode, done.stderr.decode("utf-8", "replace").rstrip()
 
 
-def shown(title, found, status, begins):
+def shown(title, found, status, begins, has=""):
     """Shows a case, and tells whether it is as expected."""
     last, got, said = found
-    is_said = said.startswith("hyd: ") or "--said" not in sys.argv[2:]
+    is_said = said.startswith("hyd: ") and has in said or "--said" not in sys.argv[2:]
     good = got == status and begins in last and is_said
     print(f"{title}\n    {last}\n" + "".join(f"    | {line}\n" for line in said.splitlines()))
     if not good:
-        print(f"    NOT AS EXPECTED: status {got} for {status}, {begins!r} in the last line, a sentence\n")
+        print(f"    NOT AS EXPECTED: status {got} for {status}, {begins!r} in the last line, a sentence with {has!r}\n")
     return good
 
 
@@ -160,15 +197,16 @@ def main():
     good = []
     with tempfile.TemporaryDirectory() as folder:
         net, cert = f"{folder}/n.inp", f"{folder}/n.cert"
-        for title, cause, detail, text in REFUSALS:
+        for title, cause, detail, text, *has in REFUSALS + SAID:
             pathlib.Path(net).write_text(text(), encoding="utf-8")
-            good.append(shown(title, ran(program, ["run", net, cert]), 5, f"cause {cause} detail {detail}"))
-        for word, path, words, status in STOPS:
-            good.append(shown(word, ran(program, ["run", str(STORED / path), cert, *words]), status, word))
-        for word, path, certificate in CERTIFICATES:
-            good.append(shown(word, ran(program, ["check", str(STORED / path), str(STORED / certificate)]), 9, word))
-        for words in ([], ["--help"], ["help", "run"], ["walk"]):
-            good.append(shown(" ".join(["hyd", *words]), ran(program, words), 2, "USAGE"))
+            good.append(shown(title, ran(program, ["run", net, cert]), 5, f"cause {cause} detail {detail}", *has))
+        for word, path, words, status, *has in STOPS:
+            good.append(shown(word, ran(program, ["run", str(STORED / path), cert, *words]), status, word, *has))
+        for word, path, certificate, *has in CERTIFICATES:
+            words = ["check", str(STORED / path), str(STORED / certificate)]
+            good.append(shown(word, ran(program, words), 9, word, *has))
+        for words, has in WORDS:
+            good.append(shown(" ".join(["hyd", *words]), ran(program, words), 2, "USAGE", has))
     print(f"{sum(good)} of {len(good)} as expected")
     return 0 if all(good) else 1
 

@@ -1,7 +1,7 @@
 -- What the answer of one period says of the run.
 -- Source: this program's.
 use Rattle.std.specs.Prelude.{◌≡◌}
-use Rattle.hyd_spec_reports.specs.declared.StopCause.{StopCause}
+use Rattle.hyd_spec_certificates.specs.declared.StopCause.{StopCause}
 use Rattle.hyd_sim.specs.Steps.{IsPeriod, StepGives}
 use Rattle.hyd_sim.specs.RunView.{SimView}
 use Rattle.hyd_sim.specs.declared.steps.Step.TheVariants as steps

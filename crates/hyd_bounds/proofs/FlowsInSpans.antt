@@ -19,9 +19,9 @@ use Rattle.hyd_spec_certificates.specs.declared.Side.TheVariants.{Upper, Lower}
 use Rattle.hyd_spec_certificates.specs.Interval.{Interval}
 use Rattle.hyd_spec_certificates.specs.PeriodNetwork.{Grid, GridLink, GridJunction, all_heads}
 use Rattle.hyd_spec_certificates.specs.FlowIntervals.{difference, flow_box, out_box, inflow_box}
-use Rattle.hyd_spec_reports.specs.Report.{status_of}
-use Rattle.hyd_spec_reports.specs.declared.StatusWord.{StatusWord}
-use Rattle.hyd_spec_reports.specs.Claims.{StatusHolds}
+use Rattle.hyd_spec_certificates.specs.StatusesOfLinks.{status_of}
+use Rattle.hyd_spec_certificates.specs.declared.StatusWord.{StatusWord}
+use Rattle.hyd_spec_certificates.specs.StatusesOfLinks.{StatusHolds}
 use Rattle.hyd_theorems_on_definitions.specs.LyingInIntervals.{LiesIn, LieBetween}
 use Rattle.hyd_theorems_on_definitions.proofs.FlowsInBoxes.{heads_between, flow_lies, outflow_lies}
 use Rattle.hyd_theorems_on_definitions.proofs.ComparisonPrinciple.{one_each}

@@ -12,9 +12,9 @@ use Rattle.hyd_spec.specs.ProgramTypes.{Linear, LinkState, Open, Closed, Speed, 
 use Rattle.hyd_spec.specs.Law.{Law}
 use Rattle.hyd_spec.specs.LinkLaw.{own_law}
 use Rattle.hyd_spec_certificates.specs.Interval.{Interval}
-use Rattle.hyd_spec_reports.specs.declared.StatusWord.TheVariants.{Open as WordOpen, Closed as WordClosed}
-use Rattle.hyd_spec_reports.specs.declared.StatusWord.TheVariants.{Unsure as WordUnsure}
-use Rattle.hyd_spec_reports.specs.Report.{by_drive, by_knots, status_of}
+use Rattle.hyd_spec_certificates.specs.declared.StatusWord.TheVariants.{Open as WordOpen, Closed as WordClosed}
+use Rattle.hyd_spec_certificates.specs.declared.StatusWord.TheVariants.{Unsure as WordUnsure}
+use Rattle.hyd_spec_certificates.specs.StatusesOfLinks.{by_drive, by_knots, status_of}
 use Rattle.hyd_num.proofs.Integers.{times_rises}
 use Rattle.hyd_lemmas.proofs.Integers.{ceiling_high, ceiling_least}
 use Rattle.hyd_lemmas.proofs.BooleanTests.{lt-from, lt-not, le-from, le-yes, lt-no, lt-yes, le-not, le-no}

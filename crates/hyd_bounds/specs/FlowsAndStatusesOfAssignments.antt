@@ -17,8 +17,8 @@ use Rattle.hyd_spec_certificates.specs.declared.Side.TheVariants.{Upper, Lower}
 use Rattle.hyd_spec_certificates.specs.Interval.{Interval}
 use Rattle.hyd_spec_certificates.specs.PeriodNetwork.{Grid, GridLink}
 use Rattle.hyd_spec_certificates.specs.Certificate.{IsCertificate}
-use Rattle.hyd_spec_reports.specs.declared.StatusWord.{StatusWord}
-use Rattle.hyd_spec_reports.specs.Claims.{StatusHolds}
+use Rattle.hyd_spec_certificates.specs.declared.StatusWord.{StatusWord}
+use Rattle.hyd_spec_certificates.specs.StatusesOfLinks.{StatusHolds}
 use Rattle.hyd_theorems_on_definitions.specs.LyingInIntervals.{IsCompared, LiesIn}
 
 -- between a LOWER and an UPPER certificate with all tanks alike the flow of a link lies in a span

@@ -6,10 +6,10 @@ use Rattle.hyd_spec.specs.ProgramTypes.{LinkState, Open, Closed, Speed, Throttle
 use Rattle.hyd_spec.specs.Law.{Law, ForwardOnly, Lifted, Capped, Held, Bent}
 use Rattle.hyd_spec_certificates.specs.Interval.{Interval}
 use Rattle.hyd_spec_certificates.specs.EnclosingFunctions.{low, high}
-use Rattle.hyd_spec_reports.specs.declared.StatusWord.{StatusWord}
-use Rattle.hyd_spec_reports.specs.declared.StatusWord.TheVariants.{Open as WordOpen, Closed as WordClosed}
-use Rattle.hyd_spec_reports.specs.declared.StatusWord.TheVariants.{Active as WordActive, Unsure as WordUnsure}
-use Rattle.hyd_spec_reports.specs.Report.{by_drive, by_setting, by_knots}
+use Rattle.hyd_spec_certificates.specs.declared.StatusWord.{StatusWord}
+use Rattle.hyd_spec_certificates.specs.declared.StatusWord.TheVariants.{Open as WordOpen, Closed as WordClosed}
+use Rattle.hyd_spec_certificates.specs.declared.StatusWord.TheVariants.{Active as WordActive, Unsure as WordUnsure}
+use Rattle.hyd_spec_certificates.specs.StatusesOfLinks.{by_drive, by_setting, by_knots}
 
 -- an open link that passes forward only has the word of its drive
 abbrev pub open_word : Law → Interval → StatusWord

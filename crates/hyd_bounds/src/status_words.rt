@@ -13,7 +13,7 @@ ghost use Rattle.hyd_spec_certificates.specs.declared.Problem.TheVariants.{Main}
 ghost use Rattle.hyd_spec_certificates.specs.declared.Side.TheVariants.{Upper, Lower};
 ghost use Rattle.hyd_spec_certificates.specs.PeriodNetwork.{GridLink, all_heads};
 ghost use Rattle.hyd_spec_certificates.specs.FlowIntervals.{difference};
-ghost use Rattle.hyd_spec_reports.specs.Report.{by_drive, by_setting, status_of};
+ghost use Rattle.hyd_spec_certificates.specs.StatusesOfLinks.{by_drive, by_setting, status_of};
 ghost use Rattle.hyd_period_network.specs.ExactLaw.{exact_law, one_way_law};
 ghost use Rattle.hyd_period_network.specs.NetAsPeriodNetwork.{grid_of, states_of, own_laws};
 ghost use Rattle.hyd_law.specs.KnotsOfStraightLines.{IsCurve};
@@ -28,8 +28,7 @@ use crate::heads::node_head;
 use hyd_law::{Bent, Held, Law, Lifted, LinkLaw, OneWay, Quad};
 use hyd_net::LinkState;
 use hyd_period_network::Net;
-use hyd_spec_certificates::{Problem, Side};
-use hyd_spec_reports::StatusWord;
+use hyd_spec_certificates::{Problem, Side, StatusWord};
 use hyd_vector_check::difference;
 
 // The word of a link that passes where its driving difference is above 0.

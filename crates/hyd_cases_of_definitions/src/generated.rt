@@ -3,7 +3,7 @@
 
 ghost use Rattle.std.specs.Prelude.{◌≡◌, [], ◌∷◌, map, codes};
 ghost use Rattle.std.specs.List.{flat_map};
-ghost use Rattle.hyd_spec_reports.specs.CertificateText.{line};
+ghost use Rattle.hyd_spec_certificates.specs.CertificateText.{line};
 ghost use Rattle.hyd_spec_generated.specs.Sequence.{drawn};
 ghost use Rattle.hyd_spec_generated.specs.GeneratedText.{demand, pipes_from, generated_text};
 

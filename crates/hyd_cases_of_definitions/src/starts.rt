@@ -11,8 +11,8 @@ ghost use Rattle.hyd_spec.specs.PumpPatternsAndSimpleControls.{controlled};
 ghost use Rattle.hyd_spec.specs.declared.Source.TheVariants.{Control as ByControl};
 ghost use Rattle.hyd_spec_certificates.specs.declared.Verdict.TheVariants.{Yes, No, Unknown};
 ghost use Rattle.hyd_spec_certificates.specs.Decided.{control_truth, acts_on};
-ghost use Rattle.hyd_spec_reports.specs.Report.{is_report_time};
-ghost use Rattle.hyd_spec_reports.specs.ChangesAtStart.{control_changes};
+ghost use Rattle.hyd_spec_certificates.specs.PrintedIntervals.{is_report_time};
+ghost use Rattle.hyd_spec_certificates.specs.ChangesAtStart.{control_changes};
 ghost use Rattle.hyd_num.specs.declared.spans.Span.{Span};
 
 /// A pump at speed 0 or below is closed.

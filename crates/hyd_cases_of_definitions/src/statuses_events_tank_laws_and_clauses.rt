@@ -10,14 +10,18 @@ ghost use Rattle.hyd_spec.specs.ProgramTypes.{NotLess, FourThirds, Given, CheckP
 ghost use Rattle.hyd_spec.specs.ProgramTypes.{Closed};
 ghost use Rattle.hyd_spec.specs.ProgramTypes.{Speed, Throttle, Limit, Head, Pressure, Level, Flow, Setting, AtLevel};
 ghost use Rattle.hyd_spec.specs.declared.TankState.TheVariants.{Empty, Between, Full};
-ghost use Rattle.hyd_spec_reports.specs.declared.StatusWord.TheVariants.{Open as WordOpen, Closed as WordClosed};
-ghost use Rattle.hyd_spec_reports.specs.declared.StatusWord.TheVariants.{Active as WordActive, Unsure as WordUnsure};
+ghost use Rattle.hyd_spec_certificates.specs.declared.StatusWord.TheVariants.{Open as WordOpen, Closed as WordClosed};
+ghost use Rattle.hyd_spec_certificates.specs.declared.StatusWord.TheVariants.{Active as WordActive};
+ghost use Rattle.hyd_spec_certificates.specs.declared.StatusWord.TheVariants.{Unsure as WordUnsure};
 ghost use Rattle.hyd_spec_certificates.specs.EnclosingFunctions.{low, high};
 ghost use Rattle.hyd_spec.specs.LinkLaw.{law_of};
 ghost use Rattle.hyd_spec.specs.Rules.{measured, holds_on};
-ghost use Rattle.hyd_spec_reports.specs.Report.{by_drive, by_setting, status_of, tank_event, control_event, event_line};
-ghost use Rattle.hyd_spec_reports.specs.declared.EventKind.TheVariants.{Full as BecomesFull, Empty as BecomesEmpty};
-ghost use Rattle.hyd_spec_reports.specs.declared.EventKind.TheVariants.{Control as ReachesLevel};
+ghost use Rattle.hyd_spec_certificates.specs.StatusesOfLinks.{by_drive, by_setting, status_of};
+ghost use Rattle.hyd_spec_certificates.specs.EndsOfPeriods.{tank_event, control_event};
+ghost use Rattle.hyd_spec_reports.specs.Report.{event_line};
+ghost use Rattle.hyd_spec_certificates.specs.declared.EventKind.TheVariants.{Full as BecomesFull};
+ghost use Rattle.hyd_spec_certificates.specs.declared.EventKind.TheVariants.{Empty as BecomesEmpty};
+ghost use Rattle.hyd_spec_certificates.specs.declared.EventKind.TheVariants.{Control as ReachesLevel};
 ghost use Rattle.hyd_spec_reports.specs.ReportLine.{FilledLine, EmptiedLine, ReachedLine};
 ghost use Rattle.hyd_cases_of_definitions.specs.LinksBetweenTanks.{HasTanks};
 

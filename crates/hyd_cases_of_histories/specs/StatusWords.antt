@@ -3,9 +3,9 @@ use Rattle.std.specs.Prelude.{◌≡◌, ◌⊎◌, ℕ, ℤ, pos, Bool, List, [
 use Rattle.std.proofs.Common.{lit≤}
 use Rattle.hyd_net.specs.ListView.{ListView, listed}
 use Rattle.hyd_spec.specs.ProgramTypes.{Decimal, HeadPoint, LinkKind, LinkState}
-use Rattle.hyd_spec_reports.specs.declared.StatusWord.{StatusWord}
-use Rattle.hyd_spec_reports.specs.declared.StatusWord.TheVariants.{Unsure as WordUnsure}
-use Rattle.hyd_spec_reports.specs.Claims.{StatusHolds}
+use Rattle.hyd_spec_certificates.specs.declared.StatusWord.{StatusWord}
+use Rattle.hyd_spec_certificates.specs.declared.StatusWord.TheVariants.{Unsure as WordUnsure}
+use Rattle.hyd_spec_certificates.specs.StatusesOfLinks.{StatusHolds}
 
 -- The word holds of a link in its state, at scale S and head difference x, and beside UNSURE, which always does, no
 -- other.

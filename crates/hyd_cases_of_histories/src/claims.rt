@@ -3,8 +3,8 @@
 
 ghost use Rattle.std.specs.Prelude.{pos};
 ghost use Rattle.hyd_spec_certificates.specs.Interval.{exactly};
-ghost use Rattle.hyd_spec_reports.specs.declared.StatusWord.TheVariants.{Open as WordOpen, Closed as WordClosed};
-ghost use Rattle.hyd_spec_reports.specs.declared.StatusWord.TheVariants.{Active as WordActive};
+ghost use Rattle.hyd_spec_certificates.specs.declared.StatusWord.TheVariants.{Open as WordOpen, Closed as WordClosed};
+ghost use Rattle.hyd_spec_certificates.specs.declared.StatusWord.TheVariants.{Active as WordActive};
 ghost use Rattle.hyd_spec_reports.specs.Claims.{LinkLies};
 ghost use Rattle.hyd_cases_of_histories.specs.OneLink.{network_of, period_of};
 ghost use Rattle.hyd_cases_of_histories.specs.Spurs.{idle_spur, pump_spur, idle_pump, setting_spur, half_spur};

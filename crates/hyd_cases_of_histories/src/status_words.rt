@@ -7,8 +7,8 @@ ghost use Rattle.hyd_net.specs.ListView.{ListView};
 ghost use Rattle.hyd_spec.specs.ProgramTypes.{Capacity, HeadPoint, OpenValve, PipeLink, CheckPipe, PumpLink, CurvePump};
 ghost use Rattle.hyd_spec.specs.ProgramTypes.{Tcv};
 ghost use Rattle.hyd_spec.specs.ProgramTypes.{Fcv, Gpv, Linear, FourThirds, Open, Closed, Speed, Throttle, Limit};
-ghost use Rattle.hyd_spec_reports.specs.declared.StatusWord.TheVariants.{Open as WordOpen, Closed as WordClosed};
-ghost use Rattle.hyd_spec_reports.specs.declared.StatusWord.TheVariants.{Active as WordActive};
+ghost use Rattle.hyd_spec_certificates.specs.declared.StatusWord.TheVariants.{Open as WordOpen, Closed as WordClosed};
+ghost use Rattle.hyd_spec_certificates.specs.declared.StatusWord.TheVariants.{Active as WordActive};
 ghost use Rattle.hyd_cases_of_histories.specs.StatusWords.{HoldsAlone, thirty, falling};
 
 /// An open check valve pipe is CLOSED where the head difference is 0, OPEN one part of a head tick above it.

@@ -10,8 +10,8 @@ use Rattle.hyd_spec_certificates.specs.declared.Side.TheVariants.{Upper, Lower}
 use Rattle.hyd_spec.specs.ProgramTypes.{Project, Tank, Control, Junction, LinkState, Cmd}
 use Rattle.hyd_spec.specs.declared.TankState.{TankState}
 use Rattle.hyd_spec.specs.declared.TankState.TheVariants.{Between, Full}
-use Rattle.hyd_spec_reports.specs.declared.StatusWord.{StatusWord}
-use Rattle.hyd_spec_reports.specs.declared.StatusWord.TheVariants.{Active as WordActive}
+use Rattle.hyd_spec_certificates.specs.declared.StatusWord.{StatusWord}
+use Rattle.hyd_spec_certificates.specs.declared.StatusWord.TheVariants.{Active as WordActive}
 use Rattle.hyd_spec.specs.Lists.{map_from, present}
 use Rattle.hyd_spec.specs.Rules.{change_of, rule_changes, state_of_link}
 use Rattle.hyd_spec.specs.DemandsHeadsAndPumpLifts.{demand_of}
@@ -32,10 +32,11 @@ use Rattle.hyd_spec_certificates.specs.Decided.{EndsBy, WithoutRules, by_clock}
 use Rattle.hyd_spec_certificates.specs.Valid.{IsProblem, IsGridAt, AreCertificates, demand_limit, LeavesLinks}
 use Rattle.hyd_spec_certificates.specs.Valid.{levels_next, volumes_next, AreStates, IsValid, continues, finishes}
 use Rattle.hyd_spec_certificates.specs.Valid.{by_clock as left_by_clock}
-use Rattle.hyd_spec_reports.specs.CertificateText.{IsVector, IsRow}
+use Rattle.hyd_spec_certificates.specs.CertificateText.{IsVector, IsRow}
 use Rattle.hyd_spec_reports.specs.ReportLine.{ReservoirLine, TankLine, LinkLine, FilledLine}
-use Rattle.hyd_spec_reports.specs.Report.{IsReservoirLine, IsTankLine, IsLinkLine, status_of, AreStateLines, at_end}
-use Rattle.hyd_spec_reports.specs.Report.{by_clock as ended_by_clock}
+use Rattle.hyd_spec_reports.specs.Report.{IsReservoirLine, IsTankLine, IsLinkLine, AreStateLines}
+use Rattle.hyd_spec_certificates.specs.StatusesOfLinks.{status_of}
+use Rattle.hyd_spec_certificates.specs.EndsOfPeriods.{at_end, by_clock as ended_by_clock}
 use Rattle.hyd_spec_reports.specs.PromisesOfRunsAndChecks.{IsFound, IsRun, none as nothing_more, more}
 use Rattle.hyd_cases_of_runs.specs.Basin.{Basin, basin_network, feed, basin_grid, basin_row, state_lines, found_of}
 use Rattle.hyd_cases_of_runs.specs.Basin.{slow}

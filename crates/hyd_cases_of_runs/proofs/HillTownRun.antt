@@ -7,7 +7,7 @@ use Rattle.hyd_spec.specs.ProgramTypes.{Junction, Link, LinkState}
 use Rattle.hyd_spec.specs.declared.Change.{Change}
 use Rattle.hyd_spec.specs.DemandsHeadsAndPumpLifts.{demand_of}
 use Rattle.hyd_spec.specs.Rules.{state_of_link}
-use Rattle.hyd_spec_reports.specs.declared.StatusWord.{StatusWord}
+use Rattle.hyd_spec_certificates.specs.declared.StatusWord.{StatusWord}
 use Rattle.hyd_spec_certificates.specs.EnclosingFunctions.{root_up}
 use Rattle.hyd_spec_certificates.specs.Interval.{Interval, exactly, shifted}
 use Rattle.hyd_spec_certificates.specs.PeriodNetwork.{Grid, GridLink, GridJunction}
@@ -20,14 +20,16 @@ use Rattle.hyd_spec_certificates.specs.Decided.{flow_boxes, heads_below, heads_a
 use Rattle.hyd_spec_certificates.specs.Valid.{IsValid, DemandsAreInRange, demand_limit}
 use Rattle.hyd_spec_certificates.specs.Valid.{LeavesLinks, levels_next, volumes_next, ControlsAreDecided}
 use Rattle.hyd_spec_certificates.specs.Valid.{continues, finishes, by_rules as left_by_rules, by_clock as left_by_clock}
-use Rattle.hyd_spec_reports.specs.CertificateText.{IsVector, IsRow}
+use Rattle.hyd_spec_certificates.specs.CertificateText.{IsVector, IsRow}
 use Rattle.hyd_spec_reports.specs.ReportLine.{JunctionLine, ReservoirLine, TankLine, LinkLine}
 use Rattle.hyd_spec_reports.specs.ReportLine.{FilledLine, ReachedLine}
-use Rattle.hyd_spec_reports.specs.Report.{IsJunctionLine, IsReservoirLine, IsTankLine, IsLinkLine, status_of}
-use Rattle.hyd_spec_reports.specs.Report.{AreStateLines, IsReport, events_of, EndBrings, at_end, by_rules, by_clock}
+use Rattle.hyd_spec_reports.specs.Report.{IsJunctionLine, IsReservoirLine, IsTankLine, IsLinkLine}
+use Rattle.hyd_spec_certificates.specs.StatusesOfLinks.{status_of}
+use Rattle.hyd_spec_reports.specs.Report.{AreStateLines, IsReport}
+use Rattle.hyd_spec_certificates.specs.EndsOfPeriods.{events_of, EndBrings, at_end, by_rules, by_clock}
 use Rattle.hyd_spec_reports.specs.PromisesOfRunsAndChecks.{IsFound, IsRun, none as nothing_more, more}
-use Rattle.hyd_spec_reports.specs.declared.Event.{Event}
-use Rattle.hyd_spec_reports.specs.declared.EventKind.TheVariants.{Full as BecomesFull, Control as ReachesLevel}
+use Rattle.hyd_spec_certificates.specs.declared.Event.{Event}
+use Rattle.hyd_spec_certificates.specs.declared.EventKind.TheVariants.{Full as BecomesFull, Control as ReachesLevel}
 use Rattle.hyd_spec.specs.declared.TankState.{TankState}
 use Rattle.hyd_theorems_on_definitions.proofs.Roots.{root_down-quick, quick_root}
 use Rattle.hyd_cases_of_runs.specs.HillTown.{hill_town, hill, pool, standing_0, standing_1, standing_2}

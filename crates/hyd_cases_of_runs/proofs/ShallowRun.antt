@@ -10,8 +10,9 @@ use Rattle.hyd_spec_certificates.specs.Certificate.{IsCertificate, Passes}
 use Rattle.hyd_spec_certificates.specs.Decided.{Watch, SomeMayReach, SomeMustReach, IsClockLength, EndsBy, WithoutRules}
 use Rattle.hyd_spec_certificates.specs.Decided.{by_clock}
 use Rattle.hyd_spec_certificates.specs.Valid.{by_clock as left_by_clock, IsValid}
-use Rattle.hyd_spec_reports.specs.Stops.{HasNoCertificate}
-use Rattle.hyd_spec_reports.specs.Report.{AreStateLines, by_clock as ended_by_clock, IsReport}
+use Rattle.hyd_spec_certificates.specs.Stops.{HasNoCertificate}
+use Rattle.hyd_spec_reports.specs.Report.{AreStateLines, IsReport}
+use Rattle.hyd_spec_certificates.specs.EndsOfPeriods.{by_clock as ended_by_clock}
 use Rattle.hyd_spec_reports.specs.PromisesOfRunsAndChecks.{IsRun, none, more}
 use Rattle.hyd_cases_of_runs.specs.Village.{village_with}
 use Rattle.hyd_cases_of_runs.specs.VillagePeriods.{village_grid, grid_farm}

@@ -13,7 +13,7 @@ use Rattle.hyd_spec_certificates.specs.NetOutflow.{net_low, net_high, margin}
 use Rattle.hyd_spec_certificates.specs.Certificate.{IsInBox, Passes, IsCertificate}
 use Rattle.hyd_spec_certificates.specs.RecordAndStanding.{Record, Vectors, vector_of}
 use Rattle.hyd_spec_certificates.specs.Valid.{IsProblem, AreCertificates}
-use Rattle.hyd_spec_reports.specs.TurnsOfProblems.{EarlierHaveCertificates}
+use Rattle.hyd_spec_certificates.specs.TurnsOfProblems.{EarlierHaveCertificates}
 use Rattle.hyd_cases_of_runs.specs.Village.{Choice, village_with}
 use Rattle.hyd_lemmas.proofs.BooleanTests.{le-yes, le-from, both-first, both-second, all_pass, each_passes}
 

@@ -13,9 +13,11 @@ use Rattle.hyd_spec_certificates.specs.Decided.{End, EndsBy, by_rules, rule_is_o
 use Rattle.hyd_spec_certificates.specs.Decided.{RuleIsOpen, EventIsOpen, ByRules, WithoutRules}
 use Rattle.hyd_spec_certificates.specs.Valid.{DemandsAreInRange, IsGridAt, LeavesLinks, by_rules as left_by_rules}
 use Rattle.hyd_spec_certificates.specs.Valid.{by_clock as left_by_clock}
-use Rattle.hyd_spec_reports.specs.declared.CertRefused.TheVariants.{Place, Demand, Fails, Open as MatterOpen, Length}
-use Rattle.hyd_spec_reports.specs.declared.CertRefused.TheVariants.{After}
-use Rattle.hyd_spec_reports.specs.RefusedRecords.{IsRefused, HasItsGrid, LeavesOpen, rule, event, tank, control, at_end}
+use Rattle.hyd_spec_certificates.specs.declared.CertRefused.TheVariants.{Place, Demand, Fails, Open as MatterOpen}
+use Rattle.hyd_spec_certificates.specs.declared.CertRefused.TheVariants.{Length}
+use Rattle.hyd_spec_certificates.specs.declared.CertRefused.TheVariants.{After}
+use Rattle.hyd_spec_certificates.specs.RefusedRecords.{IsRefused, HasItsGrid, LeavesOpen, rule, event, tank, control}
+use Rattle.hyd_spec_certificates.specs.RefusedRecords.{at_end}
 use Rattle.hyd_cases_of_runs.specs.Village.{Choice, usual, village, village_with, mill}
 use Rattle.hyd_cases_of_runs.specs.VillageRun.{standing_0, standing_1, standing_4, left, grid_0, grid_4, row_0, row_1}
 use Rattle.hyd_cases_of_runs.specs.VillageRun.{row_4}

@@ -6,7 +6,7 @@ use Rattle.std.proofs.lemmas.Int.{ints}
 use Rattle.hyd_num.specs.PrintedDecimals.{head_quantity, flow_quantity}
 use Rattle.hyd_spec.specs.ProgramTypes.{Cmd, Link}
 use Rattle.hyd_spec.specs.declared.TankState.{TankState}
-use Rattle.hyd_spec_reports.specs.declared.StatusWord.{StatusWord}
+use Rattle.hyd_spec_certificates.specs.declared.StatusWord.{StatusWord}
 use Rattle.hyd_spec_certificates.specs.Interval.{Interval, exactly, shifted}
 use Rattle.hyd_spec.specs.Assignment.{head_at}
 use Rattle.hyd_spec.specs.Rules.{state_of_link}
@@ -16,8 +16,11 @@ use Rattle.hyd_spec_certificates.specs.RecordAndStanding.{Record, Standing}
 use Rattle.hyd_spec_certificates.specs.Decided.{heads_below, heads_above, flow_boxes, level_of_tank, inflow_of_tank}
 use Rattle.hyd_spec_certificates.specs.Decided.{links_at}
 use Rattle.hyd_spec_reports.specs.ReportLine.{JunctionLine, ReservoirLine, TankLine, LinkLine}
-use Rattle.hyd_spec_reports.specs.Report.{Prints, IsJunctionLine, IsReservoirLine, IsTankLine, IsLinkLine, status_of}
-use Rattle.hyd_spec_reports.specs.Report.{AreStateLines, at_end, by_rules, by_clock, IsReport}
+use Rattle.hyd_spec_certificates.specs.PrintedIntervals.{Prints}
+use Rattle.hyd_spec_reports.specs.Report.{IsJunctionLine, IsReservoirLine, IsTankLine, IsLinkLine}
+use Rattle.hyd_spec_certificates.specs.StatusesOfLinks.{status_of}
+use Rattle.hyd_spec_reports.specs.Report.{AreStateLines, IsReport}
+use Rattle.hyd_spec_certificates.specs.EndsOfPeriods.{at_end, by_rules, by_clock}
 use Rattle.hyd_cases_of_runs.specs.Village.{Choice, village_with, village, usual}
 use Rattle.hyd_cases_of_runs.specs.VillageRun.{standing_0, standing_1, standing_2, standing_3, standing_4, grid_0}
 use Rattle.hyd_cases_of_runs.specs.VillageRun.{grid_1}

@@ -11,8 +11,8 @@ use Rattle.hyd_spec_certificates.specs.Decided.{IsTruthBetween, readings_below, 
 use Rattle.hyd_spec_certificates.specs.Decided.{RulesMatter, IsFirstMatter, IsOpenRule, EndsBy, WithoutRules}
 use Rattle.hyd_spec_certificates.specs.Decided.{EventIsOpen, rule_is_open, by_clock, event_is_open}
 use Rattle.hyd_spec_certificates.specs.Valid.{IsGridAt, levels_next, by_clock as left_by_clock}
-use Rattle.hyd_spec_reports.specs.Stops.{IsFirstDemand, HasNoCertificate, SpendsRounds, IsTightRow, LeavesRuleOpen}
-use Rattle.hyd_spec_reports.specs.Stops.{LeavesEventOpen, LeavesTankOpen, LeavesControlOpen, EndsAtLevels}
+use Rattle.hyd_spec_certificates.specs.Stops.{IsFirstDemand, HasNoCertificate, SpendsRounds, IsTightRow, LeavesRuleOpen}
+use Rattle.hyd_spec_certificates.specs.Stops.{LeavesEventOpen, LeavesTankOpen, LeavesControlOpen, EndsAtLevels}
 use Rattle.hyd_spec_certificates.specs.declared.Truth.{Truth}
 use Rattle.hyd_spec_certificates.specs.declared.Truth.TheVariants.{True, False, Open}
 use Rattle.hyd_cases_of_runs.specs.Village.{Choice, usual, village, village_with, mill, farm, tower, refill_rule}

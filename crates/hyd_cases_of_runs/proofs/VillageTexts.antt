@@ -2,7 +2,7 @@
 use Rattle.std.proofs.Common.{◌≡◌, ◌<◌, ◌^◌, ℤ, true, List, [], ◌∷◌, All, length, refl, arith}
 use Rattle.std.proofs.lemmas.List.Elements.{All-nil, All-cons}
 use Rattle.hyd_spec_certificates.specs.RecordAndStanding.{Record, Vectors}
-use Rattle.hyd_spec_reports.specs.CertificateText.{IsVector, IsRow}
+use Rattle.hyd_spec_certificates.specs.CertificateText.{IsVector, IsRow}
 use Rattle.hyd_cases_of_runs.specs.VillageRun.{row_0, row_1, row_2, row_3, row_4}
 use Rattle.hyd_cases_of_runs.proofs.VillageCertificates.{all_inside, all_in_box}
 

@@ -7,7 +7,7 @@ use Rattle.hyd_net.specs.ListView.{ListView, listed}
 use Rattle.hyd_spec.specs.ProgramTypes.{Project, Tank, VolumePoint, Link, Fcv, Linear, LinkState, Limit, Cmd}
 use Rattle.hyd_spec.specs.declared.TankState.{TankState}
 use Rattle.hyd_spec.specs.declared.TankState.TheVariants.{Between, Full}
-use Rattle.hyd_spec_reports.specs.declared.StatusWord.TheVariants.{Active as WordActive}
+use Rattle.hyd_spec_certificates.specs.declared.StatusWord.TheVariants.{Active as WordActive}
 use Rattle.hyd_spec.specs.Lists.{joined}
 use Rattle.hyd_spec.specs.Law.{LinearLaw, Capped}
 use Rattle.hyd_spec.specs.PeriodLength.{Period}

@@ -13,7 +13,7 @@ use Rattle.hyd_spec.specs.ProgramTypes.{AtLevel}
 use Rattle.hyd_spec.specs.ProgramTypes.{Rule, And, Level, More, Amount, Cmd}
 use Rattle.hyd_spec.specs.declared.TankState.{TankState}
 use Rattle.hyd_spec.specs.declared.TankState.TheVariants.{Between, Full}
-use Rattle.hyd_spec_reports.specs.declared.StatusWord.TheVariants.{Open as WordOpen, Closed as WordClosed}
+use Rattle.hyd_spec_certificates.specs.declared.StatusWord.TheVariants.{Open as WordOpen, Closed as WordClosed}
 use Rattle.hyd_spec.specs.Lists.{joined}
 use Rattle.hyd_spec.specs.DemandsHeadsAndPumpLifts.{lift_of, minimum_pressure, required_pressure}
 use Rattle.hyd_spec.specs.Law.{Law, Shut, QuadraticLaw, Lifted, ForwardOnly}

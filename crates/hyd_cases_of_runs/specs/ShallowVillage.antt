@@ -4,7 +4,7 @@ use Rattle.std.specs.Prelude.{ℕ, pos, false, None, List, [], ◌∷◌, codes}
 use Rattle.std.proofs.Common.{lit≤}
 use Rattle.hyd_spec.specs.ProgramTypes.{Limit}
 use Rattle.hyd_spec.specs.declared.TankState.TheVariants.{Empty, Between, Full}
-use Rattle.hyd_spec_reports.specs.declared.StatusWord.TheVariants.{Active as WordActive}
+use Rattle.hyd_spec_certificates.specs.declared.StatusWord.TheVariants.{Active as WordActive}
 use Rattle.hyd_spec.specs.Lists.{joined}
 use Rattle.hyd_spec.specs.Law.{LinearLaw, ForwardOnly, ReverseOnly, Capped}
 use Rattle.hyd_spec.specs.PeriodLength.{Period}

@@ -1,8 +1,8 @@
 -- Lines of the town's report.
 use Rattle.std.specs.Prelude.{pos, neg_ℤ, List, [], ◌∷◌}
 use Rattle.hyd_spec.specs.declared.TankState.TheVariants.{Between}
-use Rattle.hyd_spec_reports.specs.declared.StatusWord.TheVariants.{Open as WordOpen, Closed as WordClosed}
-use Rattle.hyd_spec_reports.specs.declared.StatusWord.TheVariants.{Active as WordActive}
+use Rattle.hyd_spec_certificates.specs.declared.StatusWord.TheVariants.{Open as WordOpen, Closed as WordClosed}
+use Rattle.hyd_spec_certificates.specs.declared.StatusWord.TheVariants.{Active as WordActive}
 use Rattle.hyd_spec.specs.Law.{Shut}
 use Rattle.hyd_spec_certificates.specs.PeriodNetwork.{GridLink}
 use Rattle.hyd_spec_reports.specs.ReportLine.{ReportLine, TimeLine, JunctionLine, ReservoirLine, TankLine, LinkLine}

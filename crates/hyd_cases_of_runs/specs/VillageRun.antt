@@ -2,7 +2,7 @@
 use Rattle.std.specs.Prelude.{pos, true, List, [], ◌∷◌}
 use Rattle.hyd_spec.specs.ProgramTypes.{Closed, Limit}
 use Rattle.hyd_spec.specs.declared.TankState.TheVariants.{Between}
-use Rattle.hyd_spec_reports.specs.declared.StatusWord.TheVariants.{Active as WordActive}
+use Rattle.hyd_spec_certificates.specs.declared.StatusWord.TheVariants.{Active as WordActive}
 use Rattle.hyd_spec.specs.Law.{Shut, LinearLaw, Capped}
 use Rattle.hyd_spec_certificates.specs.PeriodNetwork.{Grid}
 use Rattle.hyd_spec_certificates.specs.RecordAndStanding.{Record, Standing}

@@ -8,7 +8,7 @@ ghost use Rattle.hyd_net.specs.Sound.{IsSound};
 ghost use Rattle.hyd_spec_certificates.specs.RecordAndStanding.{initial_standing};
 ghost use Rattle.hyd_spec.specs.History.{IsHistory, initial_links};
 ghost use Rattle.hyd_spec_reports.specs.ReportLine.{report_text, done_line};
-ghost use Rattle.hyd_spec_reports.specs.CertificateText.{IsCertificateText, version_of};
+ghost use Rattle.hyd_spec_certificates.specs.CertificateText.{IsCertificateText, version_of};
 ghost use Rattle.hyd_spec_reports.specs.PromisesOfRunsAndChecks.{IsRun, AllAgree, EveryHistoryAgrees, rows_of};
 ghost use Rattle.hyd_spec_reports.specs.PromisesOfRunsAndChecks.{lines_of};
 ghost use Rattle.hyd_cases_of_runs.specs.Basin.{basin_network, curved, curved_0, curved_founds, curved_left};

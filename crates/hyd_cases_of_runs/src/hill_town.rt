@@ -8,7 +8,7 @@ ghost use Rattle.hyd_net.specs.Sound.{IsSound};
 ghost use Rattle.hyd_spec_certificates.specs.RecordAndStanding.{initial_standing};
 ghost use Rattle.hyd_spec.specs.History.{IsHistory};
 ghost use Rattle.hyd_spec_reports.specs.ReportLine.{report_text, done_line};
-ghost use Rattle.hyd_spec_reports.specs.CertificateText.{IsCertificateText};
+ghost use Rattle.hyd_spec_certificates.specs.CertificateText.{IsCertificateText};
 ghost use Rattle.hyd_spec_reports.specs.PromisesOfRunsAndChecks.{IsRun, EveryHistoryAgrees, rows_of, lines_of};
 ghost use Rattle.hyd_cases_of_runs.specs.HillTown.{hill_town, standing_0, left, founds, periods, written, printed};
 

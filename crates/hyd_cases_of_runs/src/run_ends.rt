@@ -4,9 +4,10 @@
 ghost use Rattle.std.specs.Prelude.{◌≡◌, pos, true, false, [], ◌∷◌, map, take, codes, Some, None};
 ghost use Rattle.hyd_spec_certificates.specs.declared.Problem.TheVariants.{Main};
 ghost use Rattle.hyd_spec_certificates.specs.declared.Side.TheVariants.{Upper, Lower};
-ghost use Rattle.hyd_spec_reports.specs.declared.StopCause.TheVariants.{Demand as DemandOutOfRange, NoCertificate};
-ghost use Rattle.hyd_spec_reports.specs.declared.StopCause.TheVariants.{RoundsSpent, RuleOpen, EventOpen, TankOpen};
-ghost use Rattle.hyd_spec_reports.specs.declared.StopCause.TheVariants.{ControlOpen};
+ghost use Rattle.hyd_spec_certificates.specs.declared.StopCause.TheVariants.{Demand as DemandOutOfRange, NoCertificate};
+ghost use Rattle.hyd_spec_certificates.specs.declared.StopCause.TheVariants.{RoundsSpent, RuleOpen, EventOpen};
+ghost use Rattle.hyd_spec_certificates.specs.declared.StopCause.TheVariants.{TankOpen};
+ghost use Rattle.hyd_spec_certificates.specs.declared.StopCause.TheVariants.{ControlOpen};
 ghost use Rattle.hyd_spec_reports.specs.PromisesOfRunsAndChecks.{Finished, Stopped, outcome_number, is_finished};
 ghost use Rattle.hyd_spec_reports.specs.PromisesOfRunsAndChecks.{accepted_line};
 ghost use Rattle.hyd_spec_reports.specs.PromisesOfRunsAndChecks.{certificate_so_far, report_so_far};

@@ -9,10 +9,12 @@ ghost use Rattle.hyd_spec_certificates.specs.PeriodNetwork.{grid_links, tank_int
 ghost use Rattle.hyd_spec_certificates.specs.Decided.{links_at, flow_boxes, inflow_boxes, watch_of, tank_watches};
 ghost use Rattle.hyd_spec_certificates.specs.Decided.{watches, carried_at};
 ghost use Rattle.hyd_spec_certificates.specs.Valid.{levels_next, demand_limit};
-ghost use Rattle.hyd_spec_reports.specs.Stops.{open_states, is_open_control};
-ghost use Rattle.hyd_spec_reports.specs.TurnsOfProblems.{beginning};
-ghost use Rattle.hyd_spec_reports.specs.Report.{tank_events, events_of, event_line};
-ghost use Rattle.hyd_spec_reports.specs.declared.EventKind.TheVariants.{Full as BecomesFull, Empty as BecomesEmpty};
+ghost use Rattle.hyd_spec_certificates.specs.Stops.{open_states, is_open_control};
+ghost use Rattle.hyd_spec_certificates.specs.TurnsOfProblems.{beginning};
+ghost use Rattle.hyd_spec_certificates.specs.EndsOfPeriods.{tank_events, events_of};
+ghost use Rattle.hyd_spec_reports.specs.Report.{event_line};
+ghost use Rattle.hyd_spec_certificates.specs.declared.EventKind.TheVariants.{Full as BecomesFull};
+ghost use Rattle.hyd_spec_certificates.specs.declared.EventKind.TheVariants.{Empty as BecomesEmpty};
 ghost use Rattle.hyd_spec_reports.specs.ReportLine.{FilledLine, EmptiedLine, ReachedLine, line_text};
 ghost use Rattle.hyd_cases_of_runs.specs.TwoTankTown.{IsTown};
 ghost use Rattle.hyd_cases_of_runs.specs.TwoTankTownPeriods.{standing_at_start, standing_at_two, standing_when_full};

@@ -3,15 +3,18 @@
 
 ghost use Rattle.std.specs.Prelude.{◌≡◌, pos, true, false, [], ◌∷◌, ◌++◌, map, codes, slice_index_or};
 ghost use Rattle.hyd_spec.specs.ProgramTypes.{Project};
-ghost use Rattle.hyd_spec_reports.specs.declared.StatusWord.TheVariants.{Open as WordOpen, Closed as WordClosed};
-ghost use Rattle.hyd_spec_reports.specs.declared.StatusWord.TheVariants.{Active as WordActive};
+ghost use Rattle.hyd_spec_certificates.specs.declared.StatusWord.TheVariants.{Open as WordOpen, Closed as WordClosed};
+ghost use Rattle.hyd_spec_certificates.specs.declared.StatusWord.TheVariants.{Active as WordActive};
 ghost use Rattle.hyd_spec.specs.Lists.{map_from, joined};
 ghost use Rattle.hyd_spec.specs.DemandsHeadsAndPumpLifts.{is_us};
 ghost use Rattle.hyd_spec.specs.Rules.{state_of_link};
 ghost use Rattle.hyd_spec_certificates.specs.FlowIntervals.{difference, out_box};
 ghost use Rattle.hyd_spec_certificates.specs.Decided.{links_at, heads_below, heads_above};
-ghost use Rattle.hyd_spec_reports.specs.Report.{is_report_time, status_of, events_of, event_line};
-ghost use Rattle.hyd_spec_reports.specs.ChangesAtStart.{control_lines};
+ghost use Rattle.hyd_spec_certificates.specs.PrintedIntervals.{is_report_time};
+ghost use Rattle.hyd_spec_certificates.specs.StatusesOfLinks.{status_of};
+ghost use Rattle.hyd_spec_certificates.specs.EndsOfPeriods.{events_of};
+ghost use Rattle.hyd_spec_reports.specs.Report.{event_line};
+ghost use Rattle.hyd_spec_reports.specs.Report.{control_lines};
 ghost use Rattle.hyd_spec_reports.specs.ReportLine.{line_text, report_text, done_line};
 ghost use Rattle.hyd_cases_of_runs.specs.TwoTankTown.{IsTown};
 ghost use Rattle.hyd_cases_of_runs.specs.TwoTankTownPeriods.{east, west, standing_at_two, standing_when_full};

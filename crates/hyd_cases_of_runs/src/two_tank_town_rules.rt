@@ -11,7 +11,7 @@ ghost use Rattle.hyd_spec.specs.Rules.{head_of, pressure_of, state_of_link, rule
 ghost use Rattle.hyd_spec.specs.Rules.{higher, change_of, rule_changes, acted};
 ghost use Rattle.hyd_spec_certificates.specs.Decided.{links_at, readings_below, readings_above, rule_truths};
 ghost use Rattle.hyd_spec_certificates.specs.Decided.{decided_changes};
-ghost use Rattle.hyd_spec_reports.specs.ChangesAtStart.{change_line};
+ghost use Rattle.hyd_spec_reports.specs.Report.{change_line};
 ghost use Rattle.hyd_spec_reports.specs.ReportLine.{RuleLine, line_text};
 ghost use Rattle.hyd_cases_of_runs.specs.TwoTankTown.{IsTown, numbers, earlier, later, filling, fast_filling};
 ghost use Rattle.hyd_cases_of_runs.specs.TwoTankTown.{narrow_main};

@@ -8,7 +8,8 @@ ghost use Rattle.hyd_spec.specs.PumpPatternsAndSimpleControls.{started, acts_at}
 ghost use Rattle.hyd_spec.specs.History.{initial_links, initial_levels};
 ghost use Rattle.hyd_spec_certificates.specs.RecordAndStanding.{initial_standing};
 ghost use Rattle.hyd_spec_certificates.specs.Decided.{links_at, acts_on};
-ghost use Rattle.hyd_spec_reports.specs.ChangesAtStart.{start_changes, control_lines};
+ghost use Rattle.hyd_spec_certificates.specs.ChangesAtStart.{start_changes};
+ghost use Rattle.hyd_spec_reports.specs.Report.{control_lines};
 ghost use Rattle.hyd_spec_reports.specs.ReportLine.{ControlLine, line_text};
 ghost use Rattle.hyd_cases_of_runs.specs.TwoTankTown.{IsTown, town, filling, fast_filling, narrow_main, night_main};
 ghost use Rattle.hyd_cases_of_runs.specs.TwoTankTown.{wide_main};

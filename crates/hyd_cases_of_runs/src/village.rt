@@ -10,7 +10,7 @@ ghost use Rattle.hyd_spec_certificates.specs.Decided.{EndsBy, WithoutRules, ByRu
 ghost use Rattle.hyd_spec.specs.History.{IsHistory, initial_links};
 ghost use Rattle.hyd_spec_reports.specs.Report.{IsReport};
 ghost use Rattle.hyd_spec_reports.specs.ReportLine.{report_text, done_line};
-ghost use Rattle.hyd_spec_reports.specs.CertificateText.{IsCertificateText};
+ghost use Rattle.hyd_spec_certificates.specs.CertificateText.{IsCertificateText};
 ghost use Rattle.hyd_spec_reports.specs.PromisesOfRunsAndChecks.{Found, IsTightThroughout, IsRun, AllAgree};
 ghost use Rattle.hyd_spec_reports.specs.PromisesOfRunsAndChecks.{EveryHistoryAgrees};
 ghost use Rattle.hyd_spec_reports.specs.PromisesOfRunsAndChecks.{rows_of, lines_of};

@@ -5,10 +5,11 @@
 ghost use Rattle.std.specs.Prelude.{◌≡◌, pos, codes};
 ghost use Rattle.hyd_spec_certificates.specs.declared.Problem.TheVariants.{Main};
 ghost use Rattle.hyd_spec_certificates.specs.declared.Side.TheVariants.{Upper, Lower};
-ghost use Rattle.hyd_spec_reports.specs.Stops.{Stops};
-ghost use Rattle.hyd_spec_reports.specs.declared.StopCause.TheVariants.{Demand as DemandOutOfRange, NoCertificate};
-ghost use Rattle.hyd_spec_reports.specs.declared.StopCause.TheVariants.{RoundsSpent, RuleOpen, EventOpen, TankOpen};
-ghost use Rattle.hyd_spec_reports.specs.declared.StopCause.TheVariants.{ControlOpen};
+ghost use Rattle.hyd_spec_certificates.specs.Stops.{Stops};
+ghost use Rattle.hyd_spec_certificates.specs.declared.StopCause.TheVariants.{Demand as DemandOutOfRange, NoCertificate};
+ghost use Rattle.hyd_spec_certificates.specs.declared.StopCause.TheVariants.{RoundsSpent, RuleOpen, EventOpen};
+ghost use Rattle.hyd_spec_certificates.specs.declared.StopCause.TheVariants.{TankOpen};
+ghost use Rattle.hyd_spec_certificates.specs.declared.StopCause.TheVariants.{ControlOpen};
 ghost use Rattle.hyd_spec_reports.specs.ReportLine.{stop_line};
 ghost use Rattle.hyd_spec_certificates.specs.RecordAndStanding.{initial_standing};
 ghost use Rattle.hyd_spec_certificates.specs.declared.Truth.TheVariants.{True, False, Open};

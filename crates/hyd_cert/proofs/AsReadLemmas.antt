@@ -5,7 +5,7 @@ use Rattle.std.specs.Fmt.{decimal}
 use Rattle.hyd_io.specs.DeskBytes.{prepend_known}
 use Rattle.hyd_io.specs.declared.desk.Faults.{Faults}
 use Rattle.hyd_io.specs.DeskCounts.{with_read_fault}
-use Rattle.hyd_spec_reports.specs.CertificateText.{words}
+use Rattle.hyd_spec_certificates.specs.CertificateText.{words}
 use Rattle.hyd_cert.specs.Lines.{Header, header_text, IsHeaderLine}
 use Rattle.hyd_cert.specs.Faults.{lines_on, OnGrammar}
 use Rattle.hyd_cert.specs.PlacesWithFlows.{Between}

@@ -11,8 +11,8 @@ use Rattle.hyd_io.specs.DeskBytes.{prepend_known}
 use Rattle.hyd_io.proofs.MovedBytesLemmas.{prepend_known-prepend_known}
 use Rattle.hyd_spec_certificates.specs.Certificate.{IsInBox}
 use Rattle.hyd_spec_certificates.specs.RecordAndStanding.{Record as Row, Vectors}
-use Rattle.hyd_spec_reports.specs.CertificateText.{words, period_line, record_text, end_line, IsRow}
-use Rattle.hyd_spec_reports.specs.CertificateText.{IsCertificateText, certificate_text}
+use Rattle.hyd_spec_certificates.specs.CertificateText.{words, period_line, record_text, end_line, IsRow}
+use Rattle.hyd_spec_certificates.specs.CertificateText.{IsCertificateText, certificate_text}
 use Rattle.hyd_cert.specs.Lines.{Header, header_text, IsHeaderLine, IsPeriodLine, IsHeadLine, IsEndLine, end_word}
 use Rattle.hyd_cert.specs.Lines.{header_words}
 use Rattle.hyd_cert.specs.PlacesOfLines.{Place, First, Between, Head, Over, CanStand, IsFault, later, front_at}

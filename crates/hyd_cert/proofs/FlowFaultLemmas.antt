@@ -13,7 +13,7 @@ use Rattle.hyd_io.specs.DeskCounts.{with_read_fault}
 use Rattle.hyd_spec.specs.Lists.{joined}
 use Rattle.hyd_spec_certificates.specs.Certificate.{IsInBox}
 use Rattle.hyd_spec_certificates.specs.RecordAndStanding.{Record as Row}
-use Rattle.hyd_spec_reports.specs.CertificateText.{IsRow, record_text, words, line}
+use Rattle.hyd_spec_certificates.specs.CertificateText.{IsRow, record_text, words, line}
 use Rattle.hyd_spec_flows.specs.FlowParts.{NamedLink, FlowPart as Part}
 use Rattle.hyd_spec_flows.specs.FlowTexts.{IsNamed, named_text, name_line}
 use Rattle.hyd_cert.specs.Lines.{Header, IsHeadLine, IsPeriodLine, IsEndLine}

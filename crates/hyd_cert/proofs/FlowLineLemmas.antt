@@ -7,7 +7,7 @@ use Rattle.std.proofs.lemmas.List.{append_cancel_left, take_more, take-append-dr
 use Rattle.hyd_io.specs.DeskBytes.{prepend_known}
 use Rattle.hyd_io.proofs.MovedBytesLemmas.{prepend_known-prepend_known}
 use Rattle.hyd_io.specs.declared.desk.Faults.{Faults}
-use Rattle.hyd_spec_reports.specs.CertificateText.{line, head_lines}
+use Rattle.hyd_spec_certificates.specs.CertificateText.{line, head_lines}
 use Rattle.hyd_theorems_on_definitions.proofs.CertificateLines.{decimal-same}
 use Rattle.hyd_cert.specs.TextsWithoutLine.{HasNo}
 use Rattle.hyd_cert.specs.Lines.{Header, header_words}

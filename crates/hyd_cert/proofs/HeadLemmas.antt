@@ -15,7 +15,7 @@ use Rattle.hyd_spec_certificates.specs.Certificate.{IsInBox}
 use Rattle.hyd_cert.specs.declared.answers_of_reader.CertNext.{CertNext}
 use Rattle.hyd_cert.specs.declared.answers_of_reader.CertFault.{CertFault}
 use Rattle.hyd_cert.specs.declared.answers_of_reader.CertFault.TheVariants.{Read, Grammar, Count}
-use Rattle.hyd_spec_reports.specs.CertificateText.{words}
+use Rattle.hyd_spec_certificates.specs.CertificateText.{words}
 use Rattle.hyd_theorems_on_definitions.proofs.CertificateLines.{header-short}
 use Rattle.hyd_cert.specs.TextsWithoutLine.{HasNo}
 use Rattle.hyd_cert.proofs.LineLemmas.{header_is_line}

@@ -9,7 +9,7 @@ use Rattle.hyd_io.specs.declared.desk.Faults.{Faults}
 use Rattle.hyd_io.specs.DeskBytes.{prepend_known}
 use Rattle.hyd_spec_certificates.specs.Certificate.{IsInBox}
 use Rattle.hyd_spec_certificates.specs.RecordAndStanding.{Record as Row}
-use Rattle.hyd_spec_reports.specs.CertificateText.{IsRow, record_text, words}
+use Rattle.hyd_spec_certificates.specs.CertificateText.{IsRow, record_text, words}
 use Rattle.hyd_cert.specs.Faults.{IsLineFault, IsHeadsFault, IsHeaderFault, LacksRecord, OnGrammar}
 use Rattle.hyd_cert.specs.Lines.{Header, IsHeaderLine, IsPeriodLine, IsEndLine, header_text}
 use Rattle.hyd_cert.specs.PeriodOrEndLine.{IsPeriodOrEnd}

@@ -5,7 +5,7 @@ use Rattle.std.proofs.Common.{false, nat_lt, ◌==◌, if◌then◌else◌}
 use Rattle.std.specs.Fmt.{decimal, signed_decimal}
 use Rattle.std.proofs.lemmas.Int.{ints}
 use Rattle.std.proofs.lemmas.Bool.Decides.{Decides-ltb}
-use Rattle.hyd_spec_reports.specs.CertificateText.{words, line_feeds}
+use Rattle.hyd_spec_certificates.specs.CertificateText.{words, line_feeds}
 use Rattle.hyd_cert.specs.Lines.{Header, IsHeaderLine, end_word}
 use Rattle.hyd_io.specs.DeskBytes.{prepend_known}
 use Rattle.hyd_cert.specs.TextsWithoutLine.{HasNo}

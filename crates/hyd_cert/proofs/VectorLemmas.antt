@@ -20,8 +20,9 @@ use Rattle.hyd_spec_certificates.specs.declared.Problem.TheVariants.{Main, Pinne
 use Rattle.hyd_spec_certificates.specs.declared.Side.{Side}
 use Rattle.hyd_spec_certificates.specs.declared.Side.TheVariants.{Upper, Lower}
 use Rattle.hyd_spec_certificates.specs.RecordAndStanding.{Record as Row, Vectors, vector_of, no_vectors}
-use Rattle.hyd_spec_reports.specs.CertificateText.{line, head_lines, vectors_text, period_line, record_text, IsVector}
-use Rattle.hyd_spec_reports.specs.CertificateText.{IsRow}
+use Rattle.hyd_spec_certificates.specs.CertificateText.{line, head_lines, vectors_text, period_line, record_text}
+use Rattle.hyd_spec_certificates.specs.CertificateText.{IsVector}
+use Rattle.hyd_spec_certificates.specs.CertificateText.{IsRow}
 use Rattle.hyd_cert.specs.PlacesOfLines.{front_of, front_at, heads_in, head_text}
 use Rattle.hyd_cert.specs.VectorsOfRecord.{AreVectors, two_vectors, behind_two, problems_in, place_in}
 use Rattle.hyd_cert.specs.RecordView.{IsProblemOf}

@@ -4,7 +4,7 @@ use Rattle.std.specs.Prelude.{is_some}
 use Rattle.std.specs.List.{All}
 use Rattle.std.proofs.lemmas.List.Folds.{list_any_none}
 use Rattle.hyd_spec.specs.ProgramTypes.{Project, Tank}
-use Rattle.hyd_spec_reports.specs.CertificateText.{version_of}
+use Rattle.hyd_spec_certificates.specs.CertificateText.{version_of}
 
 -- the tank has a volume curve or overflows
 abbrev pub IsNew : Tank → Bool

@@ -3,7 +3,7 @@ use Rattle.std.proofs.Common.{◌≡◌, ℕ, ◌+◌, ◌<◌, ℤ, pos, List, 
 use Rattle.std.proofs.Common.{arith}
 use Rattle.std.specs.Fmt.{signed_decimal}
 use Rattle.std.proofs.lemmas.List.{take_more, length-take-le, take-append-drop}
-use Rattle.hyd_spec_reports.specs.CertificateText.{period_line, record_text}
+use Rattle.hyd_spec_certificates.specs.CertificateText.{period_line, record_text}
 use Rattle.hyd_cert.specs.PlacesOfLines.{front_at, head_text}
 use Rattle.hyd_cert.specs.VectorsOfRecord.{AreVectors}
 use Rattle.hyd_cert.proofs.HeadLemmas.{head_text-push}

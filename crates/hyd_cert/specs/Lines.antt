@@ -3,7 +3,7 @@
 use Rattle.std.specs.Prelude.{◌≡◌, ℕ, ◌<◌, ◌^◌, ◌⊎◌, ℤ, Bool, List, [], ◌∷◌, ◌++◌, length, codes, if◌then◌else◌}
 use Rattle.std.specs.Fmt.{decimal, signed_decimal}
 use Rattle.hyd_spec_certificates.specs.Certificate.{IsInBox}
-use Rattle.hyd_spec_reports.specs.CertificateText.{words, header_line}
+use Rattle.hyd_spec_certificates.specs.CertificateText.{words, header_line}
 
 -- What a header line says: the version, and the counts of junctions and tanks.
 pub record Header : Type 0 where

@@ -1,7 +1,7 @@
 -- A PERIOD line or an END line, as the program keeps it.
 use Rattle.std.specs.Prelude.{ℕ, ◌<◌, ◌^◌, List, [], ◌∷◌, ◌⊎◌, codes}
 use Rattle.std.specs.Fmt.{decimal}
-use Rattle.hyd_spec_reports.specs.CertificateText.{line, end_line}
+use Rattle.hyd_spec_certificates.specs.CertificateText.{line, end_line}
 use Rattle.hyd_cert.specs.declared.lines.Next.{Next}
 use Rattle.hyd_cert.specs.declared.lines.Next.TheVariants.{Period, End}
 use Rattle.hyd_cert.specs.Lines.{IsPeriodLine, IsEndLine}

@@ -4,7 +4,7 @@ use Rattle.std.specs.Prelude.{◌≡◌, ◌≢◌, ℕ, zero, suc, ◌+◌, ◌
 use Rattle.std.specs.Prelude.{length, take, drop, Option, Some, codes, decimal, if◌then◌else◌}
 use Rattle.std.specs.Fmt.{signed_decimal}
 use Rattle.hyd_io.specs.DeskBytes.{prepend_known}
-use Rattle.hyd_spec_reports.specs.CertificateText.{words}
+use Rattle.hyd_spec_certificates.specs.CertificateText.{words}
 use Rattle.hyd_spec_flows.specs.FlowTexts.{flows_version, most_names}
 use Rattle.hyd_cert.specs.Lines.{Header, header_words, IsPeriodLine, IsHeadLine, IsEndLine}
 use Rattle.hyd_cert.specs.PlacesOfLines.{Lacks, front_at, heads_in}

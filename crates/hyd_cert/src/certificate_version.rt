@@ -1,7 +1,7 @@
 //! The version of a network's certificates.
 
 ghost use Rattle.std.specs.Prelude.{◌≡◌, ◌||◌, is_some};
-ghost use Rattle.hyd_spec_reports.specs.CertificateText.{version_of};
+ghost use Rattle.hyd_spec_certificates.specs.CertificateText.{version_of};
 
 use hyd_net::{Project, Tank};
 

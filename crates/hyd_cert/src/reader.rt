@@ -7,7 +7,7 @@ ghost use Rattle.hyd_io.specs.DeskBytes.{where_told, prepend_known};
 ghost use Rattle.hyd_io.specs.DeskCounts.{with_read_fault};
 ghost use Rattle.hyd_io.specs.LeftAsItWas.{KeepsOutput};
 ghost use Rattle.hyd_spec_certificates.specs.Certificate.{IsInBox};
-ghost use Rattle.hyd_spec_reports.specs.CertificateText.{IsRow, record_text, end_line};
+ghost use Rattle.hyd_spec_certificates.specs.CertificateText.{IsRow, record_text, end_line};
 ghost use Rattle.hyd_cert.specs.TextsWithoutLine.{HasNo};
 ghost use Rattle.hyd_cert.specs.Lines.{Header, IsHeadLine, header_text};
 ghost use Rattle.hyd_cert.specs.PeriodOrEndLine.{next_text, NextFits, IsPeriodOrEnd};

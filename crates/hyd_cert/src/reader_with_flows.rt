@@ -6,7 +6,7 @@ ghost use Rattle.hyd_io.specs.DeskBytes.{where_told, prepend_known};
 ghost use Rattle.hyd_io.specs.LeftAsItWas.{KeepsOutput};
 ghost use Rattle.hyd_spec.specs.Lists.{joined};
 ghost use Rattle.hyd_spec_certificates.specs.Certificate.{IsInBox};
-ghost use Rattle.hyd_spec_reports.specs.CertificateText.{IsRow, record_text, end_line};
+ghost use Rattle.hyd_spec_certificates.specs.CertificateText.{IsRow, record_text, end_line};
 ghost use Rattle.hyd_spec_flows.specs.FlowTexts.{IsNamed, IsPart, named_text, part_text, flows_line, name_line};
 ghost use Rattle.hyd_spec_flows.specs.FlowTexts.{most_names};
 ghost use Rattle.hyd_cert.specs.Lines.{Header, header_text};

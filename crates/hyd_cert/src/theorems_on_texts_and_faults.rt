@@ -2,7 +2,7 @@
 
 ghost use Rattle.std.specs.Prelude.{◌≡◌, ℕ, ◌+◌, ◌^◌, ◌<◌, ◌≤◌, Bool, List, Option, Some, All};
 ghost use Rattle.hyd_spec_certificates.specs.RecordAndStanding.{Record};
-ghost use Rattle.hyd_spec_reports.specs.CertificateText.{IsRow, IsCertificateText, certificate_text};
+ghost use Rattle.hyd_spec_certificates.specs.CertificateText.{IsRow, IsCertificateText, certificate_text};
 ghost use Rattle.hyd_cert.specs.Lines.{Header, IsHeaderLine, header_words};
 ghost use Rattle.hyd_cert.specs.PlacesOfLines.{First, Between, Goes, IsFault};
 ghost use Rattle.hyd_cert.specs.Faults.{HasOtherHeader};

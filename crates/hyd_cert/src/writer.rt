@@ -3,7 +3,7 @@
 ghost use Rattle.std.specs.Prelude.{◌≡◌, ◌≢◌, ◌+◌, ◌<◌, ◌≤◌, ◌^◌, false, [], ◌∷◌, ◌++◌, length, take};
 ghost use Rattle.std.specs.Prelude.{decimal, None, IsTrue};
 ghost use Rattle.std.specs.Fmt.{signed_decimal};
-ghost use Rattle.hyd_spec_reports.specs.CertificateText.{period_line, record_text, end_line};
+ghost use Rattle.hyd_spec_certificates.specs.CertificateText.{period_line, record_text, end_line};
 ghost use Rattle.hyd_cert.specs.Lines.{header_words, header_text, end_word};
 ghost use Rattle.hyd_cert.specs.PlacesOfLines.{front_of, head_text};
 ghost use Rattle.hyd_cert.specs.RecordView.{header_of, row_of};

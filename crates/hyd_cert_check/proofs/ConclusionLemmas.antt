@@ -12,13 +12,14 @@ use Rattle.hyd_spec.specs.Lists.{joined}
 use Rattle.hyd_spec.specs.NodeNumbers.{junction_count, tank_count}
 use Rattle.hyd_spec_certificates.specs.PeriodNetwork.{Grid}
 use Rattle.hyd_spec_certificates.specs.RecordAndStanding.{Record, Standing}
-use Rattle.hyd_spec_reports.specs.CertificateText.{record_text, end_line, line_feeds, header_line}
-use Rattle.hyd_spec_reports.specs.declared.CertRefused.{CertRefused}
+use Rattle.hyd_spec_certificates.specs.CertificateText.{record_text, end_line, line_feeds, header_line}
+use Rattle.hyd_spec_certificates.specs.declared.CertRefused.{CertRefused}
 use Rattle.hyd_spec_reports.specs.PromisesOfRunsAndChecks.{IsRun, rows_of}
 use Rattle.hyd_spec_flows.specs.FlowParts.{FlowPart, IsRefusedPart}
 use Rattle.hyd_spec_flows.specs.FlowTexts.{Entry, entry_text, is_with_flows, flows_version}
-use Rattle.hyd_spec_flows.specs.PromisesWithFlows.{FoundNaming, IsFoundNaming, founds_in, entry_of, entries_of}
-use Rattle.hyd_spec_flows.specs.PromisesWithFlows.{report_with_flows}
+use Rattle.hyd_spec_reports_with_flows.specs.PromisesWithFlows.{FoundNaming, IsFoundNaming, founds_in, entry_of}
+use Rattle.hyd_spec_reports_with_flows.specs.PromisesWithFlows.{entries_of}
+use Rattle.hyd_spec_reports_with_flows.specs.PromisesWithFlows.{report_with_flows}
 use Rattle.hyd_spec_flows.specs.declared.FlowFails.{FlowFails}
 use Rattle.hyd_spec_flows.specs.declared.FlowFails.TheVariants.{Name, Vector}
 use Rattle.hyd_cert.specs.Lines.{Header, header_text, header_words}

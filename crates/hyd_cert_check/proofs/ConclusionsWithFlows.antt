@@ -9,18 +9,20 @@ use Rattle.hyd_spec.specs.ProgramTypes.{Project}
 use Rattle.hyd_spec.specs.Lists.{joined}
 use Rattle.hyd_spec.specs.NodeNumbers.{junction_count, tank_count}
 use Rattle.hyd_spec_certificates.specs.RecordAndStanding.{Standing}
-use Rattle.hyd_spec_reports.specs.CertificateText.{line_feeds, header_line}
+use Rattle.hyd_spec_certificates.specs.CertificateText.{line_feeds, header_line}
 use Rattle.hyd_spec_reports.specs.ReportLine.{refused_line, refused_end_line}
-use Rattle.hyd_spec_reports.specs.RefusedRecords.{IsRefused}
-use Rattle.hyd_spec_reports.specs.declared.CertRefused.{CertRefused}
+use Rattle.hyd_spec_certificates.specs.RefusedRecords.{IsRefused}
+use Rattle.hyd_spec_certificates.specs.declared.CertRefused.{CertRefused}
 use Rattle.hyd_spec_reports.specs.PromisesOfRunsAndChecks.{Found, IsFound, IsRun, accepted_line}
 use Rattle.hyd_spec_flows.specs.FlowParts.{FlowPart, IsRefusedPart}
 use Rattle.hyd_spec_flows.specs.FlowTexts.{Entry, IsEntry, IsTextWithFlows, entry_text, flows_version, text_with_flows}
 use Rattle.hyd_spec_flows.specs.FlowTexts.{is_with_flows}
-use Rattle.hyd_spec_flows.specs.FlowLines.{refused_flow_line}
-use Rattle.hyd_spec_flows.specs.PromisesWithFlows.{FoundNaming, IsFoundNaming, founds_in, entries_of, report_with_flows}
-use Rattle.hyd_spec_flows.specs.PromisesWithFlows.{BeginsWithEntries, CheckAcceptsNaming, CheckRefusesNaming}
-use Rattle.hyd_spec_flows.specs.PromisesWithFlows.{CheckRefusesPart, CheckRefusesEndNaming}
+use Rattle.hyd_spec_reports_with_flows.specs.FlowLines.{refused_flow_line}
+use Rattle.hyd_spec_reports_with_flows.specs.PromisesWithFlows.{FoundNaming, IsFoundNaming, founds_in, entries_of}
+use Rattle.hyd_spec_reports_with_flows.specs.PromisesWithFlows.{report_with_flows}
+use Rattle.hyd_spec_reports_with_flows.specs.PromisesWithFlows.{BeginsWithEntries, CheckAcceptsNaming}
+use Rattle.hyd_spec_reports_with_flows.specs.PromisesWithFlows.{CheckRefusesNaming}
+use Rattle.hyd_spec_reports_with_flows.specs.PromisesWithFlows.{CheckRefusesPart, CheckRefusesEndNaming}
 use Rattle.hyd_spec_flows.specs.declared.FlowFails.{FlowFails}
 use Rattle.hyd_cert.specs.Lines.{header_words}
 use Rattle.hyd_cert.specs.PlacesWithFlows.{Between, IsStuckInside, with_flows}

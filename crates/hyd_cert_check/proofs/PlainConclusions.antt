@@ -9,15 +9,16 @@ use Rattle.hyd_spec.specs.ProgramTypes.{Project}
 use Rattle.hyd_spec.specs.Lists.{joined}
 use Rattle.hyd_spec.specs.NodeNumbers.{junction_count, tank_count}
 use Rattle.hyd_spec_certificates.specs.RecordAndStanding.{Record, Standing}
-use Rattle.hyd_spec_reports.specs.CertificateText.{IsRow, IsCertificateText, record_text, end_line, line_feeds}
-use Rattle.hyd_spec_reports.specs.CertificateText.{version_of}
+use Rattle.hyd_spec_certificates.specs.CertificateText.{IsRow, IsCertificateText, record_text, end_line, line_feeds}
+use Rattle.hyd_spec_certificates.specs.CertificateText.{version_of}
 use Rattle.hyd_spec_reports.specs.ReportLine.{report_text, refused_line, refused_end_line}
-use Rattle.hyd_spec_reports.specs.RefusedRecords.{IsRefused}
-use Rattle.hyd_spec_reports.specs.declared.CertRefused.{CertRefused}
+use Rattle.hyd_spec_certificates.specs.RefusedRecords.{IsRefused}
+use Rattle.hyd_spec_certificates.specs.declared.CertRefused.{CertRefused}
 use Rattle.hyd_spec_reports.specs.PromisesOfRunsAndChecks.{Found, IsRun, rows_of, lines_of, accepted_line}
 use Rattle.hyd_spec_reports.specs.PromisesOfRunsAndChecks.{CheckAccepts, CheckRefuses, CheckRefusesEnd}
 use Rattle.hyd_spec_flows.specs.FlowTexts.{Entry}
-use Rattle.hyd_spec_flows.specs.PromisesWithFlows.{FoundNaming, IsFoundNaming, founds_in, entries_of, report_with_flows}
+use Rattle.hyd_spec_reports_with_flows.specs.PromisesWithFlows.{FoundNaming, IsFoundNaming, founds_in, entries_of}
+use Rattle.hyd_spec_reports_with_flows.specs.PromisesWithFlows.{report_with_flows}
 use Rattle.hyd_cert.specs.Lines.{header_text, header_words}
 use Rattle.hyd_cert.specs.PlacesOfLines.{First, IsFault}
 use Rattle.hyd_cert.specs.Faults.{HasOtherHeader}
@@ -25,7 +26,7 @@ use Rattle.hyd_cert.proofs.CertificatesLineByLine.{whole_reading}
 use Rattle.hyd_cert.proofs.WholeTextLemmas.{first_fault}
 use Rattle.hyd_lemmas.proofs.ListsOptionsAndResults.{join-more}
 use Rattle.hyd_sim.specs.RunView.{header_for}
-use Rattle.hyd_theorems_on_histories.proofs.HistoriesAlongRuns.{every_history}
+use Rattle.hyd_theorems_on_runs.proofs.HistoriesAlongRuns.{every_history}
 use Rattle.hyd_cert_check.specs.LinesOfRefusals.{refused_grammar_line, refused_counts_line, printed_number}
 use Rattle.hyd_cert_check.specs.Checks.{BeginsWithFound, HasNoMoreRecords, CheckRefusesGrammar, CheckRefusesCounts}
 use Rattle.hyd_cert_check.specs.Checks.{CheckFindsPlainly}

@@ -8,7 +8,7 @@ use Rattle.hyd_net.specs.Sound.{IsSound}
 use Rattle.hyd_spec.specs.ProgramTypes.{Project}
 use Rattle.hyd_spec.specs.Lists.{joined}
 use Rattle.hyd_spec.specs.NodeNumbers.{junction_count, tank_count}
-use Rattle.hyd_spec_reports.specs.CertificateText.{line_feeds}
+use Rattle.hyd_spec_certificates.specs.CertificateText.{line_feeds}
 use Rattle.hyd_spec_flows.specs.FlowTexts.{Entry}
 use Rattle.hyd_cert.specs.Lines.{Header, header_text}
 use Rattle.hyd_cert.specs.PlacesOfLines.{heads_in}

@@ -9,13 +9,13 @@ use Rattle.hyd_spec_certificates.specs.declared.Side.TheVariants.{Upper, Lower}
 use Rattle.hyd_spec_certificates.specs.RecordAndStanding.{Record, Standing}
 use Rattle.hyd_spec_certificates.specs.Valid.{AreCertificates}
 use Rattle.hyd_spec_reports.specs.PromisesOfRunsAndChecks.{Found}
-use Rattle.hyd_spec_reports.specs.CertificateText.{record_text, end_line, IsRow}
-use Rattle.hyd_spec_reports.specs.RefusedRecords.{IsRefused}
-use Rattle.hyd_spec_reports.specs.declared.CertRefused.{CertRefused}
+use Rattle.hyd_spec_certificates.specs.CertificateText.{record_text, end_line, IsRow}
+use Rattle.hyd_spec_certificates.specs.RefusedRecords.{IsRefused}
+use Rattle.hyd_spec_certificates.specs.declared.CertRefused.{CertRefused}
 use Rattle.hyd_spec_flows.specs.FlowParts.{FlowPart as Part, IsFlowPart, IsRefusedPart}
 use Rattle.hyd_spec_flows.specs.FlowTexts.{Entry, IsNamed}
-use Rattle.hyd_spec_flows.specs.FlowLines.{FlowLine, AreFlowLines}
-use Rattle.hyd_spec_flows.specs.PromisesWithFlows.{FoundNaming, entry_of, period_text}
+use Rattle.hyd_spec_reports_with_flows.specs.FlowLines.{FlowLine, AreFlowLines}
+use Rattle.hyd_spec_reports_with_flows.specs.PromisesWithFlows.{FoundNaming, entry_of, period_text}
 use Rattle.hyd_spec_flows.specs.declared.FlowFails.{FlowFails}
 use Rattle.hyd_io.specs.declared.desk.Faults.{Faults}
 use Rattle.hyd_io.specs.DeskBytes.{prepend_known, where_told}

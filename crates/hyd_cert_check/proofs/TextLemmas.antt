@@ -11,15 +11,16 @@ use Rattle.hyd_spec.specs.Lists.{joined}
 use Rattle.hyd_spec.specs.NodeNumbers.{junction_count, tank_count}
 use Rattle.hyd_spec_certificates.specs.PeriodNetwork.{Grid}
 use Rattle.hyd_spec_certificates.specs.RecordAndStanding.{Record, Standing}
-use Rattle.hyd_spec_reports.specs.CertificateText.{IsRow, record_text, line_feeds}
-use Rattle.hyd_spec_reports.specs.Report.{is_report_time}
+use Rattle.hyd_spec_certificates.specs.CertificateText.{IsRow, record_text, line_feeds}
+use Rattle.hyd_spec_certificates.specs.PrintedIntervals.{is_report_time}
 use Rattle.hyd_spec_reports.specs.ReportLine.{line_text, report_text}
 use Rattle.hyd_spec_reports.specs.PromisesOfRunsAndChecks.{lines_of, rows_of}
 use Rattle.hyd_spec_flows.specs.FlowParts.{FlowPart}
 use Rattle.hyd_spec_flows.specs.FlowTexts.{Entry, IsEntry, rows_in, is_with_flows}
-use Rattle.hyd_spec_flows.specs.FlowLines.{FlowLine, IsFlowLine, AreFlowLines, flow_line_text}
-use Rattle.hyd_spec_flows.specs.PromisesWithFlows.{FoundNaming, IsFoundNaming, founds_in, entry_of, entries_of}
-use Rattle.hyd_spec_flows.specs.PromisesWithFlows.{period_text, report_with_flows, report_so_far_naming}
+use Rattle.hyd_spec_reports_with_flows.specs.FlowLines.{FlowLine, IsFlowLine, AreFlowLines, flow_line_text}
+use Rattle.hyd_spec_reports_with_flows.specs.PromisesWithFlows.{FoundNaming, IsFoundNaming, founds_in, entry_of}
+use Rattle.hyd_spec_reports_with_flows.specs.PromisesWithFlows.{entries_of}
+use Rattle.hyd_spec_reports_with_flows.specs.PromisesWithFlows.{period_text, report_with_flows, report_so_far_naming}
 use Rattle.hyd_cert.specs.Lines.{Header, IsHeaderLine, header_words, header_text}
 use Rattle.hyd_cert.specs.PlacesWithFlows.{IsFlowsHeaderLine, with_flows}
 use Rattle.hyd_cert.specs.ReaderWithFlows.{as_read}

@@ -10,10 +10,11 @@ use Rattle.hyd_spec.specs.ProgramTypes.{Project}
 use Rattle.hyd_spec.specs.NodeNumbers.{junction_count, tank_count}
 use Rattle.hyd_spec_certificates.specs.RecordAndStanding.{Standing, initial_standing}
 use Rattle.hyd_spec_reports.specs.PromisesOfRunsAndChecks.{Found, IsRun, IsRunFrom}
-use Rattle.hyd_spec_flows.specs.PromisesWithFlows.{FoundNaming, IsFoundNaming, founds_in, entry_of, entries_of}
-use Rattle.hyd_spec_flows.specs.PromisesWithFlows.{period_text, report_with_flows, report_so_far_naming}
+use Rattle.hyd_spec_reports_with_flows.specs.PromisesWithFlows.{FoundNaming, IsFoundNaming, founds_in, entry_of}
+use Rattle.hyd_spec_reports_with_flows.specs.PromisesWithFlows.{entries_of}
+use Rattle.hyd_spec_reports_with_flows.specs.PromisesWithFlows.{period_text, report_with_flows, report_so_far_naming}
 use Rattle.hyd_lemmas.proofs.ListsOptionsAndResults.{all-more}
-use Rattle.hyd_theorems_on_definitions.proofs.OnePeriodMore.{run_more}
+use Rattle.hyd_theorems_on_runs.proofs.OnePeriodMore.{run_more}
 use Rattle.hyd_io.specs.DeskBytes.{PutOut}
 use Rattle.hyd_io.specs.Output.{PenState}
 use Rattle.hyd_cert.specs.ReaderView.{ReaderView, fresh, to_come}

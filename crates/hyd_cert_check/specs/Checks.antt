@@ -5,9 +5,9 @@ use Rattle.hyd_spec.specs.ProgramTypes.{Project}
 use Rattle.hyd_spec.specs.Lists.{joined}
 use Rattle.hyd_spec.specs.NodeNumbers.{junction_count, tank_count}
 use Rattle.hyd_spec_certificates.specs.RecordAndStanding.{Record, Standing}
-use Rattle.hyd_spec_reports.specs.CertificateText.{IsRow, version_of, header_line, record_text}
+use Rattle.hyd_spec_certificates.specs.CertificateText.{IsRow, version_of, header_line, record_text}
 use Rattle.hyd_spec_reports.specs.ReportLine.{report_text}
-use Rattle.hyd_spec_reports.specs.declared.CertRefused.{CertRefused}
+use Rattle.hyd_spec_certificates.specs.declared.CertRefused.{CertRefused}
 use Rattle.hyd_spec_reports.specs.PromisesOfRunsAndChecks.{Found, IsRun, rows_of, lines_of, EveryHistoryAgrees}
 use Rattle.hyd_spec_reports.specs.PromisesOfRunsAndChecks.{CheckAccepts}
 use Rattle.hyd_spec_reports.specs.PromisesOfRunsAndChecks.{CheckRefuses, CheckRefusesEnd}

@@ -6,12 +6,15 @@ use Rattle.std.specs.List.{AllByRecursion}
 use Rattle.hyd_spec.specs.ProgramTypes.{Project}
 use Rattle.hyd_spec.specs.NodeNumbers.{junction_count, tank_count}
 use Rattle.hyd_spec_certificates.specs.RecordAndStanding.{Standing}
-use Rattle.hyd_spec_reports.specs.declared.CertRefused.{CertRefused}
+use Rattle.hyd_spec_certificates.specs.declared.CertRefused.{CertRefused}
 use Rattle.hyd_spec_reports.specs.PromisesOfRunsAndChecks.{IsRun}
 use Rattle.hyd_spec_flows.specs.FlowTexts.{Entry}
-use Rattle.hyd_spec_flows.specs.PromisesWithFlows.{FoundNaming, IsFoundNaming, founds_in, entries_of, report_with_flows}
-use Rattle.hyd_spec_flows.specs.PromisesWithFlows.{EveryHistoryAgreesNaming, BeginsWithEntries, CheckAcceptsNaming}
-use Rattle.hyd_spec_flows.specs.PromisesWithFlows.{CheckRefusesNaming, CheckRefusesPart, CheckRefusesEndNaming}
+use Rattle.hyd_spec_reports_with_flows.specs.PromisesWithFlows.{FoundNaming, IsFoundNaming, founds_in, entries_of}
+use Rattle.hyd_spec_reports_with_flows.specs.PromisesWithFlows.{report_with_flows}
+use Rattle.hyd_spec_reports_with_flows.specs.PromisesWithFlows.{EveryHistoryAgreesNaming, BeginsWithEntries}
+use Rattle.hyd_spec_reports_with_flows.specs.PromisesWithFlows.{CheckAcceptsNaming}
+use Rattle.hyd_spec_reports_with_flows.specs.PromisesWithFlows.{CheckRefusesNaming, CheckRefusesPart}
+use Rattle.hyd_spec_reports_with_flows.specs.PromisesWithFlows.{CheckRefusesEndNaming}
 use Rattle.hyd_spec_flows.specs.declared.FlowFails.{FlowFails}
 use Rattle.hyd_cert.specs.ReaderWithFlows.{HasOtherCounts}
 use Rattle.hyd_sim.specs.RunView.{header_for}

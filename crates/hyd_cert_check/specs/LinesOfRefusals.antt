@@ -1,7 +1,7 @@
 -- The last line of a report where a certificate is refused by one of its lines.
 -- Source: this program's.
 use Rattle.std.specs.Prelude.{ℕ, ◌-◌, ◌^◌, min, List, [], ◌∷◌, codes, decimal}
-use Rattle.hyd_spec_reports.specs.CertificateText.{line}
+use Rattle.hyd_spec_certificates.specs.CertificateText.{line}
 
 -- `BADCERT line N GRAMMAR` where the line of that number, counted from 1, is the first with which the text begins no
 -- certificate.

@@ -12,16 +12,17 @@ use Rattle.hyd_spec.specs.Lists.{joined}
 use Rattle.hyd_spec.specs.NodeNumbers.{junction_count, tank_count}
 use Rattle.hyd_spec_certificates.specs.RecordAndStanding.{Standing}
 use Rattle.hyd_spec_certificates.specs.Valid.{AreCertificates}
-use Rattle.hyd_spec_reports.specs.CertificateText.{IsRow, record_text, end_line, line_feeds}
+use Rattle.hyd_spec_certificates.specs.CertificateText.{IsRow, record_text, end_line, line_feeds}
 use Rattle.hyd_spec_reports.specs.ReportLine.{refused_line, refused_end_line}
-use Rattle.hyd_spec_reports.specs.declared.CertRefused.{CertRefused}
-use Rattle.hyd_spec_reports.specs.RefusedRecords.{IsRefused}
+use Rattle.hyd_spec_certificates.specs.declared.CertRefused.{CertRefused}
+use Rattle.hyd_spec_certificates.specs.RefusedRecords.{IsRefused}
 use Rattle.hyd_spec_reports.specs.PromisesOfRunsAndChecks.{Found, IsFound, IsRun, accepted_line}
 use Rattle.hyd_spec_flows.specs.FlowParts.{FlowPart as Part, IsRefusedPart}
 use Rattle.hyd_spec_flows.specs.FlowTexts.{Entry}
-use Rattle.hyd_spec_flows.specs.FlowLines.{refused_flow_line}
-use Rattle.hyd_spec_flows.specs.PromisesWithFlows.{FoundNaming, IsFoundNaming, founds_in, entry_of, entries_of}
-use Rattle.hyd_spec_flows.specs.PromisesWithFlows.{period_text, report_so_far_naming}
+use Rattle.hyd_spec_reports_with_flows.specs.FlowLines.{refused_flow_line}
+use Rattle.hyd_spec_reports_with_flows.specs.PromisesWithFlows.{FoundNaming, IsFoundNaming, founds_in, entry_of}
+use Rattle.hyd_spec_reports_with_flows.specs.PromisesWithFlows.{entries_of}
+use Rattle.hyd_spec_reports_with_flows.specs.PromisesWithFlows.{period_text, report_so_far_naming}
 use Rattle.hyd_spec_flows.specs.declared.FlowFails.{FlowFails}
 use Rattle.hyd_cert.specs.Lines.{Header, header_text}
 use Rattle.hyd_cert.specs.PlacesOfLines.{IsFault, heads_in}

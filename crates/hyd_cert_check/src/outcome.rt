@@ -1,8 +1,8 @@
 //! How a check ends.
 
 use hyd_io::OutFault;
+use hyd_spec_certificates::CertRefused;
 use hyd_spec_flows::FlowFails;
-use hyd_spec_reports::CertRefused;
 use thiserror::Error;
 
 /// How a check ended.

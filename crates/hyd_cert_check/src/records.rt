@@ -6,7 +6,7 @@ ghost use Rattle.hyd_io.specs.Output.{OnCert};
 ghost use Rattle.hyd_io.specs.TextPutIn.{Puts};
 ghost use Rattle.hyd_spec.specs.Lists.{joined};
 ghost use Rattle.hyd_spec_certificates.specs.RecordAndStanding.{Standing};
-ghost use Rattle.hyd_spec_flows.specs.FlowLines.{FlowLine, AreFlowLines, flow_line_text};
+ghost use Rattle.hyd_spec_reports_with_flows.specs.FlowLines.{FlowLine, AreFlowLines, flow_line_text};
 ghost use Rattle.hyd_spec_flows.specs.FlowParts.{IsFlowPart, IsRefusedPart};
 ghost use Rattle.hyd_spec_flows.specs.FlowTexts.{IsNamed};
 ghost use Rattle.hyd_cert.specs.FlowPartView.{part_of};

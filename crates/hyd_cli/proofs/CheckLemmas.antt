@@ -18,8 +18,7 @@ use Rattle.hyd_cert_check.specs.declared.outcome.CheckEnd.{CheckEnd}
 use Rattle.hyd_cert_check.specs.declared.outcome.CheckEnd.TheVariants.{Accepted, Refused}
 use Rattle.hyd_cert_check.specs.declared.outcome.CheckFault.{CheckFault}
 use Rattle.hyd_cert_check.specs.declared.outcome.CheckFault.TheVariants.{Read, Output}
-use Rattle.hyd_theorems_on_checks.proofs.NeverRefused.{never_refused}
-use Rattle.hyd_theorems_on_checks.proofs.TextsWithoutFlows.{run_without_flows, plain_end}
+use Rattle.hyd_theorems_on_checks.proofs.NeverRefusedNaming.{some_not_refused}
 use Rattle.hyd_command_words.specs.CommandGrammar.{TwoFiles, check}
 use Rattle.hyd_command_answers.specs.DeskContents.{Seen, IsUntouched, OnlyPrinted, OnlyPrintedFront, OnlyPrintedSome}
 use Rattle.hyd_command_answers.specs.FaultsAndRefusals.{HasCause}
@@ -79,8 +78,7 @@ pub answers_end : (project : Project) (text : List ℕ) (end : CheckEnd) (before
 answers_end project text Accepted before now h = h
 answers_end project text Refused before now h = (
   h,
-  λ is. never_refused project text h.report is
-      (plain_end project text (run_without_flows project text is) h.report Refused h.holds),
+  λ is. some_not_refused project text h.report is h.holds,
 )
 
 pub leaves_end : (files : TwoFiles) (end : CheckEnd) (before now : Seen) → OnlyPrintedSome before now

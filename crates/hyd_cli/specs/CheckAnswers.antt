@@ -5,7 +5,7 @@ use Rattle.hyd_io.specs.declared.desk.Openings.{Openings}
 use Rattle.hyd_io.specs.DeskCounts.{with_opened}
 use Rattle.hyd_spec.specs.ProgramTypes.{Project}
 use Rattle.hyd_cert_check.specs.Checks.{CheckEnds, CheckBreaksOff}
-use Rattle.hyd_theorems_on_checks.specs.CertificateOfRun.{IsCertificateOfRun}
+use Rattle.hyd_theorems_on_checks.specs.CertificateOfRun.{IsCertificateOfSomeRun}
 use Rattle.hyd_cert_check.specs.RecordByRecord.{IsPrinted}
 use Rattle.hyd_cert_check.specs.declared.outcome.CheckEnd.{CheckEnd}
 use Rattle.hyd_cert_check.specs.declared.outcome.CheckEnd.TheVariants.{Accepted, Refused}
@@ -30,14 +30,14 @@ status_of_break (Output fault) = status_of_fault fault
 
 -- What an answer says of the text of CERT, which is checked against a network: it was accepted, and its report
 -- printed, with its FLOW lines where it begins as one with flows; or it was refused, the report up to its refusal
--- printed, and it isn't the certificate of a run; or memory ran out before anything was printed; or a fault broke the
--- check off, and a front of such a report was printed.
+-- printed, and it isn't the certificate of a run, with flows or without; or memory ran out before anything was printed;
+-- or a fault broke the check off, and a front of such a report was printed.
 abbrev pub AnswersCert : Project → List ℕ → Status → Seen → Seen → Type 0
 AnswersCert project text Done before now =
     IsPrinted (λ printed. CheckEnds project text printed Accepted) before.printed now.printed
 AnswersCert project text CertificateRefused before now =
     IsPrinted (λ printed. CheckEnds project text printed Refused) before.printed now.printed
-    × (IsCertificateOfRun project text → ⊥)
+    × (IsCertificateOfSomeRun project text → ⊥)
 AnswersCert project text OutOfMemory before now = IsUntouched before now
 AnswersCert project text ReadFault before now =
     IsUntouched before now ⊎ IsPrinted (CheckBreaksOff project text) before.printed now.printed

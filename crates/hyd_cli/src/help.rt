@@ -1,12 +1,13 @@
-//! The command of the words, and what is said where they aren't one: the page of help that they ask for, or where help is.
+//! The command of the words, and what is said where they aren't one: the page of help that they ask for, or which word is
+//! wrong.
 
 ghost use Rattle.std.specs.Prelude.{◌≡◌, map, option_map, string_bytes, IfOk};
 ghost use Rattle.hyd_command_words.specs.CommandGrammar.{order_of};
 ghost use Rattle.hyd_command_words.specs.CommandView.{order_seen};
 
 use hyd_command_words::{Command, read_words};
+use hyd_help::{Help, WrongWords};
 use hyd_io::Desk;
-use hyd_sentences::{Help, WrongWords};
 use std::alloc::{AllocError, Global};
 
 // The command whose page these words ask for, or none for the page of all; `None` where they ask for no help.
@@ -26,11 +27,11 @@ fn is_help(word: &str) -> bool {
 }
 
 /// Says the page of help that the words ask for: `help`, `--help` or `-h` alone, or beside a command; no words ask for it too. Of
-/// other words it says where help is.
+/// other words it says which is wrong.
 fn say_help<D: Desk>(words: &[String], desk: &D) {
     match topic_asked(words) {
         Some(topic) => desk.say(&Help { topic }),
-        None => desk.say(&WrongWords),
+        None => desk.say(&WrongWords { words }),
     }
 }
 

@@ -10,9 +10,9 @@ use Rattle.hyd_io.specs.declared.output.OutFault.{OutFault}
 use Rattle.hyd_io.specs.declared.output.OutFault.TheVariants.{Fault, Stalled as Stall}
 use Rattle.hyd_net.specs.declared.refusal_cause.Cause.{Cause}
 use Rattle.hyd_spec_reports.specs.PromisesOfRunsAndChecks.{Outcome, Finished, Stopped, outcome_number}
-use Rattle.hyd_spec_reports.specs.declared.StopCause.TheVariants.{NoCertificate, TankOpen, RuleOpen, ControlOpen}
-use Rattle.hyd_spec_reports.specs.declared.StopCause.TheVariants.{EventOpen, RoundsSpent as Rounds}
-use Rattle.hyd_spec_reports.specs.declared.StopCause.TheVariants.{Demand as OutOfRange}
+use Rattle.hyd_spec_certificates.specs.declared.StopCause.TheVariants.{NoCertificate, TankOpen, RuleOpen, ControlOpen}
+use Rattle.hyd_spec_certificates.specs.declared.StopCause.TheVariants.{EventOpen, RoundsSpent as Rounds}
+use Rattle.hyd_spec_certificates.specs.declared.StopCause.TheVariants.{Demand as OutOfRange}
 use Rattle.hyd_command_answers.specs.DeskContents.{Seen, IsUntouched}
 use Rattle.hyd_command_answers.specs.FaultsAndRefusals.{HasCause, status_of_fault}
 use Rattle.hyd_command_answers.specs.OpeningsOfRuns.{OpensOnce}
@@ -20,7 +20,8 @@ use Rattle.hyd_command_answers.specs.FaultsAndRefusals.{AnswersRefused}
 use Rattle.hyd_command_answers.specs.OpeningsOfRuns.{OpensCert}
 use Rattle.hyd_command_answers.specs.Statuses.{number_of, status_of_outcome}
 use Rattle.hyd_command_answers.specs.declared.status.Status.{Status}
-use Rattle.hyd_command_answers.specs.declared.status.Status.TheVariants.{Done, OutOfMemory, Usage, ReadFault, WriteFault}
+use Rattle.hyd_command_answers.specs.declared.status.Status.TheVariants.{Done, OutOfMemory, Usage, ReadFault}
+use Rattle.hyd_command_answers.specs.declared.status.Status.TheVariants.{WriteFault}
 use Rattle.hyd_command_answers.specs.declared.status.Status.TheVariants.{InputRefused, Undecided, RoundsSpent, Demand}
 use Rattle.hyd_command_answers.specs.declared.status.Status.TheVariants.{CertificateRefused, Stalled}
 use Rattle.hyd_lemmas.proofs.ListsOptionsAndResults.{same_item}

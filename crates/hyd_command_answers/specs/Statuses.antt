@@ -1,9 +1,10 @@
 -- The statuses of a command.
 use Rattle.std.specs.Prelude.{ℕ}
 use Rattle.hyd_spec_reports.specs.PromisesOfRunsAndChecks.{Outcome, Finished, Stopped}
-use Rattle.hyd_spec_reports.specs.declared.StopCause.TheVariants.{Demand as OutOfRange, RoundsSpent as Rounds}
+use Rattle.hyd_spec_certificates.specs.declared.StopCause.TheVariants.{Demand as OutOfRange, RoundsSpent as Rounds}
 use Rattle.hyd_command_answers.specs.declared.status.Status.{Status}
-use Rattle.hyd_command_answers.specs.declared.status.Status.TheVariants.{Done, OutOfMemory, Usage, ReadFault, WriteFault}
+use Rattle.hyd_command_answers.specs.declared.status.Status.TheVariants.{Done, OutOfMemory, Usage, ReadFault}
+use Rattle.hyd_command_answers.specs.declared.status.Status.TheVariants.{WriteFault}
 use Rattle.hyd_command_answers.specs.declared.status.Status.TheVariants.{InputRefused, Undecided, RoundsSpent, Demand}
 use Rattle.hyd_command_answers.specs.declared.status.Status.TheVariants.{CertificateRefused, Stalled}
 

@@ -3,7 +3,7 @@ use Rattle.std.proofs.Common.{◌≡◌, ℕ, ◌<◌, ℤ, true, false, List, l
 use Rattle.std.proofs.lemmas.Option.{slice_get-get_or}
 use Rattle.std.proofs.lemmas.List.Quantifiers.{position-Some}
 use Rattle.hyd_spec.specs.ProgramTypes.{Project, Control}
-use Rattle.hyd_spec_reports.specs.Stops.{is_open_control}
+use Rattle.hyd_spec_certificates.specs.Stops.{is_open_control}
 use Rattle.hyd_spec_certificates.specs.SpansAsIntervals.{levels_of}
 use Rattle.hyd_spec_certificates.specs.declared.LevelSpan.{LevelSpan}
 use Rattle.hyd_controls_and_rules.specs.PumpPatternsAndSimpleControls.{IsLevelOf, IsFirstOpen}

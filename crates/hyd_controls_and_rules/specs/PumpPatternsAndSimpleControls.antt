@@ -6,7 +6,7 @@ use Rattle.hyd_spec.specs.ProgramTypes.{Project, LinkKind, PipeLink, CheckPipe, 
 use Rattle.hyd_spec.specs.ProgramTypes.{LinkState}
 use Rattle.hyd_spec.specs.ProgramTypes.{Control, When, AtLevel, AtTime, AtClock}
 use Rattle.hyd_spec.specs.PumpPatternsAndSimpleControls.{control_acts}
-use Rattle.hyd_spec_reports.specs.Stops.{is_open_control}
+use Rattle.hyd_spec_certificates.specs.Stops.{is_open_control}
 use Rattle.hyd_spec_certificates.specs.SpansAsIntervals.{levels_of}
 use Rattle.hyd_spec_certificates.specs.declared.LevelSpan.{LevelSpan}
 use Rattle.hyd_controls_and_rules.specs.declared.pump_patterns_and_simple_controls.LevelOpen.{LevelOpen}

@@ -13,7 +13,7 @@ use Rattle.hyd_spec_certificates.specs.PeriodNetwork.{Grid, IsGrid, grid_links}
 use Rattle.hyd_spec_certificates.specs.RecordAndStanding.{initial_standing}
 use Rattle.hyd_spec_certificates.specs.Decided.{links_at, acts_on}
 use Rattle.hyd_spec_certificates.specs.Valid.{DemandsAreInRange}
-use Rattle.hyd_spec_reports.specs.Stops.{IsFirstDemand}
+use Rattle.hyd_spec_certificates.specs.Stops.{IsFirstDemand}
 use Rattle.hyd_theorems_on_definitions.specs.SoundLawsAndGrids.{TanksInOrder}
 use Rattle.hyd_theorems_on_histories.specs.Agreement.{IsOwnState}
 use Rattle.hyd_theorems_on_histories.proofs.AgreementAfterPeriod.{kept_at_start}

@@ -7,7 +7,7 @@ ghost use Rattle.hyd_spec.specs.ProgramTypes.{Closed};
 ghost use Rattle.hyd_spec_certificates.specs.PeriodNetwork.{IsGrid};
 ghost use Rattle.hyd_spec_certificates.specs.RecordAndStanding.{initial_standing};
 ghost use Rattle.hyd_spec_certificates.specs.Valid.{DemandsAreInRange};
-ghost use Rattle.hyd_spec_reports.specs.Stops.{IsFirstDemand};
+ghost use Rattle.hyd_spec_certificates.specs.Stops.{IsFirstDemand};
 ghost use Rattle.hyd_spec_pressure_targets.specs.FirstPeriod.{IsFirstGrid, IsFirstGridWithShut};
 ghost use Rattle.hyd_theorems_on_definitions.specs.SoundLawsAndGrids.{TanksInOrder};
 ghost use Rattle.hyd_period_network.specs.NetAsPeriodNetwork.{grid_of};

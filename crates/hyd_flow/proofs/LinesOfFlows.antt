@@ -15,9 +15,9 @@ use Rattle.hyd_spec_certificates.specs.Interval.{Interval}
 use Rattle.hyd_spec_certificates.specs.PeriodNetwork.{Grid, GridLink}
 use Rattle.hyd_spec_certificates.specs.RecordAndStanding.{Standing}
 use Rattle.hyd_spec_certificates.specs.SpansAsIntervals.{flows_of}
-use Rattle.hyd_spec_reports.specs.Report.{Prints, is_report_time}
+use Rattle.hyd_spec_certificates.specs.PrintedIntervals.{Prints, is_report_time}
 use Rattle.hyd_spec_flows.specs.FlowParts.{NamedLink, FlowPart, JoinsJunctions, flow_interval}
-use Rattle.hyd_spec_flows.specs.FlowLines.{FlowLine, IsFlowLine, AreFlowLines, flow_line_text}
+use Rattle.hyd_spec_reports_with_flows.specs.FlowLines.{FlowLine, IsFlowLine, AreFlowLines, flow_line_text}
 use Rattle.hyd_cert.specs.FlowPartView.{named_of, links_in}
 use Rattle.hyd_cert.specs.declared.named_vectors.NamedVectors.{NamedVectors}
 use Rattle.hyd_report.specs.PrintedIntervals.{printed, in_ten_thousandths}

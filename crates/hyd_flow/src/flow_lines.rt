@@ -11,7 +11,7 @@ ghost use Rattle.hyd_period_network.specs.NetAsPeriodNetwork.{grid_of};
 ghost use Rattle.hyd_spec.specs.Lists.{joined};
 ghost use Rattle.hyd_spec_certificates.specs.RecordAndStanding.{Standing};
 ghost use Rattle.hyd_spec_certificates.specs.declared.Side.{Side};
-ghost use Rattle.hyd_spec_flows.specs.FlowLines.{FlowLine, IsFlowLine, AreFlowLines, flow_line_text};
+ghost use Rattle.hyd_spec_reports_with_flows.specs.FlowLines.{FlowLine, IsFlowLine, AreFlowLines, flow_line_text};
 ghost use Rattle.hyd_spec_flows.specs.FlowParts.{JoinsJunctions, HasItsVector, IsFlowPart};
 ghost use Rattle.hyd_flow.specs.GivenRecords.{IsGiven};
 

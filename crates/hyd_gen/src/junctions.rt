@@ -2,7 +2,7 @@
 
 ghost use Rattle.std.specs.Prelude.{◌≡◌, ◌++◌, map, string_bytes, OnOk};
 ghost use Rattle.std.specs.List.{flat_map};
-ghost use Rattle.hyd_spec_reports.specs.CertificateText.{line};
+ghost use Rattle.hyd_spec_certificates.specs.CertificateText.{line};
 ghost use Rattle.hyd_spec_generated.specs.Sequence.{following, digit_of};
 ghost use Rattle.hyd_spec_generated.specs.GeneratedText.{numbers, junction_with, junction_line};
 

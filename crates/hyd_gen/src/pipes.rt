@@ -2,7 +2,7 @@
 
 ghost use Rattle.std.specs.Prelude.{◌≡◌, ◌<◌, ◌≤◌, ◌^◌, ◌++◌, string_bytes, OnOk};
 ghost use Rattle.std.specs.List.{flat_map};
-ghost use Rattle.hyd_spec_reports.specs.CertificateText.{line};
+ghost use Rattle.hyd_spec_certificates.specs.CertificateText.{line};
 ghost use Rattle.hyd_spec_generated.specs.GeneratedText.{numbers, next_pipe, under_pipe, pipes_from, source_pipes};
 
 use crate::OutOfMemory;

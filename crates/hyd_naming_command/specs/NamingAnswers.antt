@@ -4,7 +4,7 @@ use Rattle.std.specs.Prelude.{◌≡◌, ℕ, suc, ◌⊎◌, List, ⊤, MatchOp
 use Rattle.hyd_io.specs.DeskBytes.{where_told, append_known, file_at}
 use Rattle.hyd_spec.specs.ProgramTypes.{Project}
 use Rattle.hyd_spec_reports.specs.PromisesOfRunsAndChecks.{Outcome, outcome_number}
-use Rattle.hyd_spec_flows.specs.PromisesWithFlows.{RunWritesNaming, RunNamingBreaksOff}
+use Rattle.hyd_spec_reports_with_flows.specs.PromisesWithFlows.{RunWritesNaming, RunNamingBreaksOff}
 use Rattle.hyd_spec_named_links.specs.NamedLinks.{AreLinksOf, MayBeNamed}
 use Rattle.hyd_spec_named_links.specs.RefusedNames.{IsRefusedAt, refused_name_line}
 use Rattle.hyd_spec_named_links.specs.declared.NameFails.{NameFails}

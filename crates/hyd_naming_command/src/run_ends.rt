@@ -11,7 +11,7 @@ use hyd_net::Project;
 use hyd_run::RunEnd;
 use hyd_sentences::Stopped;
 use hyd_sim::Sim;
-use hyd_spec_reports::StopCause;
+use hyd_spec_certificates::StopCause;
 
 /// The status of the end of a run.
 pub fn status_of_end(end: RunEnd) -> Status

@@ -13,10 +13,10 @@ use Rattle.hyd_spec_certificates.specs.Decided.{EndsBy, ByRules, WithoutRules, d
 use Rattle.hyd_spec_certificates.specs.Decided.{inflow_of_tank}
 use Rattle.hyd_spec_certificates.specs.Valid.{LeavesLinks, levels_next, volumes_next, AreStates, ControlsAreDecided}
 use Rattle.hyd_spec_certificates.specs.declared.LevelSpan.{LevelSpan}
-use Rattle.hyd_spec_reports.specs.declared.Event.{Event}
-use Rattle.hyd_spec_reports.specs.Report.{EndBrings, by_rules as brings_by_rules, by_clock as brings_by_clock}
-use Rattle.hyd_spec_reports.specs.Report.{events_of}
-use Rattle.hyd_spec_reports.specs.Stops.{open_states}
+use Rattle.hyd_spec_certificates.specs.declared.Event.{Event}
+use Rattle.hyd_spec_certificates.specs.EndsOfPeriods.{EndBrings, by_rules as brings_by_rules}
+use Rattle.hyd_spec_certificates.specs.EndsOfPeriods.{by_clock as brings_by_clock, events_of}
+use Rattle.hyd_spec_certificates.specs.Stops.{open_states}
 use Rattle.hyd_tank.specs.StockIntervals.{volumes_of}
 use Rattle.hyd_period_facts.specs.declared.facts.Facts.{Facts}
 use Rattle.hyd_controls_and_rules.specs.PumpPatternsAndSimpleControls.{IsFirstOpen as IsFirstUnsure}

@@ -12,8 +12,8 @@ use Rattle.hyd_spec_certificates.specs.PeriodNetwork.{Grid}
 use Rattle.hyd_spec_certificates.specs.RecordAndStanding.{Record, Standing}
 use Rattle.hyd_spec_certificates.specs.Decided.{carried_at}
 use Rattle.hyd_spec_certificates.specs.declared.LevelSpan.{LevelSpan}
-use Rattle.hyd_spec_reports.specs.declared.Event.{Event}
-use Rattle.hyd_spec_reports.specs.Report.{tank_event, tank_events, events_of}
+use Rattle.hyd_spec_certificates.specs.declared.Event.{Event}
+use Rattle.hyd_spec_certificates.specs.EndsOfPeriods.{tank_event, tank_events, events_of}
 use Rattle.hyd_period_end.specs.Events.{events_by}
 use Rattle.hyd_lemmas.proofs.ListsOptionsAndResults.{item_there, present_push}
 

@@ -7,7 +7,7 @@ use Rattle.hyd_spec.specs.Tank.{walls_of}
 use Rattle.hyd_spec_certificates.specs.SpansAsIntervals.{levels_of}
 use Rattle.hyd_spec_certificates.specs.RecordAndStanding.{Standing}
 use Rattle.hyd_spec_certificates.specs.Decided.{links_at}
-use Rattle.hyd_spec_reports.specs.ChangesAtStart.{changes_at}
+use Rattle.hyd_spec_certificates.specs.ChangesAtStart.{changes_at}
 use Rattle.hyd_tank.specs.StockIntervals.{AreHeld, volumes_of}
 use Rattle.hyd_period_facts.specs.ReservedMemory.{HasRoom}
 use Rattle.hyd_period_facts.specs.declared.facts.Facts.{Facts}

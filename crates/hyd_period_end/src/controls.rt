@@ -9,13 +9,12 @@ ghost use Rattle.hyd_spec.specs.Lists.{map_from, present};
 ghost use Rattle.hyd_spec.specs.NodeNumbers.{tank_count};
 ghost use Rattle.hyd_spec_certificates.specs.SpansAsIntervals.{levels_of};
 ghost use Rattle.hyd_spec_certificates.specs.Decided.{acts_on};
-ghost use Rattle.hyd_spec_reports.specs.Report.{control_event};
+ghost use Rattle.hyd_spec_certificates.specs.EndsOfPeriods.{control_event};
 
 use crate::event_list::add_event;
 use hyd_net::{Control, List, Project, When};
 use hyd_period_facts::{control_holds, level_at};
-use hyd_spec_certificates::LevelSpan;
-use hyd_spec_reports::{Event, EventKind};
+use hyd_spec_certificates::{Event, EventKind, LevelSpan};
 
 // Whether a level control holds at the levels of its tank.
 fn acts(levels: &[LevelSpan], tank: u32, above: bool, ticks: i64) -> bool

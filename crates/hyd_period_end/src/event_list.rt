@@ -5,7 +5,7 @@ ghost use Rattle.std.specs.Prelude.{◌≡◌, ◌<◌, ◌≤◌, ◌+◌, ◌+
 ghost use Rattle.hyd_spec.specs.Lists.{present};
 
 use hyd_net::List;
-use hyd_spec_reports::Event;
+use hyd_spec_certificates::Event;
 
 /// Appends an event where there is one, for which there is room.
 pub(crate) fn add_event(events: &mut List<Event>, event: Option<Event>)

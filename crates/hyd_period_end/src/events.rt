@@ -8,15 +8,14 @@ ghost use Rattle.hyd_spec_certificates.specs.SpansAsIntervals.{levels_of};
 ghost use Rattle.hyd_spec_certificates.specs.PeriodNetwork.{Grid};
 ghost use Rattle.hyd_spec_certificates.specs.RecordAndStanding.{Record, Standing};
 ghost use Rattle.hyd_spec_certificates.specs.Decided.{carried_at};
-ghost use Rattle.hyd_spec_reports.specs.Report.{events_of};
+ghost use Rattle.hyd_spec_certificates.specs.EndsOfPeriods.{events_of};
 ghost use Rattle.hyd_period_end.specs.Events.{events_by};
 
 use crate::controls::add_controls;
 use crate::tanks::add_tanks;
 use hyd_net::{List, Project};
 use hyd_spec::TankState;
-use hyd_spec_certificates::LevelSpan;
-use hyd_spec_reports::Event;
+use hyd_spec_certificates::{Event, LevelSpan};
 
 /// Puts what happens at the end of a period: each tank that wasn't full, or wasn't empty, and whose carried levels
 /// all stand at its maximum, or at its minimum; then each level control that didn't hold at the start and holds at

@@ -6,7 +6,7 @@ ghost use Rattle.hyd_net.specs.Sound.{IsSound};
 ghost use Rattle.hyd_spec.specs.NodeNumbers.{tank_count};
 ghost use Rattle.hyd_spec_certificates.specs.PeriodNetwork.{Grid};
 ghost use Rattle.hyd_spec_certificates.specs.RecordAndStanding.{Record, Standing};
-ghost use Rattle.hyd_spec_reports.specs.Report.{events_of};
+ghost use Rattle.hyd_spec_certificates.specs.EndsOfPeriods.{events_of};
 ghost use Rattle.hyd_period_facts.specs.ReservedMemory.{Takes};
 ghost use Rattle.hyd_period_facts.specs.FactsBeforeEnd.{AreStarted, HaveTanks};
 

@@ -9,13 +9,12 @@ ghost use Rattle.hyd_spec.specs.Lists.{present};
 ghost use Rattle.hyd_spec.specs.NodeNumbers.{tank_count};
 ghost use Rattle.hyd_spec_certificates.specs.SpansAsIntervals.{levels_of};
 ghost use Rattle.hyd_spec_certificates.specs.declared.LevelSpan.{LevelSpan as Levels};
-ghost use Rattle.hyd_spec_reports.specs.Report.{tank_event, tank_events};
+ghost use Rattle.hyd_spec_certificates.specs.EndsOfPeriods.{tank_event, tank_events};
 
 use crate::event_list::add_event;
 use hyd_net::{List, Project, Tank};
 use hyd_spec::TankState;
-use hyd_spec_certificates::LevelSpan;
-use hyd_spec_reports::{Event, EventKind};
+use hyd_spec_certificates::{Event, EventKind, LevelSpan};
 
 // What a tank that was in this state reaches at its carried levels.
 fn tank_event(tank: u32, here: &Tank, state: TankState, level: LevelSpan) -> Option<Event>

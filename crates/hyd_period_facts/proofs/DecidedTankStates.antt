@@ -13,7 +13,7 @@ use Rattle.hyd_spec_certificates.specs.Interval.{Interval}
 use Rattle.hyd_spec_certificates.specs.Stocks.{state_of}
 use Rattle.hyd_spec_certificates.specs.Decided.{nowhere}
 use Rattle.hyd_spec_certificates.specs.Valid.{AreStates}
-use Rattle.hyd_spec_reports.specs.Stops.{open_states}
+use Rattle.hyd_spec_certificates.specs.Stops.{open_states}
 use Rattle.hyd_tank.specs.StockIntervals.{IsTankOfRange}
 use Rattle.hyd_lemmas.proofs.ListsOptionsAndResults.{item_is, item_there, as_long}
 use Rattle.hyd_controls_and_rules.proofs.FirstPassingPlace as places

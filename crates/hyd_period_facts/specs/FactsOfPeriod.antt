@@ -8,8 +8,8 @@ use Rattle.hyd_spec_certificates.specs.SpansAsIntervals.{levels_of, flows_of}
 use Rattle.hyd_spec_certificates.specs.PeriodNetwork.{Grid}
 use Rattle.hyd_spec_certificates.specs.RecordAndStanding.{Record, Standing}
 use Rattle.hyd_spec_certificates.specs.Decided.{inflow_of_tank, links_at}
-use Rattle.hyd_spec_reports.specs.Report.{EndBrings}
-use Rattle.hyd_spec_reports.specs.ChangesAtStart.{changes_at}
+use Rattle.hyd_spec_certificates.specs.EndsOfPeriods.{EndBrings}
+use Rattle.hyd_spec_certificates.specs.ChangesAtStart.{changes_at}
 use Rattle.hyd_tank.specs.StockIntervals.{volumes_of}
 use Rattle.hyd_period_facts.specs.declared.facts.Facts.{Facts}
 

@@ -8,7 +8,7 @@ use Rattle.hyd_spec_certificates.specs.Interval.{Interval}
 use Rattle.hyd_spec_certificates.specs.Stocks.{Stocks, next_stocks}
 use Rattle.hyd_spec_certificates.specs.Decided.{nowhere}
 use Rattle.hyd_spec_certificates.specs.declared.LevelSpan.{LevelSpan}
-use Rattle.hyd_spec_reports.specs.Stops.{open_states}
+use Rattle.hyd_spec_certificates.specs.Stops.{open_states}
 use Rattle.hyd_tank.specs.StockIntervals.{volumes_of}
 use Rattle.hyd_tank.specs.declared.stock_intervals.VolumeSpan.{VolumeSpan}
 use Rattle.hyd_period_facts.specs.declared.facts.Facts.{Facts}

@@ -7,8 +7,7 @@ use hyd_controls_and_rules::Changes;
 use hyd_net::{LinkState, List, Project};
 use hyd_num::Span;
 use hyd_spec::TankState;
-use hyd_spec_certificates::LevelSpan;
-use hyd_spec_reports::Event;
+use hyd_spec_certificates::{Event, LevelSpan};
 use hyd_tank::VolumeSpan;
 use std::alloc::{AllocError as OutOfMemory, Global};
 

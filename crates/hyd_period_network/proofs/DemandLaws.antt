@@ -15,7 +15,7 @@ use Rattle.hyd_spec.specs.DemandsHeadsAndPumpLifts.{is_us, demand_of, pressure_v
 use Rattle.hyd_spec.specs.Outflow.{is_pressure_driven}
 use Rattle.hyd_spec_certificates.specs.EnclosingFunctions.{Driven}
 use Rattle.hyd_spec_certificates.specs.Valid.{DemandsAreInRange}
-use Rattle.hyd_spec_reports.specs.Stops.{IsFirstDemand}
+use Rattle.hyd_spec_certificates.specs.Stops.{IsFirstDemand}
 use Rattle.hyd_lemmas.proofs.ListsOptionsAndResults.{any_default}
 use Rattle.hyd_theorems_on_definitions.proofs.EachLaw.{IsSoundCapacity-made}
 use Rattle.hyd_demands_and_reservoir_heads.specs.DemandsAndHeadsByNumber.{junction_demand}

@@ -27,7 +27,7 @@ use Rattle.hyd_period_network.proofs.GridJunctionsAndLinks.{links_count, junctio
 use Rattle.hyd_period_network.proofs.SetNetIsGrid.{own_are}
 use Rattle.hyd_period_network.proofs.DemandLawsInGrid.{demand_low_is, demand_high_is}
 use Rattle.hyd_period_network.proofs.NetItemsInGrid.{law_at, own_at, demand_at, all_at}
-use Rattle.hyd_theorems_on_definitions.proofs.OneRun.{same_grid}
+use Rattle.hyd_theorems_on_definitions.proofs.OneGrid.{same_grid}
 
 -- two laws that stand for one exact law
 alike : (x y : LinkLaw) (exact : Law) → Stands x exact → Stands y exact → PassAlike x y

@@ -5,7 +5,7 @@ ghost use Rattle.std.specs.Prelude.{◌≡◌, ◌⊎◌, ◌<◌, ◌≤◌, �
 ghost use Rattle.hyd_net.specs.NetworkRanges.{HasOptions};
 ghost use Rattle.hyd_net.specs.Sound.{IsSound};
 ghost use Rattle.hyd_spec_certificates.specs.Valid.{DemandsAreInRange};
-ghost use Rattle.hyd_spec_reports.specs.Stops.{IsFirstDemand};
+ghost use Rattle.hyd_spec_certificates.specs.Stops.{IsFirstDemand};
 ghost use Rattle.hyd_demands_and_reservoir_heads.specs.DemandsAndHeadsByNumber.{junction_demand, IsInRange};
 ghost use Rattle.hyd_demands_and_reservoir_heads.specs.DemandsAndHeadsByNumber.{IsOutOfRange};
 ghost use Rattle.hyd_period_network.specs.Demands.{demand_held, IsOutLawOf, IsHeld, AreHeld, AreDemandsAt};

@@ -6,7 +6,7 @@ ghost use Rattle.hyd_net.specs.Sound.{IsSound};
 ghost use Rattle.hyd_spec_certificates.specs.SpansAsIntervals.{levels_of};
 ghost use Rattle.hyd_spec_certificates.specs.PeriodNetwork.{IsGrid};
 ghost use Rattle.hyd_spec_certificates.specs.Valid.{DemandsAreInRange};
-ghost use Rattle.hyd_spec_reports.specs.Stops.{IsFirstDemand};
+ghost use Rattle.hyd_spec_certificates.specs.Stops.{IsFirstDemand};
 ghost use Rattle.hyd_period_network.specs.LawsInSettings.{AreStates};
 ghost use Rattle.hyd_period_network.specs.NetAsPeriodNetwork.{grid_of, states_of, own_laws};
 ghost use Rattle.hyd_period_network.specs.NetsSetToPeriods.{IsNetOf, IsFresh, AreLevels, AreShut, own_laws_of};

@@ -11,7 +11,7 @@ use Rattle.hyd_spec_certificates.specs.Certificate.{box_limit, IsInBox}
 use Rattle.hyd_spec_certificates.specs.StartsRaisesAndLeaps.{LiesBeyond, IsStart}
 use Rattle.hyd_theorems_on_definitions.specs.SoundLawsAndGrids.{IsSteady}
 use Rattle.hyd_theorems_on_definitions.specs.Sides.{along}
-use Rattle.hyd_spec_reports.specs.TurnsOfProblems.{beginning}
+use Rattle.hyd_spec_certificates.specs.TurnsOfProblems.{beginning}
 use Rattle.hyd_theorems_on_raises.proofs.WhereOneLiesBeyondByMost.{is-beyond}
 use Rattle.hyd_theorems_on_raises.proofs.RaisesAndTightVector.{along-floor}
 use Rattle.hyd_theorems_on_raises.proofs.RaisesInAnyOrder.{spent-nearer}

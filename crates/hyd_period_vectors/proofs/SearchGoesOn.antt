@@ -6,7 +6,7 @@ use Rattle.hyd_spec_certificates.specs.declared.Problem.TheVariants.{Main, Pinne
 use Rattle.hyd_spec_certificates.specs.declared.Side.TheVariants.{Upper, Lower}
 use Rattle.hyd_spec_certificates.specs.PeriodNetwork.{Grid}
 use Rattle.hyd_spec_certificates.specs.RecordAndStanding.{Record}
-use Rattle.hyd_spec_reports.specs.TurnsOfProblems.{turn}
+use Rattle.hyd_spec_certificates.specs.TurnsOfProblems.{turn}
 use Rattle.hyd_period_vectors.specs.SizeOfSearch.{Room}
 use Rattle.hyd_period_vectors.specs.SoughtVectors.{Comes, EachBefore}
 

@@ -6,7 +6,7 @@ use Rattle.hyd_spec_certificates.specs.declared.Problem.TheVariants.{Main, Pinne
 use Rattle.hyd_spec_certificates.specs.declared.Side.{Side}
 use Rattle.hyd_spec_certificates.specs.declared.Side.TheVariants.{Upper, Lower}
 use Rattle.hyd_spec_certificates.specs.RecordAndStanding.{Record, vector_of}
-use Rattle.hyd_spec_reports.specs.TurnsOfProblems.{turn}
+use Rattle.hyd_spec_certificates.specs.TurnsOfProblems.{turn}
 use Rattle.hyd_cert.specs.RecordView.{IsProblemOf}
 use Rattle.hyd_cert.specs.VectorsOfRecord.{place_in}
 use Rattle.hyd_period_vectors.specs.SoughtVectors.{EachBefore, OfEach}

@@ -7,7 +7,7 @@ use Rattle.hyd_spec_certificates.specs.declared.Problem.TheVariants.{Main}
 use Rattle.hyd_spec_certificates.specs.PeriodNetwork.{Grid, opposite}
 use Rattle.hyd_spec_certificates.specs.Certificate.{IsInBox, IsCertificate, AreRounds, IsTight}
 use Rattle.hyd_spec_certificates.specs.RecordAndStanding.{Record, vector_of}
-use Rattle.hyd_spec_reports.specs.TurnsOfProblems.{beginning, turn}
+use Rattle.hyd_spec_certificates.specs.TurnsOfProblems.{beginning, turn}
 use Rattle.hyd_cert.specs.RecordView.{header_of, IsProblemOf}
 use Rattle.hyd_cert.specs.Lines.{Header}
 use Rattle.hyd_cert.specs.declared.record.Record.{Record as Row}

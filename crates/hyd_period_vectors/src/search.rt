@@ -3,7 +3,7 @@
 
 ghost use Rattle.std.specs.Prelude.{◌≡◌, ◌+◌, length, IfOk, IfErr, OnOk};
 ghost use Rattle.hyd_spec_certificates.specs.declared.Side.TheVariants.{Upper};
-ghost use Rattle.hyd_spec_reports.specs.TurnsOfProblems.{turn};
+ghost use Rattle.hyd_spec_certificates.specs.TurnsOfProblems.{turn};
 ghost use Rattle.hyd_cert.specs.RecordView.{header_of, row_of};
 ghost use Rattle.hyd_period_network.specs.NetAsPeriodNetwork.{grid_of};
 ghost use Rattle.hyd_period_network.specs.SoundNets.{HasProblem};

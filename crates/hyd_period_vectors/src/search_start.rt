@@ -9,7 +9,7 @@ ghost use Rattle.hyd_spec_certificates.specs.declared.Problem.TheVariants.{Main}
 ghost use Rattle.hyd_spec_certificates.specs.PeriodNetwork.{opposite};
 ghost use Rattle.hyd_spec_certificates.specs.Certificate.{IsInBox};
 ghost use Rattle.hyd_spec_certificates.specs.StartsRaisesAndLeaps.{IsStart};
-ghost use Rattle.hyd_spec_reports.specs.TurnsOfProblems.{turn};
+ghost use Rattle.hyd_spec_certificates.specs.TurnsOfProblems.{turn};
 ghost use Rattle.hyd_cert.specs.RecordView.{header_of, row_of};
 ghost use Rattle.hyd_period_network.specs.NetAsPeriodNetwork.{grid_of};
 ghost use Rattle.hyd_period_network.specs.SoundNets.{HasProblem};

@@ -13,9 +13,9 @@ use Rattle.hyd_spec_certificates.specs.PeriodNetwork.{Grid}
 use Rattle.hyd_spec_certificates.specs.RecordAndStanding.{Record, Standing}
 use Rattle.hyd_spec_certificates.specs.ThreeValuedLogic.{is_yes}
 use Rattle.hyd_spec_certificates.specs.Decided.{acts_on, links_at, rule_truths}
-use Rattle.hyd_spec_reports.specs.declared.Event.{Event}
-use Rattle.hyd_spec_reports.specs.Report.{EndBrings, at_end, by_rules, by_clock}
-use Rattle.hyd_spec_reports.specs.ChangesAtStart.{control_changes, changes_at}
+use Rattle.hyd_spec_certificates.specs.declared.Event.{Event}
+use Rattle.hyd_spec_certificates.specs.EndsOfPeriods.{EndBrings, at_end, by_rules, by_clock}
+use Rattle.hyd_spec_certificates.specs.ChangesAtStart.{control_changes, changes_at}
 use Rattle.hyd_report.specs.EventTextsAndChangesByRules.{is_by_rule, before_rules}
 
 -- one that isn't by a rule is counted

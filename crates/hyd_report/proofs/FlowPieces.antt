@@ -1,7 +1,7 @@
 -- The pieces of a line that refuses a part of a certificate are that line.
 use Rattle.std.proofs.Common.{◌≡◌, ℕ, List, [], ◌∷◌, codes, append_assoc, refl}
 use Rattle.hyd_spec.specs.Lists.{joined}
-use Rattle.hyd_spec_reports.specs.CertificateText.{line}
+use Rattle.hyd_spec_certificates.specs.CertificateText.{line}
 
 name_text : (period link : List ℕ)
     → joined (codes "BADCERT period " ∷ (period ∷ (codes " FLOW " ∷ (link ∷ (codes " NAME" ∷ (codes "\n" ∷ []))))))

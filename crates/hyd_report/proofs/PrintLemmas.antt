@@ -8,7 +8,7 @@ use Rattle.hyd_units.proofs.FloorsAndCeilings.{IsFloor-floor, IsCeiling-ceiling}
 use Rattle.hyd_spec.specs.ProgramTypes.{Project}
 use Rattle.hyd_spec.specs.DemandsHeadsAndPumpLifts.{is_us}
 use Rattle.hyd_spec_certificates.specs.Interval.{Interval}
-use Rattle.hyd_spec_reports.specs.Report.{Prints}
+use Rattle.hyd_spec_certificates.specs.PrintedIntervals.{Prints}
 use Rattle.hyd_report.specs.PrintedIntervals.{in_ten_thousandths, printed, quantity_in}
 use Rattle.hyd_report.specs.declared.printed_intervals.Quantity.{Quantity}
 use Rattle.hyd_report.specs.declared.printed_intervals.Quantity.TheVariants.{Head, Pressure, Flow}

@@ -18,11 +18,13 @@ use Rattle.hyd_spec_certificates.specs.FlowIntervals.{difference, flow_box}
 use Rattle.hyd_spec_certificates.specs.RecordAndStanding.{Record, Standing}
 use Rattle.hyd_spec_certificates.specs.Decided.{heads_below, heads_above, nowhere, inflow_of_tank, level_of_tank}
 use Rattle.hyd_spec_reports.specs.ReportLine.{ReportLine, TimeLine, LinkLine}
-use Rattle.hyd_spec_reports.specs.Report.{Prints, LineEach, IsJunctionLine, IsReservoirLine, IsTankLine, IsLinkLine}
-use Rattle.hyd_spec_reports.specs.Report.{AreStateLines, AreEndLines, IsReport, is_report_time, event_line}
-use Rattle.hyd_spec_reports.specs.ChangesAtStart.{change_line}
-use Rattle.hyd_spec_reports.specs.Report.{status_of}
-use Rattle.hyd_spec_reports.specs.ChangesAtStart.{changes_at}
+use Rattle.hyd_spec_certificates.specs.PrintedIntervals.{Prints}
+use Rattle.hyd_spec_reports.specs.Report.{LineEach, IsJunctionLine, IsReservoirLine, IsTankLine, IsLinkLine}
+use Rattle.hyd_spec_reports.specs.Report.{AreStateLines, AreEndLines, IsReport, event_line}
+use Rattle.hyd_spec_certificates.specs.PrintedIntervals.{is_report_time}
+use Rattle.hyd_spec_reports.specs.Report.{change_line}
+use Rattle.hyd_spec_certificates.specs.StatusesOfLinks.{status_of}
+use Rattle.hyd_spec_certificates.specs.ChangesAtStart.{changes_at}
 use Rattle.hyd_period_facts.specs.declared.facts.Facts.{Facts}
 use Rattle.hyd_period_facts.specs.FactsOfPeriod.{AreFacts}
 use Rattle.hyd_report.specs.PrintedIntervals.{printed, quantity_in}

@@ -13,8 +13,8 @@ use Rattle.hyd_spec.specs.DemandsHeadsAndPumpLifts.{is_us}
 use Rattle.hyd_spec.specs.Rules.{state_of_link}
 use Rattle.hyd_spec_certificates.specs.PeriodNetwork.{GridLink}
 use Rattle.hyd_spec_certificates.specs.FlowIntervals.{difference}
-use Rattle.hyd_spec_reports.specs.Report.{status_of}
-use Rattle.hyd_spec_reports.specs.declared.StatusWord.{StatusWord}
+use Rattle.hyd_spec_certificates.specs.StatusesOfLinks.{status_of}
+use Rattle.hyd_spec_certificates.specs.declared.StatusWord.{StatusWord}
 use Rattle.hyd_law.specs.declared.link_law_kinds.LinkLaw.{LinkLaw}
 use Rattle.hyd_period_network.specs.declared.junctions_ends_and_settings.Setting.{Setting}
 use Rattle.hyd_period_network.specs.ExactLaw.{exact_law}

@@ -3,17 +3,18 @@ use Rattle.std.proofs.Common.{◌≡◌, ℕ, ◌<◌, length, arith, List, [], 
 use Rattle.std.specs.Fmt.{decimal}
 use Rattle.hyd_spec.specs.ProgramTypes.{Project}
 use Rattle.hyd_spec.specs.Lists.{joined}
-use Rattle.hyd_spec_reports.specs.CertificateText.{words, line}
+use Rattle.hyd_spec_certificates.specs.CertificateText.{words, line}
 use Rattle.hyd_spec_reports.specs.ReportLine.{clock_text, cause_words, stop_line, refusal_words, refused_line}
-use Rattle.hyd_spec_reports.specs.ReportLine.{refused_period}
-use Rattle.hyd_spec_reports.specs.Stops.{period_of}
-use Rattle.hyd_spec_reports.specs.declared.StopCause.{StopCause}
-use Rattle.hyd_spec_reports.specs.declared.StopCause.TheVariants.{Demand as DemandOutOfRange, NoCertificate}
-use Rattle.hyd_spec_reports.specs.declared.StopCause.TheVariants.{RoundsSpent, RuleOpen, EventOpen, TankOpen}
-use Rattle.hyd_spec_reports.specs.declared.StopCause.TheVariants.{ControlOpen}
-use Rattle.hyd_spec_reports.specs.declared.CertRefused.{CertRefused}
-use Rattle.hyd_spec_reports.specs.declared.CertRefused.TheVariants.{Place, Demand, Fails, Open as MatterOpen, Length}
-use Rattle.hyd_spec_reports.specs.declared.CertRefused.TheVariants.{After}
+use Rattle.hyd_spec_certificates.specs.RefusedRecords.{refused_period}
+use Rattle.hyd_spec_certificates.specs.Stops.{period_of}
+use Rattle.hyd_spec_certificates.specs.declared.StopCause.{StopCause}
+use Rattle.hyd_spec_certificates.specs.declared.StopCause.TheVariants.{Demand as DemandOutOfRange, NoCertificate}
+use Rattle.hyd_spec_certificates.specs.declared.StopCause.TheVariants.{RoundsSpent, RuleOpen, EventOpen, TankOpen}
+use Rattle.hyd_spec_certificates.specs.declared.StopCause.TheVariants.{ControlOpen}
+use Rattle.hyd_spec_certificates.specs.declared.CertRefused.{CertRefused}
+use Rattle.hyd_spec_certificates.specs.declared.CertRefused.TheVariants.{Place, Demand, Fails, Open as MatterOpen}
+use Rattle.hyd_spec_certificates.specs.declared.CertRefused.TheVariants.{Length}
+use Rattle.hyd_spec_certificates.specs.declared.CertRefused.TheVariants.{After}
 
 -- three pieces, the second one in other words
 pub three_pieces : (a b c front id : List ℕ) → a ≡ front → b ≡ id → joined (a ∷ (b ∷ (c ∷ []))) ≡ front ++ (id ++

@@ -4,8 +4,8 @@ use Rattle.std.specs.Fmt.{decimal}
 use Rattle.hyd_spec.specs.declared.Change.{Change}
 use Rattle.hyd_spec.specs.declared.Source.{Source}
 use Rattle.hyd_spec.specs.declared.Source.TheVariants.{Control as ByControl, Rule as ByRule}
-use Rattle.hyd_spec_reports.specs.declared.EventKind.{EventKind}
-use Rattle.hyd_spec_reports.specs.declared.EventKind.TheVariants.{Full, Empty, Control}
+use Rattle.hyd_spec_certificates.specs.declared.EventKind.{EventKind}
+use Rattle.hyd_spec_certificates.specs.declared.EventKind.TheVariants.{Full, Empty, Control}
 
 -- what a tank reached: its maximum, its minimum, or the level of a control
 abbrev pub event_text : EventKind → List ℕ

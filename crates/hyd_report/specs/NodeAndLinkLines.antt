@@ -16,7 +16,7 @@ use Rattle.hyd_spec_certificates.specs.Decided.{nowhere}
 use Rattle.hyd_spec_certificates.specs.Interval.{Interval, exactly, shifted}
 use Rattle.hyd_spec_certificates.specs.PeriodNetwork.{Grid, GridLink, GridJunction}
 use Rattle.hyd_spec_certificates.specs.FlowIntervals.{difference, flow_box, out_box}
-use Rattle.hyd_spec_reports.specs.Report.{status_of}
+use Rattle.hyd_spec_certificates.specs.StatusesOfLinks.{status_of}
 use Rattle.hyd_spec_reports.specs.ReportLine.{ReportLine, JunctionLine, ReservoirLine, TankLine, LinkLine, line_text}
 use Rattle.hyd_report.specs.PrintedIntervals.{printed, quantity_in}
 use Rattle.hyd_report.specs.declared.printed_intervals.Quantity.TheVariants.{Head, Pressure, Flow}

@@ -6,8 +6,9 @@ use Rattle.hyd_spec.specs.NodeNumbers.{tank_count}
 use Rattle.hyd_spec_certificates.specs.PeriodNetwork.{Grid}
 use Rattle.hyd_spec_certificates.specs.RecordAndStanding.{Record}
 use Rattle.hyd_spec_certificates.specs.Decided.{heads_below, heads_above}
-use Rattle.hyd_spec_reports.specs.Report.{is_report_time, event_line}
-use Rattle.hyd_spec_reports.specs.ChangesAtStart.{change_line}
+use Rattle.hyd_spec_certificates.specs.PrintedIntervals.{is_report_time}
+use Rattle.hyd_spec_reports.specs.Report.{event_line}
+use Rattle.hyd_spec_reports.specs.Report.{change_line}
 use Rattle.hyd_spec_reports.specs.ReportLine.{ReportLine, TimeLine}
 use Rattle.hyd_period_network.specs.NetView.{NetView}
 use Rattle.hyd_period_network.specs.NetAsPeriodNetwork.{grid_of}

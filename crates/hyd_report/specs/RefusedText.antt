@@ -5,7 +5,7 @@ use Rattle.hyd_net.specs.declared.refusal_cause.Cause.{Cause}
 use Rattle.hyd_net.specs.declared.refusal_cause.Cause.TheVariants.{Syntax, Number, Range, DuplicateId, UnknownName}
 use Rattle.hyd_net.specs.declared.refusal_cause.Cause.TheVariants.{Unsupported}
 use Rattle.hyd_net.specs.declared.refusal_cause.Cause.TheVariants.{Limit, Missing}
-use Rattle.hyd_spec_reports.specs.CertificateText.{line}
+use Rattle.hyd_spec_certificates.specs.CertificateText.{line}
 
 -- the number of a cause
 abbrev pub cause_number : Cause → ℕ

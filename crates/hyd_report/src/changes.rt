@@ -2,7 +2,7 @@
 
 ghost use Rattle.std.specs.Prelude.{◌≡◌, ◌≤◌, length, map, IsTrue, None};
 ghost use Rattle.hyd_spec.specs.Lists.{joined};
-ghost use Rattle.hyd_spec_reports.specs.ChangesAtStart.{change_line};
+ghost use Rattle.hyd_spec_reports.specs.Report.{change_line};
 ghost use Rattle.hyd_report.specs.EventTextsAndChangesByRules.{is_by_rule, before_rules};
 ghost use Rattle.hyd_io.specs.Output.{OnCert};
 ghost use Rattle.hyd_net.specs.Sound.{IsSound};

@@ -15,7 +15,7 @@ use crate::numbers_times_and_settings::{clock, number};
 use crate::short_text::Text;
 use hyd_io::{Desk, OutFault, Pen};
 use hyd_net::Project;
-use hyd_spec_reports::{Event, EventKind};
+use hyd_spec_certificates::{Event, EventKind};
 
 /// What a tank reached.
 fn event_text(what: EventKind) -> Text

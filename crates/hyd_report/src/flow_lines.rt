@@ -7,9 +7,9 @@ ghost use Rattle.hyd_net.specs.Sound.{IsSound};
 ghost use Rattle.hyd_num.specs.PrintedDecimals.{flow_quantity};
 ghost use Rattle.hyd_spec_certificates.specs.Interval.{Interval};
 ghost use Rattle.hyd_spec_certificates.specs.SpansAsIntervals.{flows_of};
-ghost use Rattle.hyd_spec_reports.specs.Report.{Prints};
+ghost use Rattle.hyd_spec_certificates.specs.PrintedIntervals.{Prints};
 ghost use Rattle.hyd_spec.specs.ProgramTypes.{Project};
-ghost use Rattle.hyd_spec_flows.specs.FlowLines.{flow_line_text, refused_flow_line};
+ghost use Rattle.hyd_spec_reports_with_flows.specs.FlowLines.{flow_line_text, refused_flow_line};
 ghost use Rattle.hyd_spec_flows.specs.declared.FlowFails.TheVariants.{Name, Vector};
 ghost use Rattle.hyd_report.specs.PrintedIntervals.{ArePrinted};
 

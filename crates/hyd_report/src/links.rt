@@ -25,7 +25,7 @@ use hyd_bounds::{flow_box, status_of};
 use hyd_io::{Desk, OutFault, Pen};
 use hyd_net::Project;
 use hyd_period_network::Net;
-use hyd_spec_reports::StatusWord;
+use hyd_spec_certificates::StatusWord;
 
 /// Puts the line of a link by its printed flow and its status.
 fn put_parts<D: Desk>(

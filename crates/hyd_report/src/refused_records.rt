@@ -3,8 +3,9 @@
 ghost use Rattle.std.specs.Prelude.{◌≡◌, ◌++◌, codes, IsTrue};
 ghost use Rattle.hyd_io.specs.Output.{OnCert};
 ghost use Rattle.hyd_net.specs.Sound.{IsSound};
-ghost use Rattle.hyd_spec_reports.specs.CertificateText.{words};
-ghost use Rattle.hyd_spec_reports.specs.ReportLine.{refused_period, refusal_words, refused_line};
+ghost use Rattle.hyd_spec_certificates.specs.CertificateText.{words};
+ghost use Rattle.hyd_spec_certificates.specs.RefusedRecords.{refused_period};
+ghost use Rattle.hyd_spec_reports.specs.ReportLine.{refusal_words, refused_line};
 ghost use Rattle.hyd_io.specs.TextPutIn.{Puts};
 
 use crate::line_pieces::put_pieces;
@@ -12,7 +13,7 @@ use crate::numbers_times_and_settings::number;
 use crate::stops::put_failing;
 use hyd_io::{Desk, OutFault, Pen};
 use hyd_net::Project;
-use hyd_spec_reports::CertRefused;
+use hyd_spec_certificates::CertRefused;
 
 /// Puts the words of a refusal.
 fn put_refusal<D: Desk>(

@@ -2,7 +2,7 @@
 
 ghost use Rattle.std.specs.Prelude.{◌≡◌, IsTrue};
 ghost use Rattle.hyd_net.specs.Sound.{IsSound};
-ghost use Rattle.hyd_spec_reports.specs.Report.{is_report_time};
+ghost use Rattle.hyd_spec_certificates.specs.PrintedIntervals.{is_report_time};
 ghost use Rattle.hyd_io.specs.Output.{OnCert};
 ghost use Rattle.hyd_spec.specs.ProgramTypes.{Project};
 ghost use Rattle.hyd_spec_reports.specs.ReportLine.{TimeLine, line_text};

@@ -2,15 +2,14 @@
 
 ghost use Rattle.std.specs.Prelude.{◌≡◌, ◌≤◌, ◌++◌, length, codes};
 ghost use Rattle.hyd_num.specs.PrintedDecimals.{setting_text};
-ghost use Rattle.hyd_spec_reports.specs.CertificateText.{words};
+ghost use Rattle.hyd_spec_certificates.specs.CertificateText.{words};
 ghost use Rattle.hyd_spec_reports.specs.ReportLine.{state_words, tank_word, status_text, side_word};
 
 use crate::numbers_times_and_settings::push_setting;
 use crate::short_text::Text;
 use hyd_net::LinkState;
 use hyd_spec::TankState;
-use hyd_spec_certificates::Side;
-use hyd_spec_reports::StatusWord;
+use hyd_spec_certificates::{Side, StatusWord};
 use hyd_units::BUFFER_SIZE;
 
 /// SETTING and a number of billionths.

@@ -3,9 +3,9 @@
 ghost use Rattle.std.specs.Prelude.{◌≡◌, ◌+◌, ◌++◌, [], ◌∷◌, codes, decimal, IsTrue};
 ghost use Rattle.hyd_io.specs.Output.{OnCert};
 ghost use Rattle.hyd_net.specs.Sound.{IsSound};
-ghost use Rattle.hyd_spec_reports.specs.CertificateText.{words};
+ghost use Rattle.hyd_spec_certificates.specs.CertificateText.{words};
 ghost use Rattle.hyd_spec_reports.specs.ReportLine.{node_id, rule_id, problem_words, side_word, cause_words, stop_line};
-ghost use Rattle.hyd_spec_reports.specs.Stops.{period_of};
+ghost use Rattle.hyd_spec_certificates.specs.Stops.{period_of};
 ghost use Rattle.std.specs.Fmt.{signed_decimal};
 ghost use Rattle.hyd_io.specs.TextPutIn.{Puts};
 
@@ -15,8 +15,7 @@ use crate::numbers_times_and_settings::{clock, number, signed};
 use crate::states::side_word;
 use hyd_io::{Desk, OutFault, Pen};
 use hyd_net::Project;
-use hyd_spec_certificates::{Problem, Side};
-use hyd_spec_reports::StopCause;
+use hyd_spec_certificates::{Problem, Side, StopCause};
 
 /// Puts the words of a problem and a side.
 fn put_problem<D: Desk>(

@@ -14,7 +14,7 @@ use Rattle.hyd_spec_certificates.specs.PeriodNetwork.{Grid}
 use Rattle.hyd_spec_certificates.specs.Certificate.{IsCertificate}
 use Rattle.hyd_spec_certificates.specs.RecordAndStanding.{Record, Standing, Vectors, no_vectors}
 use Rattle.hyd_spec_certificates.specs.Valid.{AreCertificates, IsValid, LeadsOn, continues, finishes}
-use Rattle.hyd_spec_reports.specs.CertificateText.{IsRow, IsVector as IsRowVector}
+use Rattle.hyd_spec_certificates.specs.CertificateText.{IsRow, IsVector as IsRowVector}
 use Rattle.hyd_theorems_on_definitions.specs.SoundLawsAndGrids.{IsSteady, TanksInOrder}
 use Rattle.hyd_theorems_on_definitions.proofs.HeadLists.{fixed-in-order, ends-in-order}
 use Rattle.hyd_theorems_on_definitions.proofs.TwoSides.{heads_below_plus}

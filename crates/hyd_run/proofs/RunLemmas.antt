@@ -8,16 +8,16 @@ use Rattle.hyd_spec.specs.ProgramTypes.{Project}
 use Rattle.hyd_spec.specs.Lists.{joined}
 use Rattle.hyd_spec.specs.NodeNumbers.{junction_count, tank_count}
 use Rattle.hyd_spec_certificates.specs.RecordAndStanding.{Standing, initial_standing}
-use Rattle.hyd_spec_reports.specs.CertificateText.{IsRow, IsCertificateText, record_text, end_line, header_line}
-use Rattle.hyd_spec_reports.specs.CertificateText.{version_of}
+use Rattle.hyd_spec_certificates.specs.CertificateText.{IsRow, IsCertificateText, record_text, end_line, header_line}
+use Rattle.hyd_spec_certificates.specs.CertificateText.{version_of}
 use Rattle.hyd_spec_reports.specs.ReportLine.{line_text}
 use Rattle.hyd_spec_reports.specs.PromisesOfRunsAndChecks.{Found, IsRun, IsRunFrom, Sharpness, IsSharpFound, Outcome}
 use Rattle.hyd_spec_reports.specs.PromisesOfRunsAndChecks.{EndsSo, rows_of, lines_of, last_line, is_finished}
 use Rattle.hyd_spec_reports.specs.PromisesOfRunsAndChecks.{certificate_so_far, report_so_far}
 use Rattle.std.proofs.lemmas.List.{map-append}
 use Rattle.hyd_lemmas.proofs.ListsOptionsAndResults.{join-append, join-more, all-more}
-use Rattle.hyd_theorems_on_definitions.proofs.OnePeriodMore.{run_more}
-use Rattle.hyd_theorems_on_histories.proofs.HistoriesAlongRuns.{every_history}
+use Rattle.hyd_theorems_on_runs.proofs.OnePeriodMore.{run_more}
+use Rattle.hyd_theorems_on_runs.proofs.HistoriesAlongRuns.{every_history}
 use Rattle.hyd_cert.specs.Lines.{Header, header_words}
 use Rattle.hyd_cert.proofs.HeadLemmas.{header_is}
 use Rattle.hyd_cert.proofs.CertificatesLineByLine.{whole_reading}

@@ -4,8 +4,8 @@ use Rattle.std.specs.Prelude.{IfSome}
 use Rattle.hyd_spec.specs.ProgramTypes.{Project}
 use Rattle.hyd_spec_certificates.specs.RecordAndStanding.{Standing}
 use Rattle.hyd_spec_reports.specs.PromisesOfRunsAndChecks.{Found, EndsSo, Finished, Stopped}
-use Rattle.hyd_spec_reports.specs.Stops.{Stops}
-use Rattle.hyd_spec_reports.specs.declared.StopCause.{StopCause}
+use Rattle.hyd_spec_certificates.specs.Stops.{Stops}
+use Rattle.hyd_spec_certificates.specs.declared.StopCause.{StopCause}
 use Rattle.hyd_cert.specs.RecordView.{row_of}
 use Rattle.hyd_period_network.specs.NetAsPeriodNetwork.{grid_of, states_of}
 use Rattle.hyd_period_network.specs.NetsSetToPeriods.{IsNetOf}
@@ -18,7 +18,7 @@ use Rattle.hyd_sim.specs.Steps.{IsPeriod}
 use Rattle.hyd_sim.specs.declared.settings.Settings.{Settings}
 use Rattle.hyd_net.specs.Sound.{IsSound}
 use Rattle.hyd_spec_certificates.specs.Valid.{AreCertificates}
-use Rattle.hyd_spec_reports.specs.CertificateText.{record_text}
+use Rattle.hyd_spec_certificates.specs.CertificateText.{record_text}
 use Rattle.hyd_cert.specs.declared.record.Record.{Record as Row}
 use Rattle.hyd_period_facts.specs.declared.facts.Facts.{Facts}
 use Rattle.hyd_period_network.specs.NetView.{NetView}

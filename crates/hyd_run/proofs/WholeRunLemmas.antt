@@ -4,7 +4,7 @@ use Rattle.std.specs.Prelude.{IsTrue, Result, Ok, Err, IfOk, IfErr, OnOk}
 use Rattle.hyd_net.specs.Sound.{IsSound}
 use Rattle.hyd_spec.specs.ProgramTypes.{Project}
 use Rattle.hyd_spec_certificates.specs.RecordAndStanding.{Standing, initial_standing}
-use Rattle.hyd_spec_reports.specs.CertificateText.{end_line}
+use Rattle.hyd_spec_certificates.specs.CertificateText.{end_line}
 use Rattle.hyd_spec_reports.specs.PromisesOfRunsAndChecks.{Outcome, EndsSo, last_line, is_finished}
 use Rattle.hyd_cert.specs.Lines.{Header, header_text}
 use Rattle.hyd_io.specs.declared.output.Channel.{Channel}

@@ -6,7 +6,7 @@ use Rattle.std.specs.List.{AllByRecursion}
 use Rattle.hyd_spec.specs.ProgramTypes.{Project}
 use Rattle.hyd_spec.specs.NodeNumbers.{junction_count, tank_count}
 use Rattle.hyd_spec_certificates.specs.RecordAndStanding.{Standing}
-use Rattle.hyd_spec_reports.specs.CertificateText.{IsRow, record_text, line}
+use Rattle.hyd_spec_certificates.specs.CertificateText.{IsRow, record_text, line}
 use Rattle.hyd_spec_reports.specs.PromisesOfRunsAndChecks.{Found, IsFound, IsRun, Sharpness, IsSharpFound, Outcome}
 use Rattle.hyd_spec_reports.specs.PromisesOfRunsAndChecks.{Finished}
 use Rattle.hyd_spec_reports.specs.PromisesOfRunsAndChecks.{Stopped, EndsSo, RunWrites, RunBreaksOff, rows_of}

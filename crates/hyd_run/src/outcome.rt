@@ -5,7 +5,7 @@ ghost use Rattle.std.specs.Prelude.{◌≡◌};
 ghost use Rattle.hyd_spec_reports.specs.PromisesOfRunsAndChecks.{is_finished};
 ghost use Rattle.hyd_run.specs.Runs.{outcome_of};
 
-use hyd_spec_reports::StopCause;
+use hyd_spec_certificates::StopCause;
 
 /// How a run ended.
 #[derive(Clone, Copy, Drop)]

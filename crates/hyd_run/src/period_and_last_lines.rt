@@ -9,7 +9,7 @@ ghost use Rattle.std.specs.Prelude.{IsTrue};
 ghost use Rattle.hyd_net.specs.Sound.{IsSound};
 ghost use Rattle.hyd_spec_certificates.specs.RecordAndStanding.{Standing};
 ghost use Rattle.hyd_spec_certificates.specs.Valid.{AreCertificates};
-ghost use Rattle.hyd_spec_reports.specs.CertificateText.{record_text, end_line};
+ghost use Rattle.hyd_spec_certificates.specs.CertificateText.{record_text, end_line};
 ghost use Rattle.hyd_spec_reports.specs.PromisesOfRunsAndChecks.{last_line, is_finished};
 ghost use Rattle.hyd_cert.specs.RecordView.{row_of};
 ghost use Rattle.hyd_theorems_on_definitions.specs.SoundLawsAndGrids.{TanksInOrder};

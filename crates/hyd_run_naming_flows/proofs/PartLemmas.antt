@@ -11,7 +11,7 @@ use Rattle.hyd_spec_certificates.specs.PeriodNetwork.{Grid, GridLink}
 use Rattle.hyd_spec_certificates.specs.RecordAndStanding.{Record, vector_on}
 use Rattle.hyd_spec_certificates.specs.declared.Side.{Side}
 use Rattle.hyd_spec_certificates.specs.declared.Side.TheVariants.{Upper, Lower}
-use Rattle.hyd_spec_reports.specs.CertificateText.{IsVector}
+use Rattle.hyd_spec_certificates.specs.CertificateText.{IsVector}
 use Rattle.hyd_spec_flows.specs.FlowParts.{NamedLink, FlowPart, JoinsJunctions, HasItsVector, IsFlowPart, names_of}
 use Rattle.hyd_spec_flows.specs.FlowTexts.{IsPart}
 use Rattle.hyd_spec_named_links.specs.NamedLinks.{JoinsTwoJunctions, MayBeNamed}

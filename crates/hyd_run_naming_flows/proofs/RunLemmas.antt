@@ -10,13 +10,14 @@ use Rattle.hyd_spec.specs.ProgramTypes.{Project}
 use Rattle.hyd_spec.specs.Lists.{joined}
 use Rattle.hyd_spec.specs.NodeNumbers.{junction_count, tank_count}
 use Rattle.hyd_spec_certificates.specs.RecordAndStanding.{Standing, initial_standing}
-use Rattle.hyd_spec_reports.specs.CertificateText.{end_line, header_line}
+use Rattle.hyd_spec_certificates.specs.CertificateText.{end_line, header_line}
 use Rattle.hyd_spec_reports.specs.PromisesOfRunsAndChecks.{Found, IsRun, IsRunFrom, IsSharpFound, Outcome, EndsSo}
 use Rattle.hyd_spec_reports.specs.PromisesOfRunsAndChecks.{last_line, is_finished}
 use Rattle.hyd_spec_flows.specs.FlowTexts.{Entry, IsEntry, IsTextWithFlows, flows_version, entry_text}
-use Rattle.hyd_spec_flows.specs.PromisesWithFlows.{FoundNaming, IsFoundNaming, NamesSharply, founds_in, entry_of}
-use Rattle.hyd_spec_flows.specs.PromisesWithFlows.{entries_of, period_text, certificate_so_far_naming}
-use Rattle.hyd_spec_flows.specs.PromisesWithFlows.{report_so_far_naming}
+use Rattle.hyd_spec_reports_with_flows.specs.PromisesWithFlows.{FoundNaming, IsFoundNaming, NamesSharply, founds_in}
+use Rattle.hyd_spec_reports_with_flows.specs.PromisesWithFlows.{entry_of}
+use Rattle.hyd_spec_reports_with_flows.specs.PromisesWithFlows.{entries_of, period_text, certificate_so_far_naming}
+use Rattle.hyd_spec_reports_with_flows.specs.PromisesWithFlows.{report_so_far_naming}
 use Rattle.hyd_lemmas.proofs.ListsOptionsAndResults.{join-more, all-more}
 use Rattle.hyd_theorems_on_definitions.proofs.CertificateLines.{header-short}
 use Rattle.hyd_theorems_on_flows.proofs.FlowsOfHistories.{every_flow}

@@ -22,10 +22,10 @@ use Rattle.hyd_spec_certificates.specs.declared.Problem.TheVariants.{Main}
 use Rattle.hyd_spec_certificates.specs.declared.Side.{Side}
 use Rattle.hyd_spec_certificates.specs.declared.Side.TheVariants.{Upper, Lower}
 use Rattle.hyd_spec_certificates.specs.RecordAndStanding.{Standing}
-use Rattle.hyd_spec_flows.specs.FlowLines.{FlowLine, AreFlowLines}
+use Rattle.hyd_spec_reports_with_flows.specs.FlowLines.{FlowLine, AreFlowLines}
 use Rattle.hyd_spec_flows.specs.FlowParts.{NamedLink, FlowPart, HasItsVector, IsFlowPart, IsSharpPart, names_of}
 use Rattle.hyd_spec_flows.specs.FlowTexts.{entry_text}
-use Rattle.hyd_spec_flows.specs.PromisesWithFlows.{FoundNaming}
+use Rattle.hyd_spec_reports_with_flows.specs.PromisesWithFlows.{FoundNaming}
 use Rattle.hyd_spec_named_links.specs.NamedLinks.{MayBeNamed}
 use Rattle.hyd_theorems_on_definitions.specs.SoundLawsAndGrids.{IsSteady}
 use Rattle.hyd_run_naming_flows.specs.NamingRuns.{entry_with, lines_with, IsStepNaming, DidPeriodNaming}

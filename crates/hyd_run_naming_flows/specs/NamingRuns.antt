@@ -11,10 +11,12 @@ use Rattle.hyd_spec_certificates.specs.RecordAndStanding.{Standing}
 use Rattle.hyd_spec_reports.specs.PromisesOfRunsAndChecks.{IsRun, IsSharpFound, Outcome, EndsSo}
 use Rattle.hyd_spec_flows.specs.FlowParts.{FlowPart}
 use Rattle.hyd_spec_flows.specs.FlowTexts.{Entry, IsEntry, IsPart, entry_text}
-use Rattle.hyd_spec_flows.specs.FlowLines.{FlowLine, flow_line_text}
-use Rattle.hyd_spec_flows.specs.PromisesWithFlows.{FoundNaming, IsFoundNaming, NamesSharply, founds_in, entry_of}
-use Rattle.hyd_spec_flows.specs.PromisesWithFlows.{entries_of, period_text, RunWritesNaming, RunNamingBreaksOff}
-use Rattle.hyd_spec_flows.specs.PromisesWithFlows.{certificate_so_far_naming, report_so_far_naming}
+use Rattle.hyd_spec_reports_with_flows.specs.FlowLines.{FlowLine, flow_line_text}
+use Rattle.hyd_spec_reports_with_flows.specs.PromisesWithFlows.{FoundNaming, IsFoundNaming, NamesSharply, founds_in}
+use Rattle.hyd_spec_reports_with_flows.specs.PromisesWithFlows.{entry_of}
+use Rattle.hyd_spec_reports_with_flows.specs.PromisesWithFlows.{entries_of, period_text, RunWritesNaming}
+use Rattle.hyd_spec_reports_with_flows.specs.PromisesWithFlows.{RunNamingBreaksOff}
+use Rattle.hyd_spec_reports_with_flows.specs.PromisesWithFlows.{certificate_so_far_naming, report_so_far_naming}
 use Rattle.hyd_cert.specs.RecordView.{row_of}
 use Rattle.hyd_io.specs.declared.output.OutFault.{OutFault}
 use Rattle.hyd_io.specs.DeskBytes.{append_known}

@@ -10,7 +10,7 @@ ghost use Rattle.hyd_run.specs.Pens.{told, moment, AreOpen, PutsInOrder};
 ghost use Rattle.hyd_sim.specs.RunView.{SimView};
 ghost use Rattle.hyd_sim.specs.Steps.{IsPeriod};
 ghost use Rattle.hyd_spec_certificates.specs.RecordAndStanding.{Standing};
-ghost use Rattle.hyd_spec_flows.specs.FlowLines.{FlowLine, AreFlowLines};
+ghost use Rattle.hyd_spec_reports_with_flows.specs.FlowLines.{FlowLine, AreFlowLines};
 ghost use Rattle.hyd_spec_flows.specs.FlowParts.{IsFlowPart};
 ghost use Rattle.hyd_spec_flows.specs.FlowTexts.{entry_text};
 ghost use Rattle.hyd_run_naming_flows.specs.NamingRuns.{entry_with, lines_with};

@@ -55,6 +55,8 @@ pub(crate) enum Slot {
     Name(Named),
     /// A number: what it is, and its range.
     Number(&'static str, Bound),
+    /// The roughness of a pipe.
+    Roughness,
     /// OPEN, CLOSED or a number.
     State,
     /// A minor loss coefficient, or a status where it is the last word.
@@ -251,7 +253,7 @@ pub(crate) const PIPE: Form = Form {
         Slot::Name(Named::Node),
         Slot::Number(say::LENGTH, Bound::Above0To(1_000_000)),
         Slot::Number(say::DIAMETER, Bound::Above0To(10_000)),
-        Slot::Number(say::ROUGHNESS, Bound::Above0To(10)),
+        Slot::Roughness,
         Slot::Number(say::MINOR_LOSS, Bound::UpTo(1_000_000)),
         Slot::Words("OPEN CLOSED CV", ""),
     ],
@@ -268,7 +270,7 @@ pub(crate) const PIPE_OF_SEVEN: Form = Form {
         Slot::Name(Named::Node),
         Slot::Number(say::LENGTH, Bound::Above0To(1_000_000)),
         Slot::Number(say::DIAMETER, Bound::Above0To(10_000)),
-        Slot::Number(say::ROUGHNESS, Bound::Above0To(10)),
+        Slot::Roughness,
         Slot::MinorOrStatus,
     ],
     needed: 6,

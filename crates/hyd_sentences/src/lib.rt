@@ -1,8 +1,8 @@
-//! The sentences that the program says to a person on standard error: why a text is refused, with the line, the row as it
-//! stands there and what is wrong with it; why the name of a link is refused; what a stop means and what to try; what of
-//! a certificate isn't so; the page of help; and how far long work has come. What they say is worked out from the text or
-//! the network again, and nothing is claimed of it: where nothing certain is found, the sentence is the general one of the
-//! cause. No memory is taken.
+//! The sentences that the program says to a person on standard error of files and runs: why a text is refused, with the
+//! line, the row as it stands there, what is wrong with it and what mends it; why the name of a link is refused; what a
+//! stop means and what to try; what of a certificate isn't so; and how far long work has come. What they say is worked out
+//! from the text or the network again, and nothing is claimed of it: where nothing certain is found, the sentence is the
+//! general one of the cause. No memory is taken.
 //!
 //! All texts stand in `sentences.rt`.
 //!
@@ -14,7 +14,8 @@ mod forms;
 mod forms_of_options_and_times;
 mod forms_of_rows;
 mod forms_of_rules;
-mod help;
+mod formulas;
+mod links_around;
 mod names;
 mod no_junction;
 mod numbers;
@@ -26,6 +27,7 @@ mod ranges;
 mod refused_certificates;
 mod refused_names;
 mod refused_text;
+mod remedies;
 mod rows;
 mod rule_lines;
 mod sentences;
@@ -34,7 +36,6 @@ mod stopped;
 mod syntax;
 mod unknown_names;
 
-pub use help::{Help, WrongWords};
 pub use no_junction::NoJunction;
 pub use progress::{PipesDone, Progress};
 pub use refused_certificates::{LineFault, RefusedFlow, RefusedLine, RefusedRecord};

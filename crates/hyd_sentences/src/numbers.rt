@@ -39,7 +39,7 @@ fn number_fault<'a>(word: &'a [u8], other: WrongNumber<'a>) -> Option<WrongNumbe
 fn slot_fault<'a>(filled: &Filled<'a>) -> Option<WrongNumber<'a>> {
     let word = filled.word;
     match filled.slot {
-        Slot::Number(..) => number_fault(word, WrongNumber::NoNumber(word)),
+        Slot::Number(..) | Slot::Roughness => number_fault(word, WrongNumber::NoNumber(word)),
         Slot::State if !is_one_of(word, "OPEN CLOSED") => number_fault(
             word,
             WrongNumber::State(word),

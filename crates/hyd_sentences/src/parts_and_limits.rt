@@ -7,6 +7,7 @@ use crate::names::{Table, owner};
 use crate::pump_pairs::value_of;
 use crate::rows::{Row, body_of, is_one_of, rows_of};
 use crate::sentences::{WrongPart, WrongSize, kind_of};
+use hyd_num::read_decimal;
 use hyd_spec_lines::Section;
 
 // The most bytes of an ID, and of a line.
@@ -19,6 +20,16 @@ fn point_count(text: &[u8], curve: &[u8]) -> usize {
     rows_of(text)
         .filter(|row| matches!(row.section(), Some(Section::Curves)) && row.word(0) == curve)
         .count()
+}
+
+/// Whether a curve's first point has the flow 0.
+pub(crate) fn begins_at_flow_0(text: &[u8], curve: &[u8]) -> bool {
+    let point = rows_of(text).find(|row| matches!(row.section(), Some(Section::Curves))
+        && row.word(0) == curve);
+    match point {
+        Some(row) => matches!(read_decimal(row.word(1)), Ok(flow) if flow.nano == 0),
+        None => false,
+    }
 }
 
 // A curve that a pump can't have.

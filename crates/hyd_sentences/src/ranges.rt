@@ -3,15 +3,19 @@
 use crate::filled_slots::{Filled, filled_slots};
 use crate::forms::{Bound, Slot};
 use crate::forms_of_rows::form_of;
+use crate::formulas::formula_of;
 use crate::pump_pairs::value_of;
 use crate::rows::{Row, body_of};
 use crate::sentences as say;
 use crate::sentences::WrongRange;
-use hyd_num::read_decimal;
+use hyd_num::{before, read_decimal};
 use hyd_spec_lines::Section;
 
 // A number of a file in billionths.
 const BILLION: i128 = 1_000_000_000;
+
+// The range of a roughness.
+const ROUGHNESS: Bound = Bound::Above0To(10);
 
 // The least diameter of a tank without a volume curve, in billionths.
 const LEAST_DIAMETER: i128 = BILLION / 10;
@@ -37,20 +41,39 @@ fn number_fault<'a>(what: &'static str, word: &'a [u8], bound: Bound) -> Option<
     }
 }
 
-// A word out of its range.
-fn slot_fault<'a>(filled: &Filled<'a>) -> Option<WrongRange<'a>> {
-    match filled.slot {
-        Slot::Number(what, bound) => number_fault(what, filled.word, bound),
-        Slot::MinorOrStatus => number_fault(say::MINOR_LOSS, filled.word, Bound::UpTo(1_000_000)),
-        _ => None,
-    }
-}
-
 // The number that a word writes.
 fn nano_of(word: &[u8]) -> Option<i128> {
     match read_decimal(word) {
         Ok(number) => Some(number.nano),
         Err(_) => None,
+    }
+}
+
+// A roughness out of its range, with the formula of the file, whose number it may be.
+fn roughness_fault<'a>(text: &[u8], word: &'a [u8]) -> Option<WrongRange<'a>> {
+    if holds(ROUGHNESS, nano_of(word)?) {
+        return None;
+    }
+    Some(WrongRange::Roughness(word, ROUGHNESS, formula_of(text)))
+}
+
+// A time of day in hour 0, which has no AM or PM.
+fn hour_fault<'a>(moment: &'a [u8], half: &'a [u8]) -> Option<WrongRange<'a>> {
+    let hours = before(moment, moment.iter().position(|byte| *byte == b':'));
+    if nano_of(hours)? < BILLION {
+        return Some(WrongRange::HourZero(moment, half));
+    }
+    None
+}
+
+// A word out of its range.
+fn slot_fault<'a>(text: &[u8], filled: &Filled<'a>) -> Option<WrongRange<'a>> {
+    match filled.slot {
+        Slot::Number(what, bound) => number_fault(what, filled.word, bound),
+        Slot::Roughness => roughness_fault(text, filled.word),
+        Slot::MinorOrStatus => number_fault(say::MINOR_LOSS, filled.word, Bound::UpTo(1_000_000)),
+        Slot::HalfDay => hour_fault(filled.before, filled.word),
+        _ => None,
     }
 }
 
@@ -110,7 +133,7 @@ fn early_fault<'a>(row: &Row<'a>, section: Section) -> Option<WrongRange<'a>> {
 // The first number of a row that is out of its range.
 fn form_fault<'a>(text: &[u8], row: &Row<'a>, section: Section) -> Option<WrongRange<'a>> {
     let form = form_of(text, row, section);
-    filled_slots(body_of(row.line), &form).find_map(|filled| slot_fault(&filled))
+    filled_slots(body_of(row.line), &form).find_map(|filled| slot_fault(text, &filled))
 }
 
 /// What is out of range in a row.

@@ -6,8 +6,8 @@ ghost use Rattle.hyd_net.specs.ControlsAndRules.{node_count};
 use crate::sentences::{Unbounded, Untrue, line_fault};
 use crate::stopped::{bounded_by, link_id, node_id};
 use hyd_net::Project;
+use hyd_spec_certificates::CertRefused;
 use hyd_spec_flows::FlowFails;
-use hyd_spec_reports::CertRefused;
 use std::fmt::{self, Display, Formatter};
 
 /// What of a record of a certificate isn't so.

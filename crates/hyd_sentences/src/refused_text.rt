@@ -3,17 +3,18 @@
 use crate::numbers::wrong_number;
 use crate::parts_and_limits::{wrong_part, wrong_size};
 use crate::ranges::wrong_range;
+use crate::remedies::{remedy_of, remedy_of_whole};
 use crate::rows::{Row, row_at};
-use crate::sentences::{Said, whole};
+use crate::sentences::{RemedyFor, Said, whole};
 use crate::shown::Shown;
 use crate::syntax::syntax_fault;
 use crate::unknown_names::{earlier_owner, wrong_name};
 use hyd_net::Cause;
 use std::fmt::{self, Display, Formatter};
 
-/// Why a text is refused: the file, the line, what is wrong with it, and beneath it the row as it stands in the file, of
-/// which a very long one is cut, and bytes that aren't printing ASCII are shown as `?`. What is wrong is looked for again in
-/// the text; where nothing certain is found, the sentence is the general one of the cause.
+/// Why a text is refused: the file, the line, what is wrong with it and what mends it, and beneath it the row as it
+/// stands in the file, of which a very long one is cut, and bytes that aren't printing ASCII are shown as `?`. What is
+/// wrong is looked for again in the text; where nothing certain is found, the sentence is the general one of the cause.
 #[derive(Clone, Copy)]
 pub struct RefusedText<'a> {
     /// The file's name.
@@ -57,15 +58,21 @@ impl Display for RefusedText<'_> {
             cause,
         } = *self;
         if line == 0 {
-            return write!(f, "{file}: {}", whole(cause));
+            let remedy = RemedyFor {
+                remedy: remedy_of_whole(cause),
+                file,
+            };
+            return write!(f, "{file}: {}{remedy}", whole(cause));
         }
         match row_at(text, line) {
-            Some(row) => write!(
-                f,
-                "{file}:{line}: {}\n  {}",
-                said_of(text, &row, cause),
-                Shown(row.line)
-            ),
+            Some(row) => {
+                let said = said_of(text, &row, cause);
+                let remedy = RemedyFor {
+                    remedy: remedy_of(text, &row, said),
+                    file,
+                };
+                write!(f, "{file}:{line}: {said}{remedy}\n  {}", Shown(row.line))
+            }
             None => write!(f, "{file}:{line}: {}", Said::General(cause)),
         }
     }

@@ -1,7 +1,8 @@
-//! The texts of all sentences but those of the pages of help: what is wrong with a row of a text, by its cause, what a
-//! stop means, what of a certificate isn't so, and how far work has come. Names, words, lines and numbers are filled in.
+//! The texts of all sentences: what is wrong with a row of a text, by its cause, what mends it, what a stop means, what of a
+//! certificate isn't so, and how far work has come. Names, words, lines and numbers are filled in.
 
 use crate::forms::Bound;
+use crate::formulas::Formula;
 use crate::progress::{PipesDone, Progress};
 use crate::quantities::{Billionths, Clock, Hours, Quantity};
 use crate::refused_certificates::LineFault;
@@ -10,6 +11,16 @@ use hyd_net::Cause;
 use hyd_spec_certificates::Side;
 use hyd_spec_lines::Section;
 use std::fmt::{self, Display, Formatter};
+
+// Writes a name between two texts.
+fn write_around<W: fmt::Write>(
+    before: &'static str,
+    name: &[u8],
+    behind: &'static str,
+    f: &mut Formatter<W>,
+) -> fmt::Result {
+    write!(f, "{before}{}{behind}", Name(name))
+}
 
 // ---- rows in words
 
@@ -212,7 +223,7 @@ pub(crate) fn general_limit(limit: u8) -> &'static str {
 pub(crate) fn whole(cause: Cause) -> &'static str {
     match cause {
         Cause::Unsupported(1) =>
-            "there is no HEADLOSS line in [OPTIONS], so EPANET takes Hazen-Williams, which isn't supported. With Manning roughness in the file write HEADLOSS C-M; else scripts/manning.py gives each pipe the roughness of equal loss (docs/HAZEN_WILLIAMS.md)",
+            "there is no HEADLOSS line in [OPTIONS], so EPANET takes Hazen-Williams, which isn't supported. Where each roughness is Manning's n already, write HEADLOSS C-M there; a C of Hazen-Williams has to be converted",
         _ => general(cause),
     }
 }
@@ -232,8 +243,8 @@ pub(crate) enum Wrong<'a> {
     NotAscii(u8, usize),
     /// A row before the first heading.
     NoSection,
-    /// Words are missing; what the row should be.
-    TooFew(&'static str),
+    /// Words are missing: how many there are, how many are needed, what the row should be.
+    TooFew(usize, usize, &'static str),
     /// A word too many; what the row should be.
     TooMany(&'a [u8], &'static str),
     /// A word that isn't one of some keywords.
@@ -248,18 +259,27 @@ pub(crate) enum Wrong<'a> {
     UnitBehindMoment(&'a [u8], &'a [u8]),
 }
 
+// One word, or several.
+fn words_word(count: usize) -> &'static str {
+    if count == 1 {
+        return "word";
+    }
+    "words"
+}
+
 impl Display for Wrong<'_> {
     fn fmt<W: fmt::Write>(&self, f: &mut Formatter<W>) -> fmt::Result {
         match *self {
-            Wrong::Heading(word) => write!(f, "{} is no section's heading", Name(word)),
+            Wrong::Heading(word) => write_around("", word, " is no section's heading", f),
             Wrong::ShortHeading(word, heading) => {
                 write!(f, "{} is no section's heading: write {heading}", Name(word))
             }
             Wrong::BehindHeading(word) => {
-                write!(
+                write_around(
+                    "",
+                    word,
+                    " stands behind a heading, which stands alone in its line",
                     f,
-                    "{} stands behind a heading, which stands alone in its line",
-                    Name(word)
                 )
             }
             Wrong::NotAscii(byte, column) => {
@@ -269,7 +289,13 @@ impl Display for Wrong<'_> {
                 )
             }
             Wrong::NoSection => f.write_str("a row before the first heading, as [JUNCTIONS]"),
-            Wrong::TooFew(form) => write!(f, "too few words for {form}"),
+            Wrong::TooFew(count, needed, form) => {
+                let words = words_word(count);
+                write!(
+                    f,
+                    "the row has {count} {words}, and needs {needed} at least: {form}"
+                )
+            }
             Wrong::TooMany(word, form) => write!(f, "{} is a word too many for {form}", Name(word)),
             Wrong::Word(word, words) => write!(
                 f,
@@ -281,17 +307,19 @@ impl Display for Wrong<'_> {
                 write!(f, "{} isn't written in full: {}", Name(word), Name(whole))
             }
             Wrong::Moment(word) => {
-                write!(
+                write_around(
+                    "",
+                    word,
+                    " is no time: h:mm or h:mm:ss, with minutes and seconds below 60",
                     f,
-                    "{} is no time: h:mm or h:mm:ss, with minutes and seconds below 60",
-                    Name(word)
                 )
             }
             Wrong::Unit(word) => {
-                write!(
+                write_around(
+                    "",
+                    word,
+                    " is no unit of a time: SEC, SECONDS, MIN, MINUTES, HOUR, HOURS, DAY or DAYS",
                     f,
-                    "{} is no unit of a time: SEC, SECONDS, MIN, MINUTES, HOUR, HOURS, DAY or DAYS",
-                    Name(word)
                 )
             }
             Wrong::UnitBehindMoment(unit, moment) => {
@@ -340,23 +368,26 @@ pub(crate) enum WrongLine<'a> {
 impl Display for WrongLine<'_> {
     fn fmt<W: fmt::Write>(&self, f: &mut Formatter<W>) -> fmt::Result {
         match *self {
-            WrongLine::Option(word) => write!(
+            WrongLine::Option(word) => write_around(
+                "",
+                word,
+                " is no option that this program knows",
                 f,
-                "{} is no option that this program knows",
-                Name(word)
             ),
             WrongLine::Time(word) => {
-                write!(
+                write_around(
+                    "",
+                    word,
+                    " begins no line of [TIMES]: DURATION, HYDRAULIC, PATTERN, REPORT, RULE, START, QUALITY or STATISTIC",
                     f,
-                    "{} begins no line of [TIMES]: DURATION, HYDRAULIC, PATTERN, REPORT, RULE, START, QUALITY or STATISTIC",
-                    Name(word)
                 )
             }
             WrongLine::RuleWord(word) => {
-                write!(
+                write_around(
+                    "",
+                    word,
+                    " begins no line of a rule: RULE, IF, AND, OR, THEN, ELSE or PRIORITY",
                     f,
-                    "{} begins no line of a rule: RULE, IF, AND, OR, THEN, ELSE or PRIORITY",
-                    Name(word)
                 )
             }
             WrongLine::RuleOrder(word, words) => {
@@ -367,45 +398,50 @@ impl Display for WrongLine<'_> {
                     OneOf(words)
                 )
             }
-            WrongLine::NoThen(rule) => write!(f, "the rule {} has no THEN line", Name(rule)),
+            WrongLine::NoThen(rule) => write_around("the rule ", rule, " has no THEN line", f),
             WrongLine::PumpWord(word) => {
-                write!(
+                write_around(
+                    "",
+                    word,
+                    " stands where HEAD, SPEED or PATTERN of a pump should",
                     f,
-                    "{} stands where HEAD, SPEED or PATTERN of a pump should",
-                    Name(word)
                 )
             }
-            WrongLine::PumpWordAgain(word) => write!(f, "{} stands twice", Name(word)),
-            WrongLine::PumpWordAlone(word) => write!(f, "{} has nothing behind it", Name(word)),
-            WrongLine::NoHead(pump) => write!(
+            WrongLine::PumpWordAgain(word) => write_around("", word, " stands twice", f),
+            WrongLine::PumpWordAlone(word) => write_around("", word, " has nothing behind it", f),
+            WrongLine::NoHead(pump) => write_around(
+                "the pump ",
+                pump,
+                " has no HEAD with a curve",
                 f,
-                "the pump {} has no HEAD with a curve",
-                Name(pump)
             ),
             WrongLine::OldPump => {
                 f.write_str(
-                    "numbers for a pump, as in EPANET 1: scripts/prepare.py writes a curve and HEAD instead",
+                    "numbers for a pump, as in EPANET 1, where HEAD and a curve should stand",
                 )
             }
             WrongLine::ReservoirAmongTanks(id) => {
-                write!(
+                write_around(
+                    "a tank has six words at least; if ",
+                    id,
+                    " is a reservoir, its row goes to [RESERVOIRS]",
                     f,
-                    "a tank has six words at least; if {} is a reservoir, its row goes to [RESERVOIRS]",
-                    Name(id)
                 )
             }
             WrongLine::PipeHasNoSetting(pipe) => {
-                write!(
+                write_around(
+                    "",
+                    pipe,
+                    " is a pipe, whose state is OPEN or CLOSED and no number",
                     f,
-                    "{} is a pipe, whose state is OPEN or CLOSED and no number",
-                    Name(pipe)
                 )
             }
             WrongLine::GeneralValveHasNoSetting(valve) => {
-                write!(
+                write_around(
+                    "",
+                    valve,
+                    " is a general purpose valve, whose state is OPEN or CLOSED and no number",
                     f,
-                    "{} is a general purpose valve, whose state is OPEN or CLOSED and no number",
-                    Name(valve)
                 )
             }
         }
@@ -432,7 +468,7 @@ pub(crate) enum WrongNumber<'a> {
 impl Display for WrongNumber<'_> {
     fn fmt<W: fmt::Write>(&self, f: &mut Formatter<W>) -> fmt::Result {
         match *self {
-            WrongNumber::NoNumber(word) => write!(f, "{} is no number", Name(word)),
+            WrongNumber::NoNumber(word) => write_around("", word, " is no number", f),
             WrongNumber::Comma(word, whole, decimals) => {
                 write!(
                     f,
@@ -442,20 +478,23 @@ impl Display for WrongNumber<'_> {
                     Name(decimals)
                 )
             }
-            WrongNumber::TooLarge(word) => write!(
+            WrongNumber::TooLarge(word) => write_around(
+                "",
+                word,
+                " is above 10^12 in magnitude, the most that a number may be",
                 f,
-                "{} is above 10^12 in magnitude, the most that a number may be",
-                Name(word)
             ),
-            WrongNumber::State(word) => write!(
+            WrongNumber::State(word) => write_around(
+                "",
+                word,
+                " is neither OPEN nor CLOSED nor a number",
                 f,
-                "{} is neither OPEN nor CLOSED nor a number",
-                Name(word)
             ),
-            WrongNumber::Time(word) => write!(
+            WrongNumber::Time(word) => write_around(
+                "",
+                word,
+                " is no time: a number, h:mm or h:mm:ss",
                 f,
-                "{} is no time: a number, h:mm or h:mm:ss",
-                Name(word)
             ),
         }
     }
@@ -486,6 +525,10 @@ pub(crate) enum WrongRange<'a> {
     Levels(&'static str, &'a [u8], &'static str, &'a [u8]),
     /// A diameter of a tank without a volume curve.
     TankDiameter(&'a [u8]),
+    /// A roughness: its word, its range, the formula of the file.
+    Roughness(&'a [u8], Bound, Formula),
+    /// A time of day in hour 0, and AM or PM behind it.
+    HourZero(&'a [u8], &'a [u8]),
     /// Something of a row of a section.
     Section(Section),
 }
@@ -497,10 +540,11 @@ impl Display for WrongRange<'_> {
                 write!(f, "the {what} is {}, and has to be {bound}", Name(word))
             }
             WrongRange::OneNode(node) => {
-                write!(
+                write_around(
+                    "both ends are the node ",
+                    node,
+                    ": a link joins two nodes",
                     f,
-                    "both ends are the node {}: a link joins two nodes",
-                    Name(node)
                 )
             }
             WrongRange::Levels(low, lower, high, higher) => {
@@ -512,16 +556,50 @@ impl Display for WrongRange<'_> {
                 )
             }
             WrongRange::TankDiameter(word) => {
-                write!(
+                write_around(
+                    "the diameter is ",
+                    word,
+                    ", and has to be from 0.1 to 1000 (from 0 with a volume curve)",
                     f,
-                    "the diameter is {}, and has to be from 0.1 to 1000 (from 0 with a volume curve)",
-                    Name(word)
                 )
             }
+            WrongRange::Roughness(word, bound, formula) => write!(
+                f,
+                "the {ROUGHNESS} is {}, and has to be {bound}{formula}",
+                Name(word)
+            ),
+            WrongRange::HourZero(moment, half) => write!(
+                f,
+                "{} {} is in hour 0: with AM or PM hours are 1 to 12, and midnight is 12:00 AM",
+                Name(moment),
+                Name(half)
+            ),
             WrongRange::Section(section) => write!(
                 f,
                 "a value is out of its range: {}",
                 ranges_of(section)
+            ),
+        }
+    }
+}
+
+// What is said of a roughness by the formula of the file.
+impl Display for Formula {
+    fn fmt<W: fmt::Write>(&self, f: &mut Formatter<W>) -> fmt::Result {
+        match *self {
+            Formula::Manning => Ok(()),
+            Formula::HazenWilliams(line) => {
+                write!(
+                    f,
+                    ". Line {line} says HEADLOSS H-W, and a C of Hazen-Williams is no Manning n"
+                )
+            }
+            Formula::DarcyWeisbach(line) => write!(
+                f,
+                ". Line {line} says HEADLOSS D-W, and a roughness of Darcy-Weisbach is no Manning n: {OTHER_FORMULA}"
+            ),
+            Formula::Untold => f.write_str(
+                ". There is no HEADLOSS line, so EPANET takes Hazen-Williams, whose C is no Manning n",
             ),
         }
     }
@@ -605,10 +683,10 @@ pub(crate) enum WrongName<'a> {
 impl Display for WrongName<'_> {
     fn fmt<W: fmt::Write>(&self, f: &mut Formatter<W>) -> fmt::Result {
         match *self {
-            WrongName::NoNode(name) => write!(f, "no node is called {}", Name(name)),
-            WrongName::NoLink(name) => write!(f, "no link is called {}", Name(name)),
-            WrongName::NoPattern(name) => write!(f, "no pattern is called {}", Name(name)),
-            WrongName::NoCurve(name) => write!(f, "no curve is called {}", Name(name)),
+            WrongName::NoNode(name) => write_around("no node is called ", name, "", f),
+            WrongName::NoLink(name) => write_around("no link is called ", name, "", f),
+            WrongName::NoPattern(name) => write_around("no pattern is called ", name, "", f),
+            WrongName::NoCurve(name) => write_around("no curve is called ", name, "", f),
             WrongName::NoJunction(name, section) => {
                 write!(
                     f,
@@ -627,10 +705,11 @@ impl Display for WrongName<'_> {
                 )
             }
             WrongName::ReservoirPressure(name) => {
-                write!(
+                write_around(
+                    "",
+                    name,
+                    " is a reservoir, which has a HEAD and no PRESSURE",
                     f,
-                    "{} is a reservoir, which has a HEAD and no PRESSURE",
-                    Name(name)
                 )
             }
         }
@@ -650,6 +729,10 @@ pub(crate) fn no_junction<W: fmt::Write>(
 }
 
 // ---- Unsupported
+
+// What helps where the formula is Darcy-Weisbach.
+const OTHER_FORMULA: &str =
+    "give each pipe the Manning roughness that loses as much at its flow, as scripts/manning.py does for Hazen-Williams (docs/HAZEN_WILLIAMS.md)";
 
 /// A part that isn't supported, with its names.
 #[derive(Clone, Copy)]
@@ -680,10 +763,11 @@ impl Display for WrongPart<'_> {
     fn fmt<W: fmt::Write>(&self, f: &mut Formatter<W>) -> fmt::Result {
         match *self {
             WrongPart::HazenWilliams => f.write_str(
-                "Hazen-Williams head losses (H-W) aren't supported, only Chezy-Manning (HEADLOSS C-M): scripts/manning.py gives each pipe the Manning roughness of equal loss (docs/HAZEN_WILLIAMS.md)",
+                "Hazen-Williams head losses (H-W) aren't supported, only Chezy-Manning (HEADLOSS C-M)",
             ),
-            WrongPart::DarcyWeisbach => f.write_str(
-                "Darcy-Weisbach head losses (D-W) aren't supported, only Chezy-Manning (HEADLOSS C-M): give each pipe the Manning roughness that loses as much at its flow, as scripts/manning.py does for Hazen-Williams (docs/HAZEN_WILLIAMS.md)",
+            WrongPart::DarcyWeisbach => write!(
+                f,
+                "Darcy-Weisbach head losses (D-W) aren't supported, only Chezy-Manning (HEADLOSS C-M): {OTHER_FORMULA}"
             ),
             WrongPart::Valve(valve, kind) => write!(
                 f,
@@ -715,15 +799,17 @@ impl Display for WrongPart<'_> {
                 kind_of(section),
                 general_part(8)
             ),
-            WrongPart::Attribute(word) => write!(
+            WrongPart::Attribute(word) => write_around(
+                "",
+                word,
+                " isn't supported in rules: take FLOW, PRESSURE or LEVEL",
                 f,
-                "{} isn't supported in rules: take FLOW, PRESSURE or LEVEL",
-                Name(word)
             ),
-            WrongPart::Relation(word) => write!(
+            WrongPart::Relation(word) => write_around(
+                "",
+                word,
+                " isn't supported between quantities: take <= or >=",
                 f,
-                "{} isn't supported between quantities: take <= or >=",
-                Name(word)
             ),
             WrongPart::CheckValve(pipe) => write!(
                 f,
@@ -753,8 +839,7 @@ fn points_word(points: usize) -> &'static str {
 fn curve_advice(points: usize) -> &'static str {
     match points {
         1 => "both numbers of the one point have to be above 0",
-        2 =>
-            "give it one point, three on a parabola with its top at flow 0, or four and more (scripts/prepare.py adds points on the same line)",
+        2 => "give it one point, three on a parabola with its top at flow 0, or four and more",
         3 =>
             "its three points have to lie on a parabola with its top at flow 0, with flows that rise from 0 and heads that fall; a fourth point makes straight lines of it",
         _ => general_part(4),
@@ -793,6 +878,60 @@ impl Display for WrongSize<'_> {
                 "{kind} {}: {}",
                 Name(id),
                 general_limit(13)
+            ),
+        }
+    }
+}
+
+// ---- what mends a row
+
+/// What is said of a row besides.
+#[derive(Clone, Copy)]
+pub(crate) enum Remedy {
+    /// Nothing.
+    None,
+    /// How many words it has, and what it should be: a word before the wrong one may be missing.
+    Count(usize, &'static str),
+    /// `scripts/prepare.py` writes it as it has to be.
+    Prepare,
+    /// `scripts/prepare.py` says which fourth point a pump's curve may have.
+    FourthPoint,
+    /// `scripts/manning.py` gives pipes their Manning roughness.
+    Manning,
+}
+
+/// The same, for a file.
+#[derive(Clone, Copy)]
+pub(crate) struct RemedyFor<'a> {
+    /// What is said.
+    pub remedy: Remedy,
+    /// The file's name.
+    pub file: &'a str,
+}
+
+impl Display for RemedyFor<'_> {
+    fn fmt<W: fmt::Write>(&self, f: &mut Formatter<W>) -> fmt::Result {
+        let file = self.file;
+        match self.remedy {
+            Remedy::None => Ok(()),
+            Remedy::Count(count, form) => {
+                let words = words_word(count);
+                write!(
+                    f,
+                    "; the row has {count} {words}, and one before it may be missing: {form}"
+                )
+            }
+            Remedy::Prepare => write!(
+                f,
+                ". scripts/prepare.py {file} -o NEW.inp rewrites it as EPANET reads it"
+            ),
+            Remedy::FourthPoint => write!(
+                f,
+                ". scripts/prepare.py {file} -o NEW.inp says which point on EPANET's own curve could be the fourth"
+            ),
+            Remedy::Manning => write!(
+                f,
+                ". scripts/manning.py {file} -o NEW.inp --speed 0.5 gives each pipe the Manning roughness of equal loss at 0.5 m/s (docs/HAZEN_WILLIAMS.md)"
             ),
         }
     }
@@ -934,7 +1073,7 @@ impl Display for Pinned<'_> {
     fn fmt<W: fmt::Write>(&self, f: &mut Formatter<W>) -> fmt::Result {
         match *self {
             Pinned::None => Ok(()),
-            Pinned::Tank(tank) => write!(f, ", with the tank {} pinned", Name(tank)),
+            Pinned::Tank(tank) => write_around(", with the tank ", tank, " pinned", f),
         }
     }
 }
@@ -958,10 +1097,10 @@ impl Display for Compared {
 impl Display for Watched<'_> {
     fn fmt<W: fmt::Write>(&self, f: &mut Formatter<W>) -> fmt::Result {
         match *self {
-            Watched::Head(node) => write!(f, "the head of {}", Name(node)),
-            Watched::Pressure(node) => write!(f, "the pressure of {}", Name(node)),
-            Watched::Level(tank) => write!(f, "the level of {}", Name(tank)),
-            Watched::Flow(link) => write!(f, "the flow of {}", Name(link)),
+            Watched::Head(node) => write_around("the head of ", node, "", f),
+            Watched::Pressure(node) => write_around("the pressure of ", node, "", f),
+            Watched::Level(tank) => write_around("the level of ", tank, "", f),
+            Watched::Flow(link) => write_around("the flow of ", link, "", f),
             Watched::Other => f.write_str("what it measures"),
         }
     }
@@ -982,7 +1121,7 @@ impl Display for Meaning<'_> {
             Meaning::NoCertificate { bounded, junction } => {
                 write!(
                     f,
-                    "no heads between -100,000 m and 100,000 m bound the solutions {bounded}. Look at junction {} and around it: closed or one-way links may cut it off from every source or outlet, or the links can't carry the demands. It is so too where the demand there is 0",
+                    "no heads between -100,000 m and 100,000 m bound the solutions {bounded}. Look at junction {} and around it: closed or one-way links, or a tank that is empty or full, may cut it off from every source or outlet, or the links can't carry the demands. It is so too where the demand there is 0",
                     Name(junction)
                 )
             }
@@ -1048,6 +1187,57 @@ impl Display for Meaning<'_> {
             Meaning::General => f.write_str(
                 "something isn't decided (docs/ANSWERS.md, \"The last line\")",
             ),
+        }
+    }
+}
+
+/// Where links are that may let no water pass.
+#[derive(Clone, Copy)]
+pub(crate) enum Place {
+    /// They end at the junction.
+    At,
+    /// They end at a node beside it.
+    Near,
+    /// They are found in neither place.
+    Beyond,
+    /// No link ends at the junction.
+    Nowhere,
+}
+
+/// Why a link may let no water pass, or pass it one way alone.
+#[derive(Clone, Copy)]
+pub(crate) enum Barrier<'a> {
+    /// It is closed in the file.
+    Closed,
+    /// It is a pump or has a check valve.
+    OneWay,
+    /// The pattern of its speeds is 0 at times.
+    Pattern,
+    /// A control closes it, by its number counted from 1.
+    Control(u64),
+    /// A rule closes it.
+    Rule(&'a [u8]),
+}
+
+/// What stands before the links that are named, and behind them.
+pub(crate) fn place_of_links(place: Place) -> &'static str {
+    match place {
+        Place::At => ". Links there:",
+        Place::Near => ". No link there is closed or one-way; links beside them:",
+        Place::Nowhere => ". No link ends there",
+        Place::Beyond =>
+            ". No link there or beside those is closed in the file, by a control or a rule, or one-way: look further along",
+    }
+}
+
+impl Display for Barrier<'_> {
+    fn fmt<W: fmt::Write>(&self, f: &mut Formatter<W>) -> fmt::Result {
+        match *self {
+            Barrier::Closed => f.write_str("closed in the file"),
+            Barrier::OneWay => f.write_str("one-way"),
+            Barrier::Pattern => f.write_str("off by its pattern at times"),
+            Barrier::Control(number) => write!(f, "closed by control {number}"),
+            Barrier::Rule(rule) => write_around("closed by rule ", rule, "", f),
         }
     }
 }
@@ -1124,10 +1314,11 @@ impl Display for Unbounded<'_> {
                 f,
                 "it names link number {number}, counted from 0, and there is no such link whose flow could be bounded"
             ),
-            Unbounded::Name { link } => write!(
+            Unbounded::Name { link } => write_around(
+                "it names link ",
+                link,
+                ", whose flow can't be bounded there: the link ends at a reservoir or a tank, or was named before",
                 f,
-                "it names link {}, whose flow can't be bounded there: the link ends at a reservoir or a tank, or was named before",
-                Name(link)
             ),
             Unbounded::Heads { link, junction } => write!(
                 f,
@@ -1143,7 +1334,7 @@ impl Display for Unbounded<'_> {
 pub(crate) fn line_fault(fault: LineFault) -> &'static str {
     match fault {
         LineFault::Grammar =>
-            "this line can't stand there: another word, a number that is too large or has a zero in front, a head too few or too many, more than 64 bytes, a text that is cut off, or something behind the END line (docs/CERTIFICATES.md, \"Its lines\")",
+            "if that is the last line of the file or the one behind it, the certificate seems to be cut off, since it has no whole END line: the run that wrote it didn't finish, or the file was truncated. Else the line can't stand there: it has another word, a number that is too large or has a zero in front, a head too few or too many, or more than 64 bytes, or it stands behind the END line (docs/CERTIFICATES.md, \"Its lines\")",
         LineFault::Counts =>
             "it is of another network: another version, or other numbers of junctions or tanks",
         LineFault::End =>
@@ -1185,140 +1376,21 @@ impl Display for UnfitName<'_> {
     fn fmt<W: fmt::Write>(&self, f: &mut Formatter<W>) -> fmt::Result {
         match *self {
             UnfitName::NoLink(name) => {
-                write!(
+                write_around(
+                    "no link is called ",
+                    name,
+                    ", which --flows names: it takes IDs of pipes, pumps and valves, in the letter case of the file and parted by commas",
                     f,
-                    "no link is called {}, which --flows names: it takes IDs of pipes, pumps and valves, in the letter case of the file and parted by commas",
-                    Name(name)
                 )
             }
             UnfitName::NotBetweenJunctions(name) => {
-                write!(
+                write_around(
+                    "the link ",
+                    name,
+                    ", which --flows names, ends at a reservoir or a tank: only links between two junctions can be named",
                     f,
-                    "the link {}, which --flows names, ends at a reservoir or a tank: only links between two junctions can be named",
-                    Name(name)
                 )
             }
         }
     }
 }
-
-// ---- help
-
-/// What helps where words aren't a command.
-pub(crate) const WRONG_WORDS: &str =
-    "these words aren't a command: one is missing, too many or misspelt, NET and CERT have one name, or a pressure below 0 lacks a word -- before it. hyd --help shows all commands, and hyd help run explains the words of one";
-
-pub(crate) const HELP: &str = "simulates pressurised water networks from EPANET input files,
-and proves the intervals that it prints.
-
-  hyd run NET CERT [--sweeps N] [--width W] [--tight] [--flows IDS]
-      runs the network in NET, writes the certificate CERT, prints the report
-      hyd run examples/net1.inp net1.cert
-  hyd check NET CERT
-      checks a certificate, whoever wrote it, and prints the same report
-      hyd check examples/net1.inp net1.cert
-  hyd gen SEED JUNCTIONS NET CERT
-      makes a network from a seed, runs it, and prints a summary
-      hyd gen 7 100 net.inp net.cert
-  hyd fire NET J P [--sweeps N]
-      prints how much more may be drawn at junction J at the start, its pressure
-      staying above P
-      hyd fire examples/net1.inp 22 20
-  hyd closures NET P [--sweeps N]
-      closes each pipe alone at the start, and prints the junctions that aren't
-      shown to keep the pressure P
-      hyd closures examples/net1.inp 20
-
-N is 200 where it isn't given, W is 0.01 metres.
-hyd help COMMAND explains the words of a command.
-
-Status 0: done. 2: the words aren't a command. 5: NET is refused.
-6: something can't be decided. 7: rounds are spent. 8: a demand is out of range.
-9: CERT isn't right. 1: memory ran out. 3: a file couldn't be read. 4: one
-couldn't be written. 10: a write took nothing.
-
-README.md: how to read a report. docs/ANSWERS.md: each line and status.
-docs/REFUSALS.md: what NET may have. docs/CERTIFICATES.md: what CERT is worth.";
-
-pub(crate) const HELP_OF_RUN: &str = "run NET CERT [--sweeps N] [--width W] [--tight] [--flows IDS]
-
-Runs the network, writes the certificate, prints the report.
-
-  NET          the network: an EPANET input file with Chezy-Manning losses
-               (docs/REFUSALS.md)
-  CERT         the certificate. A file that is there is overwritten where it is
-               empty or a certificate
-  --sweeps N   at most N rounds for each vector where the gradient method finds
-               none: 0 to 100000, else 200
-  --width W    how wide intervals of heads may become, in metres: above 0 to
-               1000, else 0.01
-  --tight      the tightest certificate on the grid of 10^-13 metres
-  --flows IDS  up to 16 links between junctions, parted by commas: tighter
-               intervals of their flows, in FLOW lines
-
-  hyd run examples/net1.inp net1.cert
-
-Status 0: done. 5: NET is refused, or a name of --flows, and CERT stays as it
-was. 6, 7, 8: the run stopped, and what is printed above the last line holds.
-1, 3, 4, 10: memory or files. docs/ANSWERS.md: each line of the report.";
-
-pub(crate) const HELP_OF_CHECK: &str = "check NET CERT
-
-Checks a certificate record by record, and prints the report of all records
-that are right. It writes nothing.
-
-  NET   the network
-  CERT  the certificate, whoever wrote it
-
-  hyd check examples/net1.inp net1.cert
-
-Status 0: all records are right, up to the duration (DONE) or as far as they go
-(PARTIAL). 9: one isn't, and the last line says which. 5: NET is refused.
-1, 3, 4, 10: memory or files. docs/CERTIFICATES.md: what a certificate is worth.";
-
-pub(crate) const HELP_OF_GEN: &str = "gen SEED JUNCTIONS NET CERT
-
-Makes a network, runs it, and prints a summary.
-
-  SEED       which network: 0 to 2147483647
-  JUNCTIONS  how many junctions it has: 1 to 10000
-  NET        the network, which is written
-  CERT       the certificate, which is written
-
-  hyd gen 7 100 net.inp net.cert
-
-Status 0: done. 6, 7, 8: the run stopped. 1, 3, 4, 10: memory or files.";
-
-pub(crate) const HELP_OF_FIRE: &str = "fire NET J P [--sweeps N]
-
-Prints FIRE J a b for the first period: with at most a more drawn at J its
-pressure is above P, and from b on it is below P. NONE stands for a where it
-isn't above P even without. Nothing is written.
-
-  NET         the network
-  J           the junction
-  P           the pressure in the unit of NET, at most 10000 in magnitude; one
-              below 0 stands behind a word --
-  --sweeps N  at most N rounds for each vector: 0 to 100000, else 200
-
-  hyd fire examples/net1.inp 22 20
-
-Status 0: done, also where NOCERT or ROUNDS stands for a number. 5: NET is
-refused, or has no junction J. 8: a demand is out of range. 1, 3, 4, 10: memory
-or files.";
-
-pub(crate) const HELP_OF_CLOSURES: &str = "closures NET P [--sweeps N]
-
-Closes each pipe alone in the first period, and prints SHUT and its ID, and
-below it each junction that isn't shown to keep the pressure P: LOW where it is
-at most P, else UNSURE, NOCERT or ROUNDS. It writes nothing.
-
-  NET         the network
-  P           the pressure in the unit of NET, at most 10000 in magnitude; one
-              below 0 stands behind a word --
-  --sweeps N  at most N rounds for each vector: 0 to 100000, else 200
-
-  hyd closures examples/net1.inp 20
-
-Status 0: done. 5: NET is refused. 8: a demand is out of range. 1, 3, 4, 10:
-memory or files.";

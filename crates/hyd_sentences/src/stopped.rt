@@ -3,11 +3,11 @@
 ghost use Rattle.std.specs.Prelude.{◌≡◌, length};
 ghost use Rattle.hyd_net.specs.ControlsAndRules.{node_count};
 
+use crate::links_around::Around;
 use crate::quantities::{Clock, Measure, Quantity};
 use crate::sentences::{Bounded, Compared, Meaning, Pinned, Watched};
 use hyd_net::{Clause, Control, Project, Tank, Value, What, When};
-use hyd_spec_certificates::{Problem, Side};
-use hyd_spec_reports::StopCause;
+use hyd_spec_certificates::{Problem, Side, StopCause};
 use hyd_units::Way;
 use std::fmt::{self, Display, Formatter};
 
@@ -246,10 +246,17 @@ fn meaning_of(stopped: Stopped<'_>) -> Meaning<'_> {
 impl Display for Stopped<'_> {
     fn fmt<W: fmt::Write>(&self, f: &mut Formatter<W>) -> fmt::Result {
         let time = Clock(u64::from(self.time));
-        write!(
-            f,
-            "stopped in the period that begins at {time}: {}",
-            meaning_of(*self)
-        )
+        let meaning = meaning_of(*self);
+        write!(f, "stopped in the period that begins at {time}: {meaning}")?;
+        match self.cause {
+            StopCause::NoCertificate { junction, .. } => {
+                let around = Around {
+                    project: self.project,
+                    node: junction,
+                };
+                write!(f, "{around}")
+            }
+            _ => Ok(()),
+        }
     }
 }

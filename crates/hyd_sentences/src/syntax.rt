@@ -159,7 +159,7 @@ fn slot_fault<'a>(filled: &Filled<'a>) -> Option<Wrong<'a>> {
 fn count_fault<'a>(row: &Row<'a>, form: &Form) -> Option<Wrong<'a>> {
     let count = row.count();
     if count < form.needed {
-        return Some(Wrong::TooFew(form.text));
+        return Some(Wrong::TooFew(count, form.needed, form.text));
     }
     if form.slots.len() < count && !form.more {
         return Some(Wrong::TooMany(row.word(form.slots.len()), form.text));
@@ -323,7 +323,10 @@ pub(crate) fn syntax_fault<'a>(text: &[u8], row: &Row<'a>) -> Option<Said<'a>> {
         return None;
     }
     match row.region {
-        Region::BeforeHeadings => Some(Said::Wrong(Wrong::NoSection)),
+        Region::BeforeHeadings => match odd_byte(row.line) {
+            Some(odd) => Some(Said::Wrong(odd)),
+            None => Some(Said::Wrong(Wrong::NoSection)),
+        },
         Region::Read(section) => row_fault(text, row, section),
         Region::PassedOver | Region::Ended => None,
     }

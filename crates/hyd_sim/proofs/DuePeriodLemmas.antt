@@ -14,9 +14,9 @@ use Rattle.hyd_spec_certificates.specs.Narrow.{IsNarrow}
 use Rattle.hyd_spec_certificates.specs.RecordAndStanding.{Record, Standing}
 use Rattle.hyd_spec_certificates.specs.Valid.{AreCertificates, IsGridAt, IsValid, LeadsOn, continues, finishes}
 use Rattle.hyd_spec_certificates.specs.Valid.{stocks_next}
-use Rattle.hyd_spec_reports.specs.Stops.{Stops}
+use Rattle.hyd_spec_certificates.specs.Stops.{Stops}
 use Rattle.hyd_theorems_on_definitions.specs.SoundLawsAndGrids.{IsSteady, TanksInOrder}
-use Rattle.hyd_theorems_on_definitions.proofs.OneRun.{one_grid}
+use Rattle.hyd_theorems_on_definitions.proofs.OneGrid.{one_grid}
 use Rattle.hyd_cert.specs.RecordView.{row_of}
 use Rattle.hyd_cert.specs.declared.record.Record.{Record as Row}
 use Rattle.hyd_period_facts.specs.declared.facts.Facts.{Facts}

@@ -6,8 +6,8 @@ use Rattle.hyd_spec_certificates.specs.PeriodNetwork.{Grid}
 use Rattle.hyd_spec_certificates.specs.RecordAndStanding.{Record, Standing}
 use Rattle.hyd_spec_certificates.specs.Decided.{EndsBy, RuleIsOpen, EventIsOpen}
 use Rattle.hyd_spec_certificates.specs.Valid.{LeavesLinks, levels_next}
-use Rattle.hyd_spec_reports.specs.declared.StopCause.TheVariants.{RuleOpen, EventOpen, TankOpen, ControlOpen}
-use Rattle.hyd_spec_reports.specs.Stops.{Stops, IsTightRow, EndsAtLevels, open_states, is_open_control}
+use Rattle.hyd_spec_certificates.specs.declared.StopCause.TheVariants.{RuleOpen, EventOpen, TankOpen, ControlOpen}
+use Rattle.hyd_spec_certificates.specs.Stops.{Stops, IsTightRow, EndsAtLevels, open_states, is_open_control}
 
 module _ (project : Project) (standing : Standing) (rounds : ℕ) (grid : Grid) (row : Record)
     (tight : IsTightRow project standing grid row) where

@@ -16,9 +16,9 @@ use Rattle.hyd_spec_certificates.specs.RecordAndStanding.{vector_of}
 use Rattle.hyd_spec_certificates.specs.Decided.{inflow_of_tank}
 use Rattle.hyd_spec_certificates.specs.Valid.{AreCertificates, AreStates, ControlsAreDecided, IsProblem, LeadsOn}
 use Rattle.hyd_spec_certificates.specs.Valid.{continues, finishes}
-use Rattle.hyd_spec_reports.specs.declared.Event.{Event}
-use Rattle.hyd_spec_reports.specs.Report.{EndBrings, at_end}
-use Rattle.hyd_spec_reports.specs.ChangesAtStart.{changes_at}
+use Rattle.hyd_spec_certificates.specs.declared.Event.{Event}
+use Rattle.hyd_spec_certificates.specs.EndsOfPeriods.{EndBrings, at_end}
+use Rattle.hyd_spec_certificates.specs.ChangesAtStart.{changes_at}
 use Rattle.hyd_spec_certificates.specs.Certificate.{IsCertificate}
 use Rattle.hyd_net.specs.ListView.{ListView}
 use Rattle.hyd_cert.specs.RecordView.{row_of, IsProblemOf}

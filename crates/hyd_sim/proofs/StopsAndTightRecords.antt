@@ -12,9 +12,9 @@ use Rattle.hyd_spec_certificates.specs.PeriodNetwork.{Grid}
 use Rattle.hyd_spec_certificates.specs.Certificate.{IsCertificate, IsTight}
 use Rattle.hyd_spec_certificates.specs.RecordAndStanding.{Record, Standing}
 use Rattle.hyd_spec_certificates.specs.Valid.{IsProblem, IsGridAt, DemandsAreInRange, AreCertificates, demand_limit}
-use Rattle.hyd_spec_reports.specs.Stops.{Stops, IsFirstDemand, IsTightRow, HasNoCertificate}
-use Rattle.hyd_spec_reports.specs.TurnsOfProblems.{EarlierHaveCertificates}
-use Rattle.hyd_spec_reports.specs.Stops.{SpendsRounds}
+use Rattle.hyd_spec_certificates.specs.Stops.{Stops, IsFirstDemand, IsTightRow, HasNoCertificate}
+use Rattle.hyd_spec_certificates.specs.TurnsOfProblems.{EarlierHaveCertificates}
+use Rattle.hyd_spec_certificates.specs.Stops.{SpendsRounds}
 use Rattle.hyd_cert.specs.RecordView.{IsProblemOf}
 use Rattle.hyd_period_network.proofs.NetOfSoundProject.{long_zipped}
 use Rattle.hyd_period_network.specs.NetView.{NetView}

@@ -13,10 +13,9 @@ use Rattle.hyd_spec_certificates.specs.RecordAndStanding.{Record, Standing, Vect
 use Rattle.hyd_spec_certificates.specs.Decided.{ByRules, WithoutRules, RuleIsOpen, EventIsOpen}
 use Rattle.hyd_spec_certificates.specs.Valid.{IsProblem, AreCertificates, LeavesLinks, by_rules, by_clock, LeadsOn}
 use Rattle.hyd_spec_certificates.specs.Valid.{continues, finishes, IsValid, DemandsAreInRange}
-use Rattle.hyd_spec_reports.specs.declared.CertRefused.TheVariants.{Demand, Fails, Open as MatterOpen, Length}
-use Rattle.hyd_spec_reports.specs.RefusedRecords.{IsRefused, IsInPlace, HasItsGrid, LeavesOpen, rule, event, tank}
-use Rattle.hyd_spec_reports.specs.RefusedRecords.{control}
-use Rattle.hyd_spec_reports.specs.RefusedRecords.{HasOtherLength, at_end, before_end}
+use Rattle.hyd_spec_certificates.specs.declared.CertRefused.TheVariants.{Demand, Fails, Open as MatterOpen, Length}
+use Rattle.hyd_spec_certificates.specs.RefusedRecords.{IsRefused, IsInPlace, HasItsGrid, LeavesOpen, rule, event, tank}
+use Rattle.hyd_spec_certificates.specs.RefusedRecords.{control, HasOtherLength, at_end, before_end}
 use Rattle.hyd_theorems_on_definitions.proofs.OneLength.{ends_again}
 use Rattle.hyd_theorems_on_definitions.proofs.OneRefusal.{refused_invalid}
 use Rattle.hyd_cert.specs.RecordView.{row_of, IsProblemOf}

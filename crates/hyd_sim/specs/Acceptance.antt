@@ -7,7 +7,7 @@ use Rattle.hyd_spec_certificates.specs.PeriodNetwork.{Grid}
 use Rattle.hyd_spec_certificates.specs.Certificate.{IsCertificate, FailsFirst}
 use Rattle.hyd_spec_certificates.specs.RecordAndStanding.{Record, Standing, vector_of}
 use Rattle.hyd_spec_certificates.specs.Valid.{IsValid}
-use Rattle.hyd_spec_reports.specs.TurnsOfProblems.{turn}
+use Rattle.hyd_spec_certificates.specs.TurnsOfProblems.{turn}
 use Rattle.hyd_cert.specs.RecordView.{row_of, IsProblemOf}
 use Rattle.hyd_cert.specs.declared.record.Record.{Record as Row}
 use Rattle.hyd_period_facts.specs.FactsOfPeriod.{AreFacts}

@@ -14,10 +14,10 @@ use Rattle.hyd_spec_certificates.specs.PeriodNetwork.{Grid}
 use Rattle.hyd_spec_certificates.specs.Certificate.{IsCertificate}
 use Rattle.hyd_spec_certificates.specs.RecordAndStanding.{Standing}
 use Rattle.hyd_spec_certificates.specs.Valid.{IsGridAt}
-use Rattle.hyd_spec_reports.specs.TurnsOfProblems.{turn}
-use Rattle.hyd_spec_reports.specs.declared.StopCause.{StopCause}
-use Rattle.hyd_spec_reports.specs.declared.StopCause.TheVariants.{NoCertificate, RoundsSpent, RuleOpen, EventOpen}
-use Rattle.hyd_spec_reports.specs.declared.StopCause.TheVariants.{TankOpen, ControlOpen}
+use Rattle.hyd_spec_certificates.specs.TurnsOfProblems.{turn}
+use Rattle.hyd_spec_certificates.specs.declared.StopCause.{StopCause}
+use Rattle.hyd_spec_certificates.specs.declared.StopCause.TheVariants.{NoCertificate, RoundsSpent, RuleOpen, EventOpen}
+use Rattle.hyd_spec_certificates.specs.declared.StopCause.TheVariants.{TankOpen, ControlOpen}
 use Rattle.hyd_cert.specs.RecordView.{IsProblemOf}
 use Rattle.hyd_period_end.specs.declared.undecided.Open.{Open}
 use Rattle.hyd_period_end.specs.declared.undecided.Open.TheVariants.{Rule, Event, Tank, Control}

@@ -4,9 +4,9 @@ use Rattle.hyd_net.specs.Sound.{IsSound}
 use Rattle.hyd_spec.specs.ProgramTypes.{Project, LinkState}
 use Rattle.hyd_spec_certificates.specs.SpansAsIntervals.{levels_of}
 use Rattle.hyd_spec_certificates.specs.RecordAndStanding.{Standing}
-use Rattle.hyd_spec_reports.specs.CertificateText.{version_of}
-use Rattle.hyd_spec_reports.specs.Stops.{Stops}
-use Rattle.hyd_spec_reports.specs.declared.StopCause.{StopCause}
+use Rattle.hyd_spec_certificates.specs.CertificateText.{version_of}
+use Rattle.hyd_spec_certificates.specs.Stops.{Stops}
+use Rattle.hyd_spec_certificates.specs.declared.StopCause.{StopCause}
 use Rattle.hyd_theorems_on_histories.specs.Agreement.{IsKept}
 use Rattle.hyd_theorems_on_nesting.specs.StandingsOfRuns.{IsTidy}
 use Rattle.hyd_cert.specs.Lines.{Header}

@@ -10,7 +10,7 @@ use Rattle.hyd_spec_certificates.specs.Certificate.{IsTight}
 use Rattle.hyd_spec_certificates.specs.Narrow.{IsNarrow}
 use Rattle.hyd_spec_certificates.specs.RecordAndStanding.{Record, Standing, vector_of}
 use Rattle.hyd_spec_certificates.specs.Valid.{IsProblem, IsGridAt, IsValid}
-use Rattle.hyd_spec_reports.specs.Stops.{Stops}
+use Rattle.hyd_spec_certificates.specs.Stops.{Stops}
 use Rattle.hyd_cert.specs.RecordView.{row_of}
 use Rattle.hyd_cert.specs.declared.record.Record.{Record as Row}
 use Rattle.hyd_period_facts.specs.FactsOfPeriod.{AreFacts}

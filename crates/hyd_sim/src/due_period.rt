@@ -7,7 +7,7 @@ ghost use Rattle.hyd_spec.specs.NodeNumbers.{tank_count};
 ghost use Rattle.hyd_spec_certificates.specs.Narrow.{IsNarrow};
 ghost use Rattle.hyd_spec_certificates.specs.RecordAndStanding.{Record as Row};
 ghost use Rattle.hyd_spec_certificates.specs.Valid.{DemandsAreInRange};
-ghost use Rattle.hyd_spec_reports.specs.Stops.{Stops};
+ghost use Rattle.hyd_spec_certificates.specs.Stops.{Stops};
 ghost use Rattle.hyd_cert.specs.RecordView.{header_of, row_of};
 ghost use Rattle.hyd_period_facts.specs.ReservedMemory.{HasRoom};
 ghost use Rattle.hyd_period_network.specs.NetAsPeriodNetwork.{grid_of};
@@ -32,8 +32,7 @@ use hyd_period_end::PeriodEnd;
 use hyd_period_facts::Facts;
 use hyd_period_network::Net;
 use hyd_period_vectors::Search;
-use hyd_spec_certificates::{Problem, Side};
-use hyd_spec_reports::StopCause;
+use hyd_spec_certificates::{Problem, Side, StopCause};
 
 // Whether the record of a period that is over is narrow.
 fn is_narrow(

@@ -8,7 +8,7 @@ ghost use Rattle.hyd_spec.specs.NodeNumbers.{tank_count};
 ghost use Rattle.hyd_spec_certificates.specs.SpansAsIntervals.{levels_of};
 ghost use Rattle.hyd_spec_certificates.specs.Decided.{acts_on};
 ghost use Rattle.hyd_spec_certificates.specs.Valid.{ControlsAreDecided};
-ghost use Rattle.hyd_spec_reports.specs.ChangesAtStart.{start_changes};
+ghost use Rattle.hyd_spec_certificates.specs.ChangesAtStart.{start_changes};
 ghost use Rattle.hyd_period_facts.specs.ReservedMemory.{HasRoom};
 ghost use Rattle.hyd_period_network.specs.LawsInSettings.{AreStates};
 ghost use Rattle.hyd_period_end.specs.FactsBeforeVectors.{AreBegun, AreReady};

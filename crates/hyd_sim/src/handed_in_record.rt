@@ -5,7 +5,7 @@ ghost use Rattle.std.specs.Prelude.{◌≡◌, Err, None, length, IfErr, OnErr, 
 ghost use Rattle.hyd_net.specs.Sound.{IsSound};
 ghost use Rattle.hyd_spec.specs.NodeNumbers.{tank_count};
 ghost use Rattle.hyd_spec_certificates.specs.Valid.{AreCertificates};
-ghost use Rattle.hyd_spec_reports.specs.RefusedRecords.{HasItsGrid, IsInPlace, IsRefused};
+ghost use Rattle.hyd_spec_certificates.specs.RefusedRecords.{HasItsGrid, IsInPlace, IsRefused};
 ghost use Rattle.hyd_cert.specs.RecordView.{header_of, row_of};
 ghost use Rattle.hyd_period_facts.specs.ReservedMemory.{HasRoom};
 ghost use Rattle.hyd_period_network.specs.NetAsPeriodNetwork.{grid_of};
@@ -27,7 +27,7 @@ use hyd_net::{LinkState, Project};
 use hyd_period_end::PeriodEnd;
 use hyd_period_facts::Facts;
 use hyd_period_network::Net;
-use hyd_spec_reports::CertRefused;
+use hyd_spec_certificates::CertRefused;
 
 // Decides whether a record is the one that is due: the run isn't over, and its number and its time are the next.
 fn check_place(project: &Project, standing: &Standing, given: &Record) -> Result<(), CertRefused>

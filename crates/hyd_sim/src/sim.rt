@@ -8,7 +8,7 @@ use hyd_period_end::PeriodEnd;
 use hyd_period_facts::Facts;
 use hyd_period_network::Net;
 use hyd_period_vectors::Search;
-use hyd_spec_reports::StopCause;
+use hyd_spec_certificates::StopCause;
 use std::marker::Model;
 
 /// A run of a network: the standing between two periods, and what the last period left. Contracts see its parts.

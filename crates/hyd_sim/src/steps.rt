@@ -4,7 +4,7 @@
 ghost use Rattle.std.specs.Prelude.{◌≡◌, Some, None, true, false, IfErr, IsOk, OnOk, OnErr};
 ghost use Rattle.hyd_spec.specs.NodeNumbers.{tank_count};
 ghost use Rattle.hyd_spec_certificates.specs.RecordAndStanding.{Record as Row};
-ghost use Rattle.hyd_spec_reports.specs.Stops.{Stops};
+ghost use Rattle.hyd_spec_certificates.specs.Stops.{Stops};
 ghost use Rattle.hyd_cert.specs.RecordView.{row_of};
 ghost use Rattle.hyd_period_network.specs.NetAsPeriodNetwork.{grid_of};
 ghost use Rattle.hyd_period_vectors.specs.SoughtVectors.{HaveSame};
@@ -15,7 +15,7 @@ ghost use Rattle.hyd_sim.specs.RunView.{standing_of};
 use crate::due_period::advance;
 use crate::sim::Sim;
 use hyd_finders::Finder;
-use hyd_spec_reports::StopCause;
+use hyd_spec_certificates::StopCause;
 
 /// What a step did.
 #[derive(Clone, Copy, Drop)]

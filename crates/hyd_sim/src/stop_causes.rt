@@ -7,7 +7,7 @@ ghost use Rattle.hyd_sim.specs.NarrowRecordsAndStops.{SaysNone, IsBySpentRounds,
 use hyd_period_end::Open;
 use hyd_period_network::PeriodDemand;
 use hyd_period_vectors::Lack;
-use hyd_spec_reports::StopCause;
+use hyd_spec_certificates::StopCause;
 
 /// The stop at the period of a number whose demand is out of range.
 pub(crate) fn demand_stop(number: u32, fault: PeriodDemand) -> StopCause

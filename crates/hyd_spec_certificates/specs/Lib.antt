@@ -14,3 +14,11 @@ pub mod FirstSeconds
 pub mod Decided
 pub mod Valid
 pub mod Narrow
+pub mod CertificateText
+pub mod TurnsOfProblems
+pub mod Stops
+pub mod RefusedRecords
+pub mod ChangesAtStart
+pub mod StatusesOfLinks
+pub mod EndsOfPeriods
+pub mod PrintedIntervals

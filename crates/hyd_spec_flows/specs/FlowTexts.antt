@@ -5,8 +5,9 @@ use Rattle.std.specs.Prelude.{decimal}
 use Rattle.std.specs.List.{starts_with}
 use Rattle.hyd_spec.specs.Lists.{joined}
 use Rattle.hyd_spec_certificates.specs.RecordAndStanding.{Record}
-use Rattle.hyd_spec_reports.specs.CertificateText.{line, header_line, vectors_text, record_text, end_line, IsVector}
-use Rattle.hyd_spec_reports.specs.CertificateText.{IsRow, IsCertificateText}
+use Rattle.hyd_spec_certificates.specs.CertificateText.{line, header_line, vectors_text, record_text, end_line}
+use Rattle.hyd_spec_certificates.specs.CertificateText.{IsVector}
+use Rattle.hyd_spec_certificates.specs.CertificateText.{IsRow, IsCertificateText}
 use Rattle.hyd_spec_flows.specs.FlowParts.{NamedLink, FlowPart}
 
 -- The version of certificates with flows.

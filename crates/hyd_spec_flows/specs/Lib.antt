@@ -1,4 +1,2 @@
 pub mod FlowParts
 pub mod FlowTexts
-pub mod FlowLines
-pub mod PromisesWithFlows

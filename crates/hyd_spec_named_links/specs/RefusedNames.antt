@@ -2,7 +2,7 @@
 -- Source: this program's.
 use Rattle.std.specs.Prelude.{◌≡◌, ℕ, suc, List, [], ◌∷◌, All, take, slice_get, Some, codes, decimal}
 use Rattle.hyd_spec.specs.ProgramTypes.{Project}
-use Rattle.hyd_spec_reports.specs.CertificateText.{line}
+use Rattle.hyd_spec_certificates.specs.CertificateText.{line}
 use Rattle.hyd_spec_named_links.specs.NamedLinks.{IsLinkNamed, NamesNoLink, JoinsTwoJunctions}
 use Rattle.hyd_spec_named_links.specs.declared.NameFails.{NameFails}
 use Rattle.hyd_spec_named_links.specs.declared.NameFails.TheVariants.{NoLink, NotBetweenJunctions}

@@ -13,7 +13,7 @@ use Rattle.hyd_spec_certificates.specs.declared.HeldJunction.{HeldJunction}
 use Rattle.hyd_spec_certificates.specs.PeriodNetwork.{Grid, GridJunction}
 use Rattle.hyd_spec_certificates.specs.Certificate.{IsCertificateHolding, IsTightHolding, AreRoundsHolding}
 use Rattle.hyd_spec_certificates.specs.BoxesWithHeldJunction.{passing_draw}
-use Rattle.hyd_spec_reports.specs.TurnsOfProblems.{beginning}
+use Rattle.hyd_spec_certificates.specs.TurnsOfProblems.{beginning}
 use Rattle.hyd_spec_pressure_targets.specs.declared.Edge.{Edge}
 use Rattle.hyd_spec_pressure_targets.specs.declared.Edge.TheVariants.{Flow, NoCertificate, RoundsSpent}
 use Rattle.hyd_spec_pressure_targets.specs.declared.Bracket.{Bracket}

@@ -5,7 +5,7 @@ use Rattle.std.specs.Prelude.{◌≡◌, ℕ, ℤ, pos, MatchBool, int_lt, int_l
 use Rattle.hyd_num.specs.PrintedDecimals.{flow_quantity, IsRoundedDown, IsRoundedUp, decimal_text}
 use Rattle.hyd_num.specs.declared.flow_units.FlowUnit.{FlowUnit}
 use Rattle.hyd_spec.specs.ProgramTypes.{Project}
-use Rattle.hyd_spec_reports.specs.CertificateText.{line}
+use Rattle.hyd_spec_certificates.specs.CertificateText.{line}
 use Rattle.hyd_spec_reports.specs.ReportLine.{node_id, link_id}
 use Rattle.hyd_spec_pressure_targets.specs.declared.Edge.{Edge}
 use Rattle.hyd_spec_pressure_targets.specs.declared.Edge.TheVariants.{Flow, NoCertificate as NoVector}

@@ -10,8 +10,8 @@ use Rattle.hyd_spec.specs.Lists.{joined, map_from}
 use Rattle.hyd_spec.specs.NodeNumbers.{junction_count}
 use Rattle.hyd_spec.specs.Assignment.{Assignment, head_at}
 use Rattle.hyd_spec_certificates.specs.PeriodNetwork.{Grid}
-use Rattle.hyd_spec_reports.specs.declared.StopCause.TheVariants.{Demand as DemandOutOfRange}
-use Rattle.hyd_spec_reports.specs.Stops.{IsFirstDemand}
+use Rattle.hyd_spec_certificates.specs.declared.StopCause.TheVariants.{Demand as DemandOutOfRange}
+use Rattle.hyd_spec_certificates.specs.Stops.{IsFirstDemand}
 use Rattle.hyd_spec_reports.specs.ReportLine.{node_id, stop_line, done_line}
 use Rattle.hyd_spec_pressure_targets.specs.declared.Bracket.{Bracket}
 use Rattle.hyd_spec_pressure_targets.specs.declared.ClosureWord.{ClosureWord}

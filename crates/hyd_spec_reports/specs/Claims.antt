@@ -1,58 +1,27 @@
 -- What a line of the report claims of a period of a history.
 -- Source: this program's; the quantities are those that EPANET prints (2.2 User Manual, chapter on viewing results).
-use Rattle.std.specs.Prelude.{◌≡◌, ℕ, ◌+◌, ◌*◌, ◌^◌, ℤ, pos, ◌+ℤ◌, ◌-ℤ◌, ◌<ℤ◌, ◌≤ℤ◌, ◌*ℤ◌, IsTrue, Bool, true, false}
-use Rattle.std.specs.Prelude.{List, Some, slice_get, ⊤, Contains, ◌≢◌, ◌%◌, IsFalse}
-use Rattle.hyd_num.specs.Rational.{Rational, is_at_most, whole}
-use Rattle.hyd_num.specs.PrintedDecimals.{head_quantity, pressure_quantity, flow_quantity}
-use Rattle.hyd_net.specs.ListView.{ListView}
-use Rattle.hyd_net.specs.Curves.{value_at}
-use Rattle.hyd_spec.specs.ProgramTypes.{Project, Junction, Reservoir, Tank, Link, LinkKind, PipeLink, CheckPipe}
-use Rattle.hyd_spec.specs.ProgramTypes.{PumpLink}
-use Rattle.hyd_spec.specs.ProgramTypes.{CurvePump, Tcv, Fcv, Gpv, HeadPoint, OpenValve, LinkState, Open, Closed, Speed}
-use Rattle.hyd_spec.specs.ProgramTypes.{Throttle, Limit, Control, AtLevel}
+use Rattle.std.specs.Prelude.{◌≡◌, ℕ, ◌+◌, ℤ, ◌+ℤ◌, ◌-ℤ◌, IsTrue, Bool, true, false, List, Some, slice_get, Contains}
+use Rattle.std.specs.Prelude.{◌≢◌, ◌%◌, IsFalse}
+use Rattle.hyd_num.specs.Rational.{whole}
+use Rattle.hyd_spec.specs.ProgramTypes.{Project, Junction, Reservoir, Tank, Link, LinkState, Control, AtLevel}
 use Rattle.hyd_spec.specs.declared.TankState.{TankState}
 use Rattle.hyd_spec.specs.declared.TankState.TheVariants.{Full, Empty}
 use Rattle.hyd_spec.specs.declared.Change.{Change}
 use Rattle.hyd_spec.specs.declared.Source.TheVariants.{Control as ByControl, Rule as ByRule}
-use Rattle.hyd_spec_reports.specs.declared.StatusWord.{StatusWord}
-use Rattle.hyd_spec_reports.specs.declared.StatusWord.TheVariants.{Open as WordOpen, Closed as WordClosed}
-use Rattle.hyd_spec_reports.specs.declared.StatusWord.TheVariants.{Active as WordActive, Unsure as WordUnsure}
+use Rattle.hyd_spec_certificates.specs.declared.StatusWord.{StatusWord}
 use Rattle.hyd_spec_certificates.specs.Interval.{Interval}
 use Rattle.hyd_spec.specs.Scale.{at_scale}
-use Rattle.hyd_spec.specs.DemandsHeadsAndPumpLifts.{is_us, lift_of, points_of, pump_knots, reservoir_head}
-use Rattle.hyd_spec.specs.Law.{flow_at_least}
-use Rattle.hyd_spec.specs.LinkLaw.{valve_law}
+use Rattle.hyd_spec.specs.DemandsHeadsAndPumpLifts.{is_us, reservoir_head}
 use Rattle.hyd_spec.specs.Assignment.{node_heads, head_at, flow_at}
 use Rattle.hyd_spec.specs.Tank.{tank_inflow, reaches}
 use Rattle.hyd_spec.specs.PumpPatternsAndSimpleControls.{acts_at}
 use Rattle.hyd_spec.specs.Rules.{rule_changes}
 use Rattle.hyd_spec.specs.PeriodLength.{Period, level_at_start, watched_after, values_at}
-use Rattle.hyd_spec_reports.specs.ChangesAtStart.{start_changes}
+use Rattle.hyd_spec_certificates.specs.ChangesAtStart.{start_changes}
 use Rattle.hyd_spec_reports.specs.ReportLine.{ReportLine, ControlLine, TimeLine, JunctionLine, ReservoirLine, TankLine}
 use Rattle.hyd_spec_reports.specs.ReportLine.{LinkLine, FilledLine, EmptiedLine, ReachedLine, RuleLine}
-
--- ---- values between printed ends
-
--- A value in the file's units lies between two printed ends (ten-thousandths).
-pub record LiesBetween (ends : Interval) (x : Rational) : Type 0 where
-  pub at_least : IsTrue (is_at_most (record { num = ends.lo; den = 10 ^ 4 }) x)
-  pub at_most : IsTrue (is_at_most x (record { num = ends.hi; den = 10 ^ 4 }))
-
--- A quantity of a number of S-th parts of a tick.
-abbrev pub at_part : ℕ → (ℤ → Rational) → ℤ → Rational
-at_part S quantity parts = record { num = (quantity parts).num; den = (quantity parts).den * S }
-
--- A head or level (S-th parts of a head tick) lies between the printed ends, in feet or metres.
-abbrev pub HeadLies : Project → ℕ → Interval → ℤ → Type 0
-HeadLies project S ends h = LiesBetween ends (at_part S (head_quantity (is_us project)) h)
-
--- A pressure (S-th parts of a head tick) lies between the printed ends, in psi or metres.
-abbrev pub PressureLies : Project → ℕ → Interval → ℤ → Type 0
-PressureLies project S ends p = LiesBetween ends (at_part S (pressure_quantity (is_us project)) p)
-
--- A flow (S-th parts of a flow tick) lies between the printed ends, in the file's flow unit.
-abbrev pub FlowLies : Project → ℕ → Interval → ℤ → Type 0
-FlowLies project S ends q = LiesBetween ends (at_part S (flow_quantity project.options.unit) q)
+use Rattle.hyd_spec_certificates.specs.PrintedIntervals.{HeadLies, PressureLies, FlowLies}
+use Rattle.hyd_spec_certificates.specs.StatusesOfLinks.{StatusHolds}
 
 -- ---- nodes
 
@@ -91,74 +60,6 @@ abbrev pub difference_along : Project → ℕ → Period → Link → ℤ
 difference_along project S period link =
     let heads = node_heads project S period.time period.levels period.assignment.heads in
     head_at heads link.from -ℤ head_at heads link.to
-
--- The driving difference of a running pump: the head difference and its lift (S-th parts of a head tick), multiplied by
--- the lift's denominator, which leaves its sign.
-abbrev pub drive_of : ℕ → Rational → ℤ → ℤ
-drive_of S lift x = (pos lift.den *ℤ x) +ℤ (pos S *ℤ lift.num)
-
--- A driving difference is above 0 where the word is OPEN, at most 0 where it is CLOSED.
-abbrev pub DriveIs : StatusWord → ℤ → Type 0
-DriveIs WordOpen drive = pos 0 <ℤ drive
-DriveIs WordClosed drive = drive ≤ℤ pos 0
-DriveIs WordActive drive = ⊥
-DriveIs WordUnsure drive = ⊤
-
--- The open valve's exact flow is at least the setting where the word is ACTIVE, below it where it is OPEN.
-abbrev pub SettingIs : StatusWord → OpenValve → ℕ → ℤ → ℤ → Type 0
-SettingIs WordActive valve S x setting = flow_at_least (valve_law valve) S x (at_scale S setting)
-SettingIs WordOpen valve S x setting = flow_at_least (valve_law valve) S x (at_scale S setting) → ⊥
-SettingIs WordClosed valve S x setting = ⊥
-SettingIs WordUnsure valve S x setting = ⊤
-
--- The commanded state: closed where the word is CLOSED, throttled where it is ACTIVE, open where it is OPEN.
-abbrev pub StateIs : StatusWord → LinkState → Type 0
-StateIs WordOpen Open = ⊤
-StateIs WordOpen Closed = ⊥
-StateIs WordOpen (Speed speed) = ⊥
-StateIs WordOpen (Throttle setting law) = ⊥
-StateIs WordOpen (Limit setting ticks) = ⊥
-StateIs WordClosed Open = ⊥
-StateIs WordClosed Closed = ⊤
-StateIs WordClosed (Speed speed) = ⊥
-StateIs WordClosed (Throttle setting law) = ⊥
-StateIs WordClosed (Limit setting ticks) = ⊥
-StateIs WordActive Open = ⊥
-StateIs WordActive Closed = ⊥
-StateIs WordActive (Speed speed) = ⊥
-StateIs WordActive (Throttle setting law) = ⊤
-StateIs WordActive (Limit setting ticks) = ⊥
-StateIs WordUnsure state = ⊤
-
--- What a status word says of a link in its state, at the head difference x. UNSURE says nothing, and so it is with a
--- kind and a state that don't go together. Of a running pump whose curve is one by straight lines OPEN and CLOSED tell
--- the sign of the value on them, as of other running pumps that of the driving difference.
-abbrev pub StatusHolds : Bool → List (ListView HeadPoint) → StatusWord → LinkKind → LinkState → ℕ → ℤ → Type 0
-StatusHolds us bends word (PipeLink capacity) Open S x = StateIs word Open
-StatusHolds us bends word (PipeLink capacity) Closed S x = StateIs word Closed
-StatusHolds us bends word (PipeLink capacity) other S x = StateIs word other
-StatusHolds us bends word (CheckPipe capacity) Open S x = DriveIs word x
-StatusHolds us bends word (CheckPipe capacity) Closed S x = StateIs word Closed
-StatusHolds us bends word (CheckPipe capacity) other S x = StateIs word other
-StatusHolds us bends word (PumpLink capacity shutoff head pattern) (Speed speed) S x = DriveIs word
-    (drive_of S (lift_of us head speed) x)
-StatusHolds us bends word (PumpLink capacity shutoff head pattern) Closed S x = StateIs word Closed
-StatusHolds us bends word (PumpLink capacity shutoff head pattern) other S x = StateIs word other
-StatusHolds us bends word (CurvePump bend pattern) (Speed speed) S x = DriveIs word
-    (value_at S (pump_knots (points_of bends bend) speed) x).num
-StatusHolds us bends word (CurvePump bend pattern) Closed S x = StateIs word Closed
-StatusHolds us bends word (CurvePump bend pattern) other S x = StateIs word other
-StatusHolds us bends word (Tcv valve) Open S x = StateIs word Open
-StatusHolds us bends word (Tcv valve) (Throttle setting law) S x = StateIs word (Throttle setting law)
-StatusHolds us bends word (Tcv valve) Closed S x = StateIs word Closed
-StatusHolds us bends word (Tcv valve) other S x = StateIs word other
-StatusHolds us bends word (Fcv valve) Open S x = StateIs word Open
-StatusHolds us bends word (Fcv valve) (Limit setting ticks) S x = SettingIs word valve S x ticks
-StatusHolds us bends word (Fcv valve) Closed S x = StateIs word Closed
-StatusHolds us bends word (Fcv valve) other S x = StateIs word other
-StatusHolds us bends word (Gpv bend) Open S x = StateIs word Open
-StatusHolds us bends word (Gpv bend) Closed S x = StateIs word Closed
-StatusHolds us bends word (Gpv bend) other S x = StateIs word other
 
 -- Link number l: its flow lies between the printed ends, and its status word holds.
 pub record LinkLies (project : Project) (S : ℕ) (period : Period) (l : ℕ) (flow : Interval) (word : StatusWord) : Type

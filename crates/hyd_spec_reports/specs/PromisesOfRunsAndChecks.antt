@@ -19,13 +19,13 @@ use Rattle.hyd_spec_certificates.specs.RecordAndStanding.{Record, Standing, init
 use Rattle.hyd_spec_certificates.specs.Decided.{links_at}
 use Rattle.hyd_spec_certificates.specs.Valid.{IsValid, IsProblem}
 use Rattle.hyd_spec_certificates.specs.Narrow.{IsNarrow}
-use Rattle.hyd_spec_reports.specs.CertificateText.{IsCertificateText, IsRow, version_of, header_line, record_text}
-use Rattle.hyd_spec_reports.specs.CertificateText.{end_line, line_feeds}
-use Rattle.hyd_spec_reports.specs.declared.StopCause.{StopCause}
-use Rattle.hyd_spec_reports.specs.declared.StopCause.TheVariants.{Demand as DemandOutOfRange, RoundsSpent}
-use Rattle.hyd_spec_reports.specs.declared.CertRefused.{CertRefused}
-use Rattle.hyd_spec_reports.specs.Stops.{Stops}
-use Rattle.hyd_spec_reports.specs.RefusedRecords.{IsRefused}
+use Rattle.hyd_spec_certificates.specs.CertificateText.{IsCertificateText, IsRow, version_of, header_line, record_text}
+use Rattle.hyd_spec_certificates.specs.CertificateText.{end_line, line_feeds}
+use Rattle.hyd_spec_certificates.specs.declared.StopCause.{StopCause}
+use Rattle.hyd_spec_certificates.specs.declared.StopCause.TheVariants.{Demand as DemandOutOfRange, RoundsSpent}
+use Rattle.hyd_spec_certificates.specs.declared.CertRefused.{CertRefused}
+use Rattle.hyd_spec_certificates.specs.Stops.{Stops}
+use Rattle.hyd_spec_certificates.specs.RefusedRecords.{IsRefused}
 use Rattle.hyd_spec_reports.specs.Report.{IsReport}
 use Rattle.hyd_spec_reports.specs.ReportLine.{ReportLine, report_text, stop_line, done_line, partial_line, refused_line}
 use Rattle.hyd_spec_reports.specs.ReportLine.{refused_end_line}

@@ -12,21 +12,22 @@ use Rattle.hyd_spec_certificates.specs.declared.Problem.{Problem}
 use Rattle.hyd_spec_certificates.specs.declared.Problem.TheVariants.{Main, Pinned}
 use Rattle.hyd_spec_certificates.specs.declared.Side.{Side}
 use Rattle.hyd_spec_certificates.specs.declared.Side.TheVariants.{Upper, Lower}
-use Rattle.hyd_spec_reports.specs.declared.StatusWord.{StatusWord}
-use Rattle.hyd_spec_reports.specs.declared.StatusWord.TheVariants.{Open as WordOpen, Closed as WordClosed}
-use Rattle.hyd_spec_reports.specs.declared.StatusWord.TheVariants.{Active as WordActive, Unsure as WordUnsure}
-use Rattle.hyd_spec_reports.specs.declared.StopCause.{StopCause}
-use Rattle.hyd_spec_reports.specs.declared.StopCause.TheVariants.{Demand as DemandOutOfRange, NoCertificate}
-use Rattle.hyd_spec_reports.specs.declared.StopCause.TheVariants.{RoundsSpent, RuleOpen, EventOpen, TankOpen}
-use Rattle.hyd_spec_reports.specs.declared.StopCause.TheVariants.{ControlOpen}
-use Rattle.hyd_spec_reports.specs.declared.CertRefused.{CertRefused}
-use Rattle.hyd_spec_reports.specs.declared.CertRefused.TheVariants.{Place, Demand, Fails, Open as MatterOpen, Length}
-use Rattle.hyd_spec_reports.specs.declared.CertRefused.TheVariants.{After}
+use Rattle.hyd_spec_certificates.specs.declared.StatusWord.{StatusWord}
+use Rattle.hyd_spec_certificates.specs.declared.StatusWord.TheVariants.{Open as WordOpen, Closed as WordClosed}
+use Rattle.hyd_spec_certificates.specs.declared.StatusWord.TheVariants.{Active as WordActive, Unsure as WordUnsure}
+use Rattle.hyd_spec_certificates.specs.declared.StopCause.{StopCause}
+use Rattle.hyd_spec_certificates.specs.declared.StopCause.TheVariants.{Demand as DemandOutOfRange, NoCertificate}
+use Rattle.hyd_spec_certificates.specs.declared.StopCause.TheVariants.{RoundsSpent, RuleOpen, EventOpen, TankOpen}
+use Rattle.hyd_spec_certificates.specs.declared.StopCause.TheVariants.{ControlOpen}
+use Rattle.hyd_spec_certificates.specs.declared.CertRefused.{CertRefused}
+use Rattle.hyd_spec_certificates.specs.declared.CertRefused.TheVariants.{Place, Demand, Fails, Open as MatterOpen}
+use Rattle.hyd_spec_certificates.specs.declared.CertRefused.TheVariants.{Length, After}
 use Rattle.hyd_spec.specs.Lists.{joined}
 use Rattle.hyd_spec_certificates.specs.Interval.{Interval}
 use Rattle.hyd_spec.specs.NodeNumbers.{tank_node, junction_count}
-use Rattle.hyd_spec_reports.specs.CertificateText.{line}
-use Rattle.hyd_spec_reports.specs.Stops.{period_of}
+use Rattle.hyd_spec_certificates.specs.CertificateText.{line}
+use Rattle.hyd_spec_certificates.specs.Stops.{period_of}
+use Rattle.hyd_spec_certificates.specs.RefusedRecords.{refused_period}
 
 -- A line of a report, the first and the last one aside.
 pub data ReportLine : Type 0 where
@@ -198,15 +199,6 @@ done_line records = line (codes "DONE" ∷ (decimal records ∷ []))
 -- `PARTIAL n` after the certificate of a stopped run was accepted; n counts the records.
 abbrev pub partial_line : ℕ → List ℕ
 partial_line records = line (codes "PARTIAL" ∷ (decimal records ∷ []))
-
--- The period that a refusal names.
-abbrev pub refused_period : CertRefused → ℕ
-refused_period (Place period) = period
-refused_period (Demand period) = period
-refused_period (Fails period problem side junction) = period
-refused_period (MatterOpen period) = period
-refused_period (Length period) = period
-refused_period (After period) = period
 
 -- The words of a refusal.
 abbrev pub refusal_words : Project → CertRefused → List (List ℕ)

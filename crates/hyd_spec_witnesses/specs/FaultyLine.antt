@@ -3,7 +3,7 @@
 -- Source: this program's format.
 use Rattle.std.specs.Prelude.{◌≡◌, ◌≢◌, ℕ, ◌+◌, List, [], ◌∷◌, ◌++◌, ◌⊎◌}
 use Rattle.std.specs.List.{AllByRecursion}
-use Rattle.hyd_spec_reports.specs.CertificateText.{line_feeds}
+use Rattle.hyd_spec_certificates.specs.CertificateText.{line_feeds}
 use Rattle.hyd_spec_witnesses.specs.MetPeriods.{Moment}
 use Rattle.hyd_spec_witnesses.specs.WitnessText.{Counts, IsWitnessText}
 

@@ -7,11 +7,13 @@ use Rattle.hyd_spec.specs.Lists.{joined}
 use Rattle.hyd_spec.specs.NodeNumbers.{junction_count, tank_count}
 use Rattle.hyd_spec.specs.History.{IsHistory}
 use Rattle.hyd_spec_certificates.specs.RecordAndStanding.{Standing}
-use Rattle.hyd_spec_reports.specs.CertificateText.{line, IsCertificateText, IsRow, version_of, header_line, record_text}
+use Rattle.hyd_spec_certificates.specs.CertificateText.{line, IsCertificateText, IsRow, version_of, header_line}
+use Rattle.hyd_spec_certificates.specs.CertificateText.{record_text}
 use Rattle.hyd_spec_reports.specs.PromisesOfRunsAndChecks.{Found, IsFound, IsRun, rows_of}
 use Rattle.hyd_spec_reports.specs.ReportLine.{node_id, link_id}
 use Rattle.hyd_spec_flows.specs.FlowTexts.{IsTextWithFlows}
-use Rattle.hyd_spec_flows.specs.PromisesWithFlows.{FoundNaming, IsFoundNaming, founds_in, entries_of, BeginsWithEntries}
+use Rattle.hyd_spec_reports_with_flows.specs.PromisesWithFlows.{FoundNaming, IsFoundNaming, founds_in, entries_of}
+use Rattle.hyd_spec_reports_with_flows.specs.PromisesWithFlows.{BeginsWithEntries}
 use Rattle.hyd_spec_witnesses.specs.declared.MetClause.{MetClause}
 use Rattle.hyd_spec_witnesses.specs.declared.MetClause.TheVariants.{Start, Link, Demand, Emitter, Balance, Length}
 use Rattle.hyd_spec_witnesses.specs.declared.Unmet.{Unmet}

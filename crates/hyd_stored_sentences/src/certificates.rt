@@ -4,9 +4,8 @@ ghost use Rattle.hyd_net.specs.Sound.{IsSound};
 
 use hyd_net::Project;
 use hyd_sentences::{LineFault, RefusedFlow, RefusedLine, RefusedRecord};
-use hyd_spec_certificates::{Problem, Side};
+use hyd_spec_certificates::{CertRefused, Problem, Side};
 use hyd_spec_flows::FlowFails;
-use hyd_spec_reports::CertRefused;
 use std::io;
 
 /// Refusals of records, each at least once.

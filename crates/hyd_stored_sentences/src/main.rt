@@ -1,15 +1,18 @@
 //! Stored sentences. `texts.txt` has texts that are refused, each with the line and the cause that the reader answers; the
 //! program prints what is said of each, of each way in which the name of a link is refused, in which a run stops, and in which
-//! a certificate is refused, the pages of help and the lines of progress. What is expected stands in `stdout`. A cause, a detail, a stop or a refusal without a
+//! a certificate is refused, of each junction of `cut_off.inp` and each line of `words.txt`, the pages of help and the lines of
+//! progress. What is expected stands in `stdout`. A cause, a detail, a stop or a refusal without a
 //! case is told, and so is a text of which the reader answers another line or cause.
 #![tactic(auto)]
 
 mod causes;
 mod certificates;
+mod cut_off;
 mod names;
 mod pages;
 mod stops;
 mod texts;
+mod words;
 
 use hyd_inp::read_project;
 use std::{fs, io};
@@ -28,5 +31,7 @@ fn main(rt: HostRuntime) -> io::Result<()> {
         }
         Err(_) => println!(rt; "the network isn't read")?,
     }
+    cut_off::say_all(&rt)?;
+    words::say_all(&rt)?;
     pages::say_all(&rt)
 }

@@ -1,6 +1,7 @@
-//! The pages of help, what is said of words, and the lines of progress.
+//! The pages of help, what is said of a name that is no junction's, and the lines of progress.
 
-use hyd_sentences::{Help, NoJunction, PipesDone, Progress, WrongWords};
+use hyd_help::Help;
+use hyd_sentences::{NoJunction, PipesDone, Progress};
 use std::io;
 
 /// Says the pages and the lines.
@@ -9,7 +10,6 @@ pub(crate) fn say_all(rt: &HostRuntime) -> io::Result<()> {
         println!(rt; "{}", Help { topic: Some(topic) })?;
     }
     println!(rt; "{}", Help { topic: None })?;
-    println!(rt; "{WrongWords}")?;
     println!(rt;
         "{}",
         NoJunction {

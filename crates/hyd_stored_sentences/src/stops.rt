@@ -4,8 +4,7 @@ ghost use Rattle.hyd_net.specs.Sound.{IsSound};
 
 use hyd_net::Project;
 use hyd_sentences::Stopped;
-use hyd_spec_certificates::{Problem, Side};
-use hyd_spec_reports::StopCause;
+use hyd_spec_certificates::{Problem, Side, StopCause};
 use std::io;
 
 /// Stops of a run of `network.inp`, each way at least once, in the order of `number_of`.

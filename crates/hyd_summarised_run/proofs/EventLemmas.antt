@@ -10,12 +10,13 @@ use Rattle.hyd_spec.specs.declared.Source.{Source}
 use Rattle.hyd_spec.specs.declared.Source.TheVariants.{Control as ByControl, Rule as ByRule}
 use Rattle.hyd_spec_certificates.specs.PeriodNetwork.{Grid}
 use Rattle.hyd_spec_certificates.specs.RecordAndStanding.{Record}
-use Rattle.hyd_spec_reports.specs.declared.Event.{Event}
-use Rattle.hyd_spec_reports.specs.declared.EventKind.{EventKind}
-use Rattle.hyd_spec_reports.specs.declared.EventKind.TheVariants.{Full as BecomesFull, Empty as BecomesEmpty}
-use Rattle.hyd_spec_reports.specs.declared.EventKind.TheVariants.{Control as ReachesLevel}
-use Rattle.hyd_spec_reports.specs.Report.{is_report_time, event_line}
-use Rattle.hyd_spec_reports.specs.ChangesAtStart.{change_line}
+use Rattle.hyd_spec_certificates.specs.declared.Event.{Event}
+use Rattle.hyd_spec_certificates.specs.declared.EventKind.{EventKind}
+use Rattle.hyd_spec_certificates.specs.declared.EventKind.TheVariants.{Full as BecomesFull, Empty as BecomesEmpty}
+use Rattle.hyd_spec_certificates.specs.declared.EventKind.TheVariants.{Control as ReachesLevel}
+use Rattle.hyd_spec_certificates.specs.PrintedIntervals.{is_report_time}
+use Rattle.hyd_spec_reports.specs.Report.{event_line}
+use Rattle.hyd_spec_reports.specs.Report.{change_line}
 use Rattle.hyd_spec_reports.specs.ReportLine.{ReportLine, TimeLine}
 use Rattle.hyd_spec_summary.specs.Summary.{is_event, event_count}
 use Rattle.hyd_period_facts.specs.declared.facts.Facts.{Facts}

@@ -6,13 +6,13 @@ use Rattle.hyd_net.specs.Sound.{IsSound}
 use Rattle.hyd_spec.specs.ProgramTypes.{Project}
 use Rattle.hyd_spec.specs.NodeNumbers.{junction_count, tank_count}
 use Rattle.hyd_spec_certificates.specs.RecordAndStanding.{Standing, initial_standing}
-use Rattle.hyd_spec_reports.specs.CertificateText.{end_line, header_line, version_of}
+use Rattle.hyd_spec_certificates.specs.CertificateText.{end_line, header_line, version_of}
 use Rattle.hyd_spec_reports.specs.PromisesOfRunsAndChecks.{Found, IsRunFrom, Sharpness, IsSharpFound, Outcome, EndsSo}
 use Rattle.hyd_spec_reports.specs.PromisesOfRunsAndChecks.{lines_of, last_line, report_so_far, is_finished}
 use Rattle.hyd_spec_reports.specs.PromisesOfRunsAndChecks.{certificate_so_far}
 use Rattle.hyd_spec_summary.specs.Summary.{event_count, summary_line, summary_text}
 use Rattle.hyd_lemmas.proofs.ListsOptionsAndResults.{join-more, all-more}
-use Rattle.hyd_theorems_on_histories.proofs.HistoriesAlongRuns.{every_history}
+use Rattle.hyd_theorems_on_runs.proofs.HistoriesAlongRuns.{every_history}
 use Rattle.hyd_cert.specs.Lines.{Header, header_text}
 use Rattle.hyd_io.specs.declared.output.OutFault.{OutFault}
 use Rattle.hyd_io.specs.declared.output.Channel.TheVariants.{Cert, Report}

@@ -4,7 +4,7 @@ use Rattle.hyd_cert.specs.RecordView.{row_of}
 use Rattle.hyd_cert.specs.declared.record.Record.{Record as Row}
 use Rattle.hyd_period_facts.specs.declared.facts.Facts.{Facts}
 use Rattle.hyd_period_network.specs.NetAsPeriodNetwork.{grid_of, states_of}
-use Rattle.hyd_spec_reports.specs.CertificateText.{record_text}
+use Rattle.hyd_spec_certificates.specs.CertificateText.{record_text}
 use Rattle.hyd_io.specs.declared.output.OutFault.{OutFault}
 use Rattle.hyd_sim.specs.RunView.{SimView, IsSim}
 use Rattle.hyd_sim.specs.Steps.{IsPeriod}

@@ -3,7 +3,7 @@ use Rattle.std.proofs.Common.{◌≡◌, ◌∙◌, ℕ, List, [], ◌∷◌, �
 use Rattle.std.specs.Prelude.{false}
 use Rattle.std.specs.Fmt.{decimal}
 use Rattle.hyd_spec_certificates.specs.RecordAndStanding.{Standing}
-use Rattle.hyd_spec_reports.specs.CertificateText.{line}
+use Rattle.hyd_spec_certificates.specs.CertificateText.{line}
 use Rattle.hyd_spec_summary.specs.Summary.{summary_line}
 
 flat : (a j b l c p d e n : List ℕ) → ((a ++ j) ++ (b ++ l)) ++ (((c ++ p) ++ (d ++ e)) ++ n)

@@ -8,7 +8,7 @@ use Rattle.std.specs.List.{AllByRecursion}
 use Rattle.hyd_spec.specs.ProgramTypes.{Project}
 use Rattle.hyd_spec.specs.NodeNumbers.{junction_count, tank_count}
 use Rattle.hyd_spec_certificates.specs.RecordAndStanding.{Standing}
-use Rattle.hyd_spec_reports.specs.CertificateText.{IsRow, record_text}
+use Rattle.hyd_spec_certificates.specs.CertificateText.{IsRow, record_text}
 use Rattle.hyd_spec_reports.specs.PromisesOfRunsAndChecks.{Found, IsRun, Sharpness, IsSharpFound, Outcome, EndsSo}
 use Rattle.hyd_spec_reports.specs.PromisesOfRunsAndChecks.{rows_of}
 use Rattle.hyd_spec_reports.specs.PromisesOfRunsAndChecks.{lines_of, certificate_so_far}

@@ -6,7 +6,7 @@ ghost use Rattle.hyd_io.specs.TextPutIn.{Puts};
 ghost use Rattle.hyd_io.specs.declared.output.Channel.TheVariants.{Report};
 ghost use Rattle.hyd_net.specs.Sound.{IsSound};
 ghost use Rattle.hyd_spec_certificates.specs.RecordAndStanding.{Standing};
-ghost use Rattle.hyd_spec_reports.specs.CertificateText.{end_line};
+ghost use Rattle.hyd_spec_certificates.specs.CertificateText.{end_line};
 ghost use Rattle.hyd_spec_reports.specs.PromisesOfRunsAndChecks.{EndsSo, last_line, is_finished};
 ghost use Rattle.hyd_spec_summary.specs.Summary.{summary_line};
 ghost use Rattle.hyd_spec.specs.NodeNumbers.{junction_count};

@@ -6,7 +6,7 @@ ghost use Rattle.hyd_spec_certificates.specs.declared.Problem.{Problem};
 ghost use Rattle.hyd_spec_certificates.specs.declared.HeldJunction.{HeldJunction};
 ghost use Rattle.hyd_spec_certificates.specs.PeriodNetwork.{Grid};
 ghost use Rattle.hyd_spec_certificates.specs.StartsRaisesAndLeaps.{IsStart};
-ghost use Rattle.hyd_spec_reports.specs.TurnsOfProblems.{beginning};
+ghost use Rattle.hyd_spec_certificates.specs.TurnsOfProblems.{beginning};
 ghost use Rattle.hyd_theorems_on_definitions.specs.Sides.{near_end};
 
 use hyd_spec_certificates::{BOX_LIMIT, Side};

@@ -5,9 +5,9 @@ ghost use Rattle.hyd_io.specs.declared.output.Channel.TheVariants.{Report};
 ghost use Rattle.hyd_io.specs.Output.{HasOutCause};
 ghost use Rattle.hyd_io.specs.DeskBytes.{append_known, PutOut};
 ghost use Rattle.hyd_net.specs.Sound.{IsSound};
-ghost use Rattle.hyd_spec_reports.specs.declared.StopCause.TheVariants.{Demand as DemandOutOfRange};
+ghost use Rattle.hyd_spec_certificates.specs.declared.StopCause.TheVariants.{Demand as DemandOutOfRange};
 ghost use Rattle.hyd_spec_reports.specs.ReportLine.{stop_line};
-ghost use Rattle.hyd_spec_reports.specs.Stops.{IsFirstDemand};
+ghost use Rattle.hyd_spec_certificates.specs.Stops.{IsFirstDemand};
 ghost use Rattle.hyd_command_answers.specs.DeskContents.{seen};
 ghost use Rattle.hyd_command_answers.specs.FaultsAndRefusals.{HasCause};
 ghost use Rattle.hyd_target_commands.specs.PrintedDemands.{AnswersDemand};
@@ -18,7 +18,7 @@ use hyd_net::Project;
 use hyd_period_network::PeriodDemand;
 use hyd_report::put_stop;
 use hyd_sentences::Stopped;
-use hyd_spec_reports::StopCause;
+use hyd_spec_certificates::StopCause;
 
 // The stop at the first period, whose demand is out of range.
 fn demand_cause(demand: PeriodDemand) -> StopCause

@@ -4,7 +4,7 @@ ghost use Rattle.std.specs.Prelude.{ℕ, ◌<◌, List, [], ◌∷◌, codes, le
 ghost use Rattle.hyd_io.specs.Output.{OnCert};
 ghost use Rattle.hyd_io.specs.TextPutIn.{Puts};
 ghost use Rattle.hyd_net.specs.Sound.{IsSound};
-ghost use Rattle.hyd_spec_reports.specs.CertificateText.{line};
+ghost use Rattle.hyd_spec_certificates.specs.CertificateText.{line};
 ghost use Rattle.hyd_spec_reports.specs.ReportLine.{node_id};
 ghost use Rattle.hyd_spec_pressure_targets.specs.LinesOfTargets.{IsFireLine};
 ghost use Rattle.hyd_fire.specs.EdgesInRange.{IsSmallEdge};

@@ -7,7 +7,7 @@ ghost use Rattle.hyd_net.specs.NumberRanges.{IsHead};
 ghost use Rattle.hyd_net.specs.Sound.{IsSound};
 ghost use Rattle.hyd_spec_certificates.specs.Certificate.{IsInBox};
 ghost use Rattle.hyd_spec_certificates.specs.Valid.{DemandsAreInRange};
-ghost use Rattle.hyd_spec_reports.specs.Stops.{IsFirstDemand};
+ghost use Rattle.hyd_spec_certificates.specs.Stops.{IsFirstDemand};
 ghost use Rattle.hyd_spec_pressure_targets.specs.FirstPeriod.{IsFirstGrid};
 ghost use Rattle.hyd_period_network.specs.NetAsPeriodNetwork.{grid_of};
 ghost use Rattle.hyd_first_period.specs.FirstPeriods.{IsReady};

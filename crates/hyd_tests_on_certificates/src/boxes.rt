@@ -12,8 +12,7 @@ ghost use Rattle.hyd_bounds.specs.VectorsInOrder.{IsVector};
 use crate::networks::{Flow, Network, Row};
 use hyd_bounds::{flow_box, out_box, pinned_in_order, status_of, tank_inflow};
 use hyd_period_network::Net;
-use hyd_spec_certificates::Problem;
-use hyd_spec_reports::StatusWord;
+use hyd_spec_certificates::{Problem, StatusWord};
 use hyd_vector_check::{check_sub, check_super, is_in_box};
 
 // The vector of a row.

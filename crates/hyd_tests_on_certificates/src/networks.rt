@@ -1,8 +1,7 @@
 //! Small networks with their tight vectors by an independent program.
 #![tactic(auto)]
 
-use hyd_spec_certificates::{Problem, Side};
-use hyd_spec_reports::StatusWord;
+use hyd_spec_certificates::{Problem, Side, StatusWord};
 use hyd_test_helpers::METRE;
 
 /// The tight vector of a problem and side.

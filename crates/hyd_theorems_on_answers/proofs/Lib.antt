@@ -1,2 +1,4 @@
 pub mod OtherReadings
+pub mod OtherReadingsNaming
 pub mod TwoCalls
+pub mod TwoCallsNaming

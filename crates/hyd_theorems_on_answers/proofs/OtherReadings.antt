@@ -8,7 +8,7 @@ use Rattle.hyd_spec.specs.ProgramTypes.{Project}
 use Rattle.hyd_spec.specs.NodeNumbers.{junction_count, tank_count}
 use Rattle.hyd_spec_certificates.specs.RecordAndStanding.{Record, Standing}
 use Rattle.hyd_spec_certificates.specs.Valid.{AreValid}
-use Rattle.hyd_spec_reports.specs.CertificateText.{IsCertificateText, version_of}
+use Rattle.hyd_spec_certificates.specs.CertificateText.{IsCertificateText, version_of}
 use Rattle.hyd_spec_reports.specs.ReportLine.{report_text}
 use Rattle.hyd_spec_reports.specs.PromisesOfRunsAndChecks.{rows_of, lines_of, Sharpness, Outcome, Finished}
 use Rattle.hyd_spec_reports.specs.PromisesOfRunsAndChecks.{accepted_line}

@@ -1,12 +1,12 @@
 -- A run and a check on one text: both networks are readings of its rows, so the check doesn't refuse what the run
 -- wrote.
-use Rattle.std.proofs.Common.{◌≡◌, ◌≢◌, ℕ, List, Option, Some, None, sym, subst, ◌∙◌, refl, arith}
+use Rattle.std.proofs.Common.{◌≡◌, ◌≢◌, ℕ, List, Option, Some, None, inl, sym, subst, ◌∙◌, refl, arith}
 use Rattle.hyd_spec_lines.specs.Lines.{items_of, rows_in}
 use Rattle.hyd_spec_input.specs.Project.{IsProject}
 use Rattle.hyd_spec.specs.ProgramTypes.{Project}
-use Rattle.hyd_spec_reports.specs.declared.StopCause.TheVariants.{Demand as DemandOutOfRange, NoCertificate}
-use Rattle.hyd_spec_reports.specs.declared.StopCause.TheVariants.{RoundsSpent as SpentRounds, RuleOpen, EventOpen}
-use Rattle.hyd_spec_reports.specs.declared.StopCause.TheVariants.{TankOpen, ControlOpen}
+use Rattle.hyd_spec_certificates.specs.declared.StopCause.TheVariants.{Demand as DemandOutOfRange, NoCertificate}
+use Rattle.hyd_spec_certificates.specs.declared.StopCause.TheVariants.{RoundsSpent as SpentRounds, RuleOpen, EventOpen}
+use Rattle.hyd_spec_certificates.specs.declared.StopCause.TheVariants.{TankOpen, ControlOpen}
 use Rattle.hyd_spec_reports.specs.PromisesOfRunsAndChecks.{Outcome, Finished, Stopped, RunWrites, outcome_number}
 use Rattle.hyd_io.specs.DeskBytes.{Files, where_told, append_known}
 use Rattle.hyd_run.specs.Runs.{sharpness_of}
@@ -17,7 +17,8 @@ use Rattle.hyd_theorems_on_checks.proofs.WrittenAndAccepted.{written_is}
 use Rattle.hyd_theorems_on_rereading.proofs.OneNetwork.{one_network}
 use Rattle.hyd_theorems_on_answers.proofs.OtherReadings.{carried, readings_report}
 use Rattle.hyd_command_answers.specs.declared.status.Status.{Status}
-use Rattle.hyd_command_answers.specs.declared.status.Status.TheVariants.{Done, OutOfMemory, Usage, ReadFault, WriteFault}
+use Rattle.hyd_command_answers.specs.declared.status.Status.TheVariants.{Done, OutOfMemory, Usage, ReadFault}
+use Rattle.hyd_command_answers.specs.declared.status.Status.TheVariants.{WriteFault}
 use Rattle.hyd_command_answers.specs.declared.status.Status.TheVariants.{InputRefused, Undecided, RoundsSpent, Demand}
 use Rattle.hyd_command_answers.specs.declared.status.Status.TheVariants.{CertificateRefused, Stalled}
 use Rattle.hyd_command_answers.specs.DeskContents.{Seen}
@@ -27,12 +28,12 @@ use Rattle.hyd_theorems_on_answers.specs.StatusesThatWrote.{HasWritten}
 
 -- ---- what was written
 
-told_is : (files : Option Files) (written certificate : List ℕ) → where_told files written ≡ Some certificate
+pub told_is : (files : Option Files) (written certificate : List ℕ) → where_told files written ≡ Some certificate
     → written ≡ certificate
 told_is None written certificate e = absurd (let s : None ≡ Some certificate = e in cc)
 told_is (Some files) written certificate e = let s : Some written ≡ Some certificate = e in cc
 
-finished_by : (outcome : Outcome) → 0 ≡ outcome_number outcome → outcome ≡ Finished
+pub finished_by : (outcome : Outcome) → 0 ≡ outcome_number outcome → outcome ≡ Finished
 finished_by Finished e = refl
 finished_by (Stopped (NoCertificate period problem side junction)) e = absurd (omega (arith, e))
 finished_by (Stopped (TankOpen period tank lo hi)) e = absurd (omega (arith, e))
@@ -57,8 +58,8 @@ module _ (text cert certificate : List ℕ) (settings : Settings) (before now st
       written_is p settings.rounds (sharpness_of settings) run.outcome run.certificate run.report run.run in
       let other : IsCertificateOfRun p certificate =
       subst (λ (c : List ℕ). IsCertificateOfRun p c) (written_of p status run) own in
-      answer.holds.1 (carried p answer.project
-      (one_network (rows_in (items_of text)) p answer.project reads answer.is_network) certificate other)
+      answer.holds.1 (inl (carried p answer.project
+      (one_network (rows_in (items_of text)) p answer.project reads answer.is_network) certificate other))
 
   refused_by : (status : Status) → AnswersText text settings cert status before now → HasWritten status
       → AnswersCheck text certificate CertificateRefused start end → ⊥

@@ -7,6 +7,7 @@ ghost use Rattle.hyd_sim.specs.declared.settings.Settings.{Settings};
 ghost use Rattle.hyd_command_answers.specs.declared.status.Status.{Status};
 ghost use Rattle.hyd_command_answers.specs.declared.status.Status.TheVariants.{Done, CertificateRefused};
 ghost use Rattle.hyd_command_answers.specs.DeskContents.{Seen};
+ghost use Rattle.hyd_naming_command.specs.NamingAnswers.{AnswersTextNaming};
 ghost use Rattle.hyd_cli.specs.RunAnswers.{AnswersText};
 ghost use Rattle.hyd_cli.specs.CheckAnswers.{AnswersCheck};
 ghost use Rattle.hyd_theorems_on_answers.specs.StatusesThatWrote.{HasWritten};
@@ -24,6 +25,23 @@ pub fn same_report()
     ensures { (text cert certificate : List ℕ) (settings : Settings) (before now start end : Seen)
         → AnswersText text settings cert Done before now → now.written ≡ Some certificate
         → AnswersCheck text certificate Done start end
+        → (report : List ℕ) × ((now.printed ≡ append_known before.printed report)
+        × (end.printed ≡ append_known start.printed report)) }
+{}
+
+/// Where a run that names links finished or was stopped by a cause, no check on that text refuses what the run wrote.
+pub fn never_refused_naming()
+    ensures { (text cert certificate : List ℕ) (names : List (List ℕ)) (settings : Settings) (status answer : Status)
+        (before now start end : Seen) → AnswersTextNaming text names settings cert status before now
+        → HasWritten status → now.written ≡ Some certificate → AnswersCheck text certificate answer start end
+        → answer ≢ CertificateRefused }
+{}
+
+/// Where it finished and such a check accepts what it wrote, both printed one text.
+pub fn same_report_naming()
+    ensures { (text cert certificate : List ℕ) (names : List (List ℕ)) (settings : Settings)
+        (before now start end : Seen) → AnswersTextNaming text names settings cert Done before now
+        → now.written ≡ Some certificate → AnswersCheck text certificate Done start end
         → (report : List ℕ) × ((now.printed ≡ append_known before.printed report)
         × (end.printed ≡ append_known start.printed report)) }
 {}

@@ -12,7 +12,7 @@ pub begins_more : {X : Type 0} (x y : X) (front whole : List X) → x ≡ y → 
     → Begins (x ∷ front) (y ∷ whole)
 begins_more x y front whole same k = record { more = k.more; is = ap₂ (λ z zs. z ∷ zs) (sym same) k.is }
 
-begin_more : {X : Type 0} (x y : X) (a b : List X) → x ≡ y → Begins a b ⊎ Begins b a
+pub begin_more : {X : Type 0} (x y : X) (a b : List X) → x ≡ y → Begins a b ⊎ Begins b a
     → Begins (x ∷ a) (y ∷ b) ⊎ Begins (y ∷ b) (x ∷ a)
 begin_more x y a b same (inl k) = inl (begins_more x y a b same k)
 begin_more x y a b same (inr k) = inr (begins_more y x b a (sym same) k)

@@ -3,12 +3,12 @@ use Rattle.std.proofs.Common.{◌≡◌, ℕ, Bool, List, length, sym, ap, ap₂
 use Rattle.hyd_spec.specs.ProgramTypes.{Project}
 use Rattle.hyd_spec.specs.NodeNumbers.{junction_count, tank_count}
 use Rattle.hyd_spec_certificates.specs.RecordAndStanding.{Standing, initial_standing}
-use Rattle.hyd_spec_reports.specs.CertificateText.{IsCertificateText, version_of}
+use Rattle.hyd_spec_certificates.specs.CertificateText.{IsCertificateText, version_of}
 use Rattle.hyd_spec_reports.specs.ReportLine.{report_text}
 use Rattle.hyd_spec_reports.specs.PromisesOfRunsAndChecks.{Found, IsRun, rows_of, lines_of, accepted_line}
 use Rattle.hyd_spec_reports.specs.PromisesOfRunsAndChecks.{CheckAccepts, CheckRefusesEnd}
 use Rattle.hyd_theorems_on_definitions.proofs.CertificateLines.{contents-same}
-use Rattle.hyd_theorems_on_definitions.proofs.OneRun.{one_left}
+use Rattle.hyd_theorems_on_runs.proofs.OneRun.{one_left}
 use Rattle.hyd_theorems_on_checks.specs.CertificateOfRun.{IsCertificateOfRun}
 use Rattle.hyd_theorems_on_checks.proofs.RunsByRecords.{one_by_records}
 

@@ -6,8 +6,8 @@ use Rattle.std.proofs.lemmas.List.{append-nil, append_cancel_left}
 use Rattle.std.proofs.lemmas.List.Elements.{All-append}
 use Rattle.hyd_spec.specs.Lists.{joined}
 use Rattle.hyd_spec_certificates.specs.RecordAndStanding.{Record, Vectors}
-use Rattle.hyd_spec_reports.specs.CertificateText.{words, line, header_line, period_line, head_lines, vectors_text}
-use Rattle.hyd_spec_reports.specs.CertificateText.{record_text, end_line, IsRow, IsCertificateText}
+use Rattle.hyd_spec_certificates.specs.CertificateText.{words, line, header_line, period_line, head_lines, vectors_text}
+use Rattle.hyd_spec_certificates.specs.CertificateText.{record_text, end_line, IsRow, IsCertificateText}
 use Rattle.hyd_theorems_on_definitions.proofs.CertificateLines.{contents-same}
 use Rattle.hyd_cert.specs.TextsWithoutLine.{HasNo}
 use Rattle.hyd_cert.specs.Lines.{Header, header_words, header_text}

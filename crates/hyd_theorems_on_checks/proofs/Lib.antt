@@ -1,12 +1,13 @@
-pub mod BrokenOff
 pub mod EndLineNotRefused
 pub mod RecordsNotRefused
-pub mod RecordsOfOneText
 pub mod FirstRecords
 pub mod BeginningsOfLists
 pub mod TextsWithoutFlows
 pub mod NeverRefused
 pub mod WrittenAndAccepted
-pub mod OneReason
 pub mod RunsByRecords
 pub mod ValidRuns
+pub mod RunsByEntries
+pub mod EntriesNotRefused
+pub mod TextsWithFlows
+pub mod NeverRefusedNaming

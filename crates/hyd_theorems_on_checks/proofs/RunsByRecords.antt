@@ -6,8 +6,9 @@ use Rattle.hyd_spec_certificates.specs.RecordAndStanding.{Record, Standing}
 use Rattle.hyd_spec_certificates.specs.Valid.{IsValid}
 use Rattle.hyd_spec_reports.specs.Report.{IsReport}
 use Rattle.hyd_spec_reports.specs.PromisesOfRunsAndChecks.{Found, IsFound, IsRunFrom, rows_of}
-use Rattle.hyd_theorems_on_definitions.proofs.OneReport.{one_report}
-use Rattle.hyd_theorems_on_definitions.proofs.OneRun.{one_grid, steps, ends_here}
+use Rattle.hyd_theorems_on_runs.proofs.OneReport.{one_report}
+use Rattle.hyd_theorems_on_definitions.proofs.OneGrid.{one_grid}
+use Rattle.hyd_theorems_on_runs.proofs.OneRun.{steps, ends_here}
 use Rattle.hyd_theorems_on_definitions.proofs.OneStandingAndTightVector.{one_standing}
 use Rattle.hyd_theorems_on_checks.proofs.BeginningsOfLists.{Begins, begins_more}
 

@@ -3,7 +3,7 @@ use Rattle.std.proofs.Common.{◌≡◌, ℕ, Bool, false, List, length, subst}
 use Rattle.std.specs.Prelude.{MatchBool}
 use Rattle.hyd_spec.specs.ProgramTypes.{Project}
 use Rattle.hyd_spec.specs.NodeNumbers.{junction_count, tank_count}
-use Rattle.hyd_spec_reports.specs.CertificateText.{version_of}
+use Rattle.hyd_spec_certificates.specs.CertificateText.{version_of}
 use Rattle.hyd_spec_reports.specs.PromisesOfRunsAndChecks.{rows_of}
 use Rattle.hyd_spec_flows.specs.FlowTexts.{is_with_flows}
 use Rattle.hyd_cert_check.specs.Checks.{CheckEnds, CheckEndsPlainly, CheckFinds, CheckFindsPlainly}

@@ -7,11 +7,11 @@ use Rattle.hyd_spec.specs.NodeNumbers.{junction_count, tank_count}
 use Rattle.hyd_spec_certificates.specs.PeriodNetwork.{Grid}
 use Rattle.hyd_spec_certificates.specs.RecordAndStanding.{Record, Standing}
 use Rattle.hyd_spec_certificates.specs.Valid.{IsValid, AreValidFrom, AreValid, none as no_record, more as more_records}
-use Rattle.hyd_spec_reports.specs.CertificateText.{IsCertificateText, version_of}
+use Rattle.hyd_spec_certificates.specs.CertificateText.{IsCertificateText, version_of}
 use Rattle.hyd_spec_reports.specs.PromisesOfRunsAndChecks.{Found, IsRun, none as no_period, rows_of}
-use Rattle.hyd_theorems_on_definitions.proofs.OnePeriodMore.{run_more}
-use Rattle.hyd_theorems_on_nesting.proofs.RunsGoOnOrStop.{run_keeps}
-use Rattle.hyd_theorems_on_nesting.proofs.ReportsExist.{report_is}
+use Rattle.hyd_theorems_on_runs.proofs.OnePeriodMore.{run_more}
+use Rattle.hyd_theorems_on_runs.proofs.RunsGoOnOrStop.{run_keeps}
+use Rattle.hyd_theorems_on_runs.proofs.ReportsExist.{report_is}
 use Rattle.hyd_theorems_on_checks.specs.CertificateOfRun.{IsCertificateOfRun, IsRunOf}
 
 module _ (project : Project) (sound : IsSound project) where

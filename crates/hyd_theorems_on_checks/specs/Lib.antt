@@ -1,2 +1,1 @@
 pub mod CertificateOfRun
-pub mod SameEnding

@@ -1,9 +1,10 @@
-//! A check never refuses the certificate of a run, and records that are valid one after another are those of a run. A
-//! text has one answer and one report, and what is printed when a check is broken off begins that report. The
-//! statements on the way stand before these, each the contract of a small function.
+//! A check never refuses the certificate of a run, with the flows of named links or without, and records that are valid
+//! one after another are those of a run. The statements on the way stand before these, each the contract of a small
+//! function. That a text has one answer and one report is proved in `hyd_theorems_on_reports_of_checks`.
 #![tactic(auto)]
 
-ghost use Rattle.std.specs.Prelude.{◌≡◌, ℕ, Bool, false, List, ◌∷◌, ◌++◌, length, map, All};
+ghost use Rattle.std.specs.Prelude.{◌≡◌, ℕ, Bool, true, false, List, ◌∷◌, ◌++◌, length, map, All};
+ghost use Rattle.std.specs.List.{AllByRecursion};
 ghost use Rattle.hyd_net.specs.Sound.{IsSound};
 ghost use Rattle.hyd_spec.specs.ProgramTypes.{Project};
 ghost use Rattle.hyd_spec.specs.Lists.{joined};
@@ -11,20 +12,24 @@ ghost use Rattle.hyd_spec.specs.NodeNumbers.{junction_count, tank_count};
 ghost use Rattle.hyd_spec_certificates.specs.PeriodNetwork.{Grid};
 ghost use Rattle.hyd_spec_certificates.specs.RecordAndStanding.{Record, Standing};
 ghost use Rattle.hyd_spec_certificates.specs.Valid.{IsValid, AreValid};
-ghost use Rattle.hyd_spec_reports.specs.CertificateText.{IsCertificateText, IsRow, version_of, header_line};
-ghost use Rattle.hyd_spec_reports.specs.CertificateText.{record_text};
+ghost use Rattle.hyd_spec_certificates.specs.CertificateText.{IsCertificateText, IsRow, version_of, header_line};
+ghost use Rattle.hyd_spec_certificates.specs.CertificateText.{record_text};
 ghost use Rattle.hyd_spec_reports.specs.ReportLine.{report_text};
-ghost use Rattle.hyd_spec_reports.specs.declared.CertRefused.{CertRefused};
+ghost use Rattle.hyd_spec_certificates.specs.declared.CertRefused.{CertRefused};
 ghost use Rattle.hyd_spec_reports.specs.PromisesOfRunsAndChecks.{Found, IsRun, rows_of, lines_of, Sharpness, Outcome};
 ghost use Rattle.hyd_spec_reports.specs.PromisesOfRunsAndChecks.{RunWrites};
 ghost use Rattle.hyd_spec_reports.specs.PromisesOfRunsAndChecks.{accepted_line, CheckAccepts, CheckRefuses};
 ghost use Rattle.hyd_spec_reports.specs.PromisesOfRunsAndChecks.{CheckRefusesEnd};
 ghost use Rattle.hyd_spec_flows.specs.FlowTexts.{is_with_flows};
-ghost use Rattle.hyd_cert_check.specs.Checks.{CheckRefusal, CheckEnds, CheckBreaksOff};
+ghost use Rattle.hyd_spec_reports_with_flows.specs.PromisesWithFlows.{FoundNaming, IsFoundNaming, founds_in, entries_of};
+ghost use Rattle.hyd_spec_reports_with_flows.specs.PromisesWithFlows.{report_with_flows, RunWritesNaming};
+ghost use Rattle.hyd_spec_reports_with_flows.specs.PromisesWithFlows.{CheckAcceptsNaming};
+ghost use Rattle.hyd_cert_check.specs.Checks.{CheckRefusal, CheckEnds};
+ghost use Rattle.hyd_cert_check.specs.ChecksWithFlows.{CheckRefusalNaming};
 ghost use Rattle.hyd_cert_check.specs.declared.outcome.CheckEnd.{CheckEnd};
-ghost use Rattle.hyd_cert_check.specs.declared.outcome.CheckEnd.TheVariants.{Accepted};
-ghost use Rattle.hyd_theorems_on_checks.specs.CertificateOfRun.{IsCertificateOfRun, IsRunOf};
-ghost use Rattle.hyd_theorems_on_checks.specs.SameEnding.{HaveOneReason};
+ghost use Rattle.hyd_cert_check.specs.declared.outcome.CheckEnd.TheVariants.{Accepted, Refused};
+ghost use Rattle.hyd_theorems_on_checks.specs.CertificateOfRun.{IsCertificateOfRun, IsCertificateOfRunNaming};
+ghost use Rattle.hyd_theorems_on_checks.specs.CertificateOfRun.{IsCertificateOfSomeRun, IsRunOf};
 
 /// The records with which the text of a certificate begins, behind its header line, are the first of its records,
 /// whatever is behind them.
@@ -45,8 +50,16 @@ pub fn runs()
         → (grid : Grid) × (next : Standing) × IsValid project last grid row next }
 {}
 
-/// What a run writes is the certificate of a run, and so is what a check accepts of texts without flows. The certificate
-/// of a run has no flows.
+/// Two runs that name links, with the same records and the same parts behind them, are the same: so are their FLOW
+/// lines, and the standings that they leave.
+pub fn runs_naming()
+    ensures { (project : Project) (a b : List FoundNaming) (last other : Standing) → IsRun project (founds_in a) last
+        → IsRun project (founds_in b) other → AllByRecursion (IsFoundNaming project) a
+        → AllByRecursion (IsFoundNaming project) b → entries_of a ≡ entries_of b → (a ≡ b) × (last ≡ other) }
+{}
+
+/// What a run writes is the certificate of a run, and so is what a check accepts. It has flows exactly where the run
+/// named links.
 pub fn certificates_of_runs()
     ensures written { (project : Project) (rounds : ℕ) (sharpness : Sharpness) (outcome : Outcome)
         (text printed : List ℕ) → RunWrites project rounds sharpness outcome text printed
@@ -55,6 +68,21 @@ pub fn certificates_of_runs()
         → IsCertificateOfRun project text }
     ensures without_flows { (project : Project) (text : List ℕ) → IsCertificateOfRun project text
         → is_with_flows text ≡ false }
+    ensures written_naming { (project : Project) (named : List ℕ) (rounds : ℕ) (sharpness : Sharpness)
+        (outcome : Outcome) (text printed : List ℕ)
+        → RunWritesNaming project named rounds sharpness outcome text printed → IsCertificateOfRunNaming project text }
+    ensures accepted_naming { (project : Project) (text printed : List ℕ) → CheckAcceptsNaming project text printed
+        → IsCertificateOfRunNaming project text }
+    ensures with_flows { (project : Project) (text : List ℕ) → IsCertificateOfRunNaming project text
+        → is_with_flows text ≡ true }
+{}
+
+/// What a run that names links writes is accepted, with the report of that run.
+pub fn acceptance_naming()
+    ensures { (project : Project) (named : List ℕ) (rounds : ℕ) (sharpness : Sharpness) (outcome : Outcome)
+        (text printed : List ℕ) (run : RunWritesNaming project named rounds sharpness outcome text printed)
+        → CheckAcceptsNaming project text (report_with_flows project run.namings
+        (accepted_line (length run.namings) run.left.finished)) }
 {}
 
 /// No record of the certificate of a run is refused.
@@ -71,19 +99,28 @@ pub fn refused_ends()
 
 // ---- checks
 
-/// A check never refuses the certificate of a run: not by its lines, not by a record, and not by its END line.
+/// A check never refuses the certificate of a run: not by its lines, not by a record, not by the part behind one, and
+/// not by its END line.
 pub fn refusals()
-    ensures { (project : Project) (text printed : List ℕ) → IsCertificateOfRun project text
+    ensures without_flows { (project : Project) (text printed : List ℕ) → IsCertificateOfRun project text
         → CheckRefusal project text printed → ⊥ }
+    ensures with_flows { (project : Project) (text printed : List ℕ) → IsCertificateOfRunNaming project text
+        → CheckRefusalNaming project text printed → ⊥ }
+    ensures of_all { (project : Project) (text printed : List ℕ) → IsCertificateOfSomeRun project text
+        → CheckEnds project text printed Refused → ⊥ }
 {}
 
-/// A check of the certificate of a run that comes to its end accepts it, and what it prints is the report of that run.
+/// A check of the certificate of a run that comes to its end accepts it, and what it prints is the report of that run,
+/// with its FLOW lines where it named links.
 pub fn checks()
-    ensures accepted { (project : Project) (text printed : List ℕ) (end : CheckEnd) → IsCertificateOfRun project text
-        → CheckEnds project text printed end → end ≡ Accepted }
+    ensures accepted { (project : Project) (text printed : List ℕ) (end : CheckEnd)
+        → IsCertificateOfSomeRun project text → CheckEnds project text printed end → end ≡ Accepted }
     ensures report { (project : Project) (text printed : List ℕ) (end : CheckEnd) (is : IsCertificateOfRun project text)
         → CheckEnds project text printed end
         → printed ≡ report_text project (lines_of is.founds) (accepted_line (length is.founds) is.left.finished) }
+    ensures report_with_flows { (project : Project) (text printed : List ℕ) (end : CheckEnd)
+        (is : IsCertificateOfRunNaming project text) → CheckEnds project text printed end
+        → printed ≡ report_with_flows project is.namings (accepted_line (length is.namings) is.left.finished) }
 {}
 
 // ---- valid records
@@ -103,29 +140,4 @@ pub fn valid_records()
         → IsCertificateText text (version_of project) (junction_count project) (tank_count project) rows (length rows)
         last.finished
         → CheckRefusal project text printed → ⊥ }
-{}
-
-// ---- one answer
-
-/// Checks of one text without flows by a sound network that come to their end end in one way: all of them accept it, or
-/// all refuse it for one reason, and they print one report.
-pub fn one_report()
-    ensures end { (project : Project) → IsSound project → (text printed other : List ℕ)
-        → is_with_flows text ≡ false → (a b : CheckEnd)
-        → CheckEnds project text printed a → CheckEnds project text other b → a ≡ b }
-    ensures reason { (project : Project) → IsSound project → (text printed other : List ℕ)
-        (a : CheckRefusal project text printed) (b : CheckRefusal project text other)
-        → HaveOneReason project text printed other a b }
-    ensures report { (project : Project) → IsSound project → (text printed other : List ℕ)
-        → is_with_flows text ≡ false → (a b : CheckEnd)
-        → CheckEnds project text printed a → CheckEnds project text other b → printed ≡ other }
-{}
-
-/// What a check of a text without flows that was broken off has printed, in its last line or before, is a front of the
-/// report that each check of the text prints that comes to its end.
-pub fn broken_off()
-    ensures { (project : Project) → IsSound project → (text : List ℕ) → is_with_flows text ≡ false
-        → (printed report : List ℕ) (end : CheckEnd)
-        → CheckBreaksOff project text printed → CheckEnds project text report end
-        → (unprinted : List ℕ) × (printed ++ unprinted ≡ report) }
 {}

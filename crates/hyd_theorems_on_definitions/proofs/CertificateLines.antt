@@ -13,8 +13,8 @@ use lib.Signed.{mag}
 use Rattle.hyd_spec.specs.Lists.{joined}
 use Rattle.hyd_spec_certificates.specs.Certificate.{IsInBox}
 use Rattle.hyd_spec_certificates.specs.RecordAndStanding.{Record, Vectors}
-use Rattle.hyd_spec_reports.specs.CertificateText.{words, line, header_line, period_line, head_lines, vectors_text}
-use Rattle.hyd_spec_reports.specs.CertificateText.{record_text, end_line, IsVector, IsRow, IsCertificateText}
+use Rattle.hyd_spec_certificates.specs.CertificateText.{words, line, header_line, period_line, head_lines, vectors_text}
+use Rattle.hyd_spec_certificates.specs.CertificateText.{record_text, end_line, IsVector, IsRow, IsCertificateText}
 use Rattle.hyd_theorems_on_definitions.proofs.OneFirstLine.{IsWord, AreWords, line-same}
 
 -- ---- numerals

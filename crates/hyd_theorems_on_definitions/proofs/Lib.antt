@@ -24,15 +24,11 @@ pub mod WorkedExamples
 pub mod OutflowsRise
 pub mod DemandLaws
 pub mod NetOutflowsRise
-pub mod RunRecords
-pub mod OnePeriodMore
 pub mod OneFirstLine
 pub mod CertificateLines
 pub mod OneEndOfPeriod
 pub mod OneStandingAndTightVector
-pub mod OneReport
 pub mod OneLength
-pub mod OneRun
 pub mod OneFirstFailure
 pub mod OneRefusal
 pub mod SoundTankLemmas
@@ -40,3 +36,4 @@ pub mod CurveLevels
 pub mod TargetsOfVolumeCurves
 pub mod HeadLists
 pub mod TwoSides
+pub mod OneGrid

@@ -1,7 +1,7 @@
 -- Lines of words: a text begins with one line at most, and a line has its words in one way.
 use Rattle.std.proofs.Common.{◌≡◌, ℕ, ◌<◌, ◌≤◌, List, [], ◌∷◌, ◌++◌, refl, sym, ap, ap₂, ◌∙◌, append_assoc, arith}
 use Rattle.std.specs.List.{AllByRecursion}
-use Rattle.hyd_spec_reports.specs.CertificateText.{line}
+use Rattle.hyd_spec_certificates.specs.CertificateText.{line}
 
 -- a word: each byte is above the space
 abbrev pub IsWord : List ℕ → Type 0

@@ -20,19 +20,21 @@ use Rattle.hyd_spec_certificates.specs.Stocks.{state_of}
 use Rattle.hyd_spec_certificates.specs.Decided.{RuleIsOpen, EventIsOpen, control_truth, nowhere}
 use Rattle.hyd_spec_certificates.specs.Valid.{levels_next, AreStates, ControlsAreDecided, Continues, LeadsOn, continues}
 use Rattle.hyd_spec_certificates.specs.Valid.{finishes, IsValid}
-use Rattle.hyd_spec_reports.specs.declared.CertRefused.{CertRefused}
-use Rattle.hyd_spec_reports.specs.declared.CertRefused.TheVariants.{Place, Demand, Fails, Open as MatterOpen, Length}
-use Rattle.hyd_spec_reports.specs.declared.CertRefused.TheVariants.{After}
-use Rattle.hyd_spec_reports.specs.ReportLine.{refused_period}
-use Rattle.hyd_spec_reports.specs.Stops.{open_states, is_open_control}
-use Rattle.hyd_spec_reports.specs.TurnsOfProblems.{turn}
-use Rattle.hyd_spec_reports.specs.RefusedRecords.{IsRefused, IsRefusedBy, IsDue, HasItsGrid, IsCertified, IsFirstToFail}
-use Rattle.hyd_spec_reports.specs.RefusedRecords.{LeavesOpen, rule, event, tank, control, HasOtherLength, at_end}
-use Rattle.hyd_spec_reports.specs.RefusedRecords.{before_end}
+use Rattle.hyd_spec_certificates.specs.declared.CertRefused.{CertRefused}
+use Rattle.hyd_spec_certificates.specs.declared.CertRefused.TheVariants.{Place, Demand, Fails, Open as MatterOpen}
+use Rattle.hyd_spec_certificates.specs.declared.CertRefused.TheVariants.{Length}
+use Rattle.hyd_spec_certificates.specs.declared.CertRefused.TheVariants.{After}
+use Rattle.hyd_spec_certificates.specs.RefusedRecords.{refused_period}
+use Rattle.hyd_spec_certificates.specs.Stops.{open_states, is_open_control}
+use Rattle.hyd_spec_certificates.specs.TurnsOfProblems.{turn}
+use Rattle.hyd_spec_certificates.specs.RefusedRecords.{IsRefused, IsRefusedBy, IsDue, HasItsGrid, IsCertified}
+use Rattle.hyd_spec_certificates.specs.RefusedRecords.{IsFirstToFail}
+use Rattle.hyd_spec_certificates.specs.RefusedRecords.{LeavesOpen, rule, event, tank, control, HasOtherLength, at_end}
+use Rattle.hyd_spec_certificates.specs.RefusedRecords.{before_end}
 use Rattle.hyd_theorems_on_definitions.proofs.OneEndOfPeriod.{not-last, leaves-not-last, leaves-one, leaves-no-rule}
 use Rattle.hyd_theorems_on_definitions.proofs.OneEndOfPeriod.{leaves-no-event}
 use Rattle.hyd_theorems_on_definitions.proofs.OneFirstFailure.{fails-no-certificate, one-failure}
-use Rattle.hyd_theorems_on_definitions.proofs.OneRun.{one_grid}
+use Rattle.hyd_theorems_on_definitions.proofs.OneGrid.{one_grid}
 
 -- ---- lists
 

@@ -17,10 +17,10 @@ use Rattle.hyd_spec.specs.DemandsHeadsAndPumpLifts.{lift_of, points_of, pump_kno
 use Rattle.hyd_spec.specs.LinkLaw.{valve_law}
 use Rattle.hyd_spec_certificates.specs.Interval.{Interval}
 use Rattle.hyd_spec_certificates.specs.EnclosingFunctions.{low, high}
-use Rattle.hyd_spec_reports.specs.declared.StatusWord.TheVariants.{Open as WordOpen, Closed as WordClosed}
-use Rattle.hyd_spec_reports.specs.declared.StatusWord.TheVariants.{Active as WordActive, Unsure as WordUnsure}
-use Rattle.hyd_spec_reports.specs.Report.{by_drive, by_knots, by_setting, status_of}
-use Rattle.hyd_spec_reports.specs.Claims.{DriveIs, drive_of, SettingIs, StatusHolds}
+use Rattle.hyd_spec_certificates.specs.declared.StatusWord.TheVariants.{Open as WordOpen, Closed as WordClosed}
+use Rattle.hyd_spec_certificates.specs.declared.StatusWord.TheVariants.{Active as WordActive, Unsure as WordUnsure}
+use Rattle.hyd_spec_certificates.specs.StatusesOfLinks.{by_drive, by_knots, by_setting, status_of}
+use Rattle.hyd_spec_certificates.specs.StatusesOfLinks.{DriveIs, drive_of, SettingIs, StatusHolds}
 use Rattle.hyd_lemmas.proofs.Integers.{exchanged, floor_low, ceiling_high}
 use Rattle.hyd_theorems_on_definitions.specs.LyingInIntervals.{LiesIn}
 use Rattle.hyd_theorems_on_definitions.specs.SoundLawsAndGrids.{AreInOrder}

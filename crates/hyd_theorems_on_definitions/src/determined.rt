@@ -4,7 +4,6 @@
 #![tactic(auto)]
 
 ghost use Rattle.std.specs.Prelude.{◌≡◌, ℕ, ℤ, List, length};
-ghost use Rattle.std.specs.List.{AllByRecursion};
 ghost use Rattle.hyd_num.specs.CapacityPairs.{IsMade};
 ghost use Rattle.hyd_spec.specs.ProgramTypes.{Project, Capacity};
 ghost use Rattle.hyd_spec_certificates.specs.declared.Problem.{Problem};
@@ -14,11 +13,8 @@ ghost use Rattle.hyd_spec_certificates.specs.Certificate.{IsTight};
 ghost use Rattle.hyd_spec_certificates.specs.RecordAndStanding.{Record, Standing};
 ghost use Rattle.hyd_spec_certificates.specs.Decided.{End, EndsBy};
 ghost use Rattle.hyd_spec_certificates.specs.Valid.{LeadsOn, IsGridAt, IsValid};
-ghost use Rattle.hyd_spec_reports.specs.declared.CertRefused.{CertRefused};
-ghost use Rattle.hyd_spec_reports.specs.RefusedRecords.{IsRefused};
-ghost use Rattle.hyd_spec_reports.specs.ReportLine.{ReportLine};
-ghost use Rattle.hyd_spec_reports.specs.Report.{IsReport};
-ghost use Rattle.hyd_spec_reports.specs.PromisesOfRunsAndChecks.{Found, IsRun, IsTightThroughout};
+ghost use Rattle.hyd_spec_certificates.specs.declared.CertRefused.{CertRefused};
+ghost use Rattle.hyd_spec_certificates.specs.RefusedRecords.{IsRefused};
 
 /// A period ends in one way.
 pub fn ends()
@@ -36,12 +32,6 @@ pub fn standings()
 pub fn vectors()
     ensures { (grid : Grid) (problem : Problem) (side : Side) (u v : List ℤ)
         → IsTight grid problem side u → IsTight grid problem side v → u ≡ v }
-{}
-
-/// A record has one report.
-pub fn reports()
-    ensures { (project : Project) (grid : Grid) (standing : Standing) (row : Record) (a b : List ReportLine)
-        → IsReport project grid standing row a → IsReport project grid standing row b → a ≡ b }
 {}
 
 /// A record is refused at a standing by one cause, and one that is refused isn't valid there.
@@ -69,11 +59,4 @@ pub fn capacities()
 pub fn grids()
     ensures { (project : Project) (standing : Standing) (a b : Grid) → IsGridAt project standing a
         → IsGridAt project standing b → a ≡ b }
-{}
-
-/// Two tight runs of as many periods are the same, and leave the same standing.
-pub fn runs()
-    ensures { (project : Project) → (a b : List Found) (last other : Standing)
-        → IsRun project a last → IsRun project b other → AllByRecursion (IsTightThroughout project) a
-        → AllByRecursion (IsTightThroughout project) b → length a ≡ length b → (a ≡ b) × (last ≡ other) }
 {}

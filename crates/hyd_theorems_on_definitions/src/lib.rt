@@ -7,6 +7,5 @@ pub mod decisions;
 pub mod determined;
 pub mod examples;
 pub mod laws;
-pub mod runs;
 pub mod tanks;
 pub mod texts;

@@ -3,7 +3,7 @@
 
 ghost use Rattle.std.specs.Prelude.{◌≡◌, ℕ, Bool, List};
 ghost use Rattle.hyd_spec_certificates.specs.RecordAndStanding.{Record};
-ghost use Rattle.hyd_spec_reports.specs.CertificateText.{IsCertificateText};
+ghost use Rattle.hyd_spec_certificates.specs.CertificateText.{IsCertificateText};
 
 /// A text is a certificate text of one version, one pair of counts and one list of records at most,
 /// with one number and one word in its end line.

@@ -8,7 +8,7 @@ use Rattle.std.proofs.lemmas.Bool.Decides.{Decides-ltb}
 use Rattle.std.proofs.lemmas.List.Elements.{All-append, All-nil}
 use Rattle.hyd_spec.specs.Lists.{joined}
 use Rattle.hyd_spec_certificates.specs.RecordAndStanding.{Record}
-use Rattle.hyd_spec_reports.specs.CertificateText.{words, line_feeds, end_line, header_line, IsCertificateText}
+use Rattle.hyd_spec_certificates.specs.CertificateText.{words, line_feeds, end_line, header_line, IsCertificateText}
 use Rattle.hyd_spec_flows.specs.FlowParts.{FlowPart}
 use Rattle.hyd_spec_flows.specs.FlowTexts.{Entry, IsEntry, IsTextWithFlows, IsTextOfVersion, without_flows, with_flows}
 use Rattle.hyd_spec_flows.specs.FlowTexts.{entry_text, flows_version, text_with_flows, is_with_flows}

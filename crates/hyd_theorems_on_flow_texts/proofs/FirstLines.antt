@@ -4,7 +4,7 @@ use Rattle.std.proofs.Common.{refl, sym, ap, ◌∙◌, append_assoc, arith, cod
 use Rattle.std.specs.Fmt.{decimal}
 use Rattle.std.proofs.lemmas.List.{append_cancel_left}
 use Rattle.hyd_spec_certificates.specs.RecordAndStanding.{Record}
-use Rattle.hyd_spec_reports.specs.CertificateText.{header_line, IsCertificateText}
+use Rattle.hyd_spec_certificates.specs.CertificateText.{header_line, IsCertificateText}
 use Rattle.hyd_spec_flows.specs.FlowTexts.{Entry, IsTextWithFlows, flows_version, is_with_flows}
 use Rattle.hyd_cert.specs.TextsWithoutLine.{HasNo}
 use Rattle.hyd_cert.specs.Lines.{Header, header_words, IsHeaderLine}

@@ -3,3 +3,5 @@ pub mod LinesThatPass
 pub mod ReadingsOfLines
 pub mod FaultsInEntries
 pub mod LinesOfEntries
+pub mod EntriesOfOneText
+pub mod OneFaultWithFlows

@@ -7,8 +7,9 @@ use Rattle.std.proofs.lemmas.List.Elements.{All-head, All-tail}
 use Rattle.hyd_spec.specs.Lists.{joined}
 use Rattle.hyd_spec_certificates.specs.Certificate.{IsInBox}
 use Rattle.hyd_spec_certificates.specs.RecordAndStanding.{Record, Vectors}
-use Rattle.hyd_spec_reports.specs.CertificateText.{words, head_lines, vectors_text, record_text, line_feeds, IsVector}
-use Rattle.hyd_spec_reports.specs.CertificateText.{IsRow, end_line}
+use Rattle.hyd_spec_certificates.specs.CertificateText.{words, head_lines, vectors_text, record_text, line_feeds}
+use Rattle.hyd_spec_certificates.specs.CertificateText.{IsVector}
+use Rattle.hyd_spec_certificates.specs.CertificateText.{IsRow, end_line}
 use Rattle.hyd_spec_flows.specs.FlowParts.{NamedLink, FlowPart}
 use Rattle.hyd_spec_flows.specs.FlowTexts.{IsNamed, IsPart, named_text, part_text}
 use Rattle.hyd_cert.specs.TextsWithoutLine.{HasNo}

@@ -8,7 +8,7 @@ use Rattle.std.proofs.lemmas.Bool.Decides.{Decides-ltb}
 use Rattle.std.proofs.lemmas.List.Elements.{All-head, All-tail}
 use Rattle.hyd_spec.specs.Lists.{joined}
 use Rattle.hyd_spec_certificates.specs.Certificate.{IsInBox}
-use Rattle.hyd_spec_reports.specs.CertificateText.{words, record_text, end_line}
+use Rattle.hyd_spec_certificates.specs.CertificateText.{words, record_text, end_line}
 use Rattle.hyd_spec_flows.specs.FlowParts.{NamedLink, FlowPart as Part}
 use Rattle.hyd_spec_flows.specs.FlowTexts.{Entry, IsEntry, IsPart, IsNamed, entry_text, part_text, named_text}
 use Rattle.hyd_spec_flows.specs.FlowTexts.{name_line}

@@ -3,7 +3,7 @@
 -- Source: this program's format.
 use Rattle.std.specs.Prelude.{◌≡◌, ℕ, ◌+◌, Bool, List, ◌++◌}
 use Rattle.hyd_spec_certificates.specs.RecordAndStanding.{Record}
-use Rattle.hyd_spec_reports.specs.CertificateText.{line_feeds}
+use Rattle.hyd_spec_certificates.specs.CertificateText.{line_feeds}
 use Rattle.hyd_spec_flows.specs.FlowParts.{FlowPart}
 use Rattle.hyd_spec_flows.specs.FlowTexts.{Entry, IsTextWithFlows, IsTextOfVersion}
 use Rattle.hyd_cert.specs.FaultyLine.{IsLines, HasFirstLine}

@@ -1,12 +1,12 @@
-//! Laws of the texts of certificates with flows: what their first line says, where they are at fault, and how many
-//! lines their entries have. Each statement is the contract of a small function.
+//! Laws of the texts of certificates with flows: what their first line says, that they are read in one way, where they
+//! are at fault, and how many lines their entries have. Each statement is the contract of a small function.
 #![tactic(auto)]
 
 ghost use Rattle.std.specs.Prelude.{◌≡◌, ℕ, ◌+◌, ◌*◌, ◌^◌, ◌<◌, Bool, true, false, List, ◌++◌, map, Some, All};
 ghost use Rattle.hyd_spec.specs.Lists.{joined};
 ghost use Rattle.hyd_spec_certificates.specs.RecordAndStanding.{Record};
-ghost use Rattle.hyd_spec_reports.specs.CertificateText.{IsRow, IsCertificateText, header_line, record_text};
-ghost use Rattle.hyd_spec_reports.specs.CertificateText.{line_feeds};
+ghost use Rattle.hyd_spec_certificates.specs.CertificateText.{IsRow, IsCertificateText, header_line, record_text};
+ghost use Rattle.hyd_spec_certificates.specs.CertificateText.{line_feeds};
 ghost use Rattle.hyd_spec_flows.specs.FlowParts.{FlowPart};
 ghost use Rattle.hyd_spec_flows.specs.FlowTexts.{Entry, IsEntry, IsTextWithFlows, entry_text, flows_version};
 ghost use Rattle.hyd_spec_flows.specs.FlowTexts.{is_with_flows};
@@ -15,6 +15,7 @@ ghost use Rattle.hyd_cert.specs.PlacesWithFlows.{Between, IsStuckInside, with_fl
 ghost use Rattle.hyd_cert.specs.Lines.{Header};
 ghost use Rattle.hyd_cert.specs.ReaderWithFlows.{LacksFlowsHeader, part_behind, IsPartBehind, part_lines};
 ghost use Rattle.hyd_theorems_on_flow_texts.specs.FaultyLineWithFlows.{IsFirstFaultWithFlows};
+ghost use Rattle.hyd_theorems_on_flow_texts.specs.FaultyLineWithFlows.{IsCertificateWithFlows};
 
 /// The first line of a certificate says whether it has flows.
 pub fn versions()
@@ -37,6 +38,28 @@ pub fn faults()
         (line_feeds (header_line flows_version n k ++ joined (map entry_text entries)) + offset) }
     ensures in_header { (n k : ℕ) → n < 2 ^ 32 → k < 2 ^ 32 → (text : List ℕ) → is_with_flows text ≡ true
         → LacksFlowsHeader (Some text) → IsFirstFaultWithFlows n k text 1 }
+{}
+
+/// A text is at fault in one line at most, and no certificate with flows is at fault in one.
+pub fn one_fault()
+    ensures one { (n k : ℕ) (text : List ℕ) (number other : ℕ) → IsFirstFaultWithFlows n k text number
+        → IsFirstFaultWithFlows n k text other → number ≡ other }
+    ensures none { (n k : ℕ) (text : List ℕ) (number : ℕ) → IsFirstFaultWithFlows n k text number
+        → IsCertificateWithFlows n k text → ⊥ }
+{}
+
+/// Two entries with which a text begins are the same, and so is what is behind them. So a text with flows has one
+/// reading, and the entries with which it begins are the first of its own, whatever is behind them.
+pub fn readings()
+    ensures one_entry { (n k : ℕ) (entry other : Entry) (rest behind : List ℕ) → IsEntry n k entry → IsEntry n k other
+        → entry_text entry ++ rest ≡ entry_text other ++ behind → (entry ≡ other) × (rest ≡ behind) }
+    ensures one { (text : List ℕ) (n k : ℕ) (entries others : List Entry) (periods number : ℕ) (finished word : Bool)
+        → IsTextWithFlows text n k entries periods finished → IsTextWithFlows text n k others number word
+        → (entries ≡ others) × ((periods ≡ number) × (finished ≡ word)) }
+    ensures first { (text unread : List ℕ) (n k : ℕ) (front entries : List Entry) (periods : ℕ) (finished : Bool)
+        → IsTextWithFlows text n k entries periods finished → All (IsEntry n k) front
+        → text ≡ header_line flows_version n k ++ (joined (map entry_text front) ++ unread)
+        → (more : List Entry) × (entries ≡ front ++ more) }
 {}
 
 /// No whole entry stands where a text is at fault in one.

@@ -18,19 +18,19 @@ use Rattle.hyd_spec_certificates.specs.declared.Side.TheVariants.{Upper, Lower}
 use Rattle.hyd_spec_certificates.specs.PeriodNetwork.{Grid, GridLink, grid_links}
 use Rattle.hyd_spec_certificates.specs.RecordAndStanding.{Record, Standing, initial_standing}
 use Rattle.hyd_spec_certificates.specs.Valid.{LeadsOn, continues, finishes}
-use Rattle.hyd_spec_reports.specs.Report.{is_report_time}
+use Rattle.hyd_spec_certificates.specs.PrintedIntervals.{is_report_time}
 use Rattle.hyd_spec_reports.specs.PromisesOfRunsAndChecks.{Found, IsFound, IsRunFrom, none, more, IsRun}
 use Rattle.hyd_spec_flows.specs.FlowParts.{NamedLink, FlowPart, HasItsVector, IsFlowPart, JoinsJunctions, flow_interval}
-use Rattle.hyd_spec_flows.specs.FlowLines.{FlowLine, IsFlowLine, AreFlowLines, FlowHolds}
-use Rattle.hyd_spec_flows.specs.PromisesWithFlows.{FoundNaming, IsFoundNaming, founds_in, AllFlowsHold}
-use Rattle.hyd_spec_flows.specs.PromisesWithFlows.{EveryHistoryAgreesNaming}
+use Rattle.hyd_spec_reports_with_flows.specs.FlowLines.{FlowLine, IsFlowLine, AreFlowLines, FlowHolds}
+use Rattle.hyd_spec_reports_with_flows.specs.PromisesWithFlows.{FoundNaming, IsFoundNaming, founds_in, AllFlowsHold}
+use Rattle.hyd_spec_reports_with_flows.specs.PromisesWithFlows.{EveryHistoryAgreesNaming}
 use Rattle.hyd_lemmas.proofs.ListsOptionsAndResults.{same_item}
 use Rattle.hyd_theorems_on_definitions.specs.LyingInIntervals.{LiesIn}
 use Rattle.hyd_theorems_on_definitions.proofs.HeldFlows.{held_flow}
 use Rattle.hyd_theorems_on_histories.specs.Agreement.{IsUnder, AgreesWith, IsKept}
 use Rattle.hyd_theorems_on_histories.proofs.AgreementAtStart.{agrees_at_start}
 use Rattle.hyd_theorems_on_histories.proofs.AgreementAfterPeriod.{kept_at_start, kept_next, is_under, agrees_next}
-use Rattle.hyd_theorems_on_histories.proofs.HistoriesAlongRuns.{every_history}
+use Rattle.hyd_theorems_on_runs.proofs.HistoriesAlongRuns.{every_history}
 use Rattle.hyd_theorems_on_histories.proofs.PrintedValues.{prints_hold, flow_proportional}
 use Rattle.hyd_theorems_on_flows.proofs.IntervalsInOrder.{same_vector}
 

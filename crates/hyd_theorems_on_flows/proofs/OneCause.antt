@@ -18,7 +18,7 @@ use Rattle.hyd_spec_flows.specs.declared.FlowFails.{FlowFails}
 use Rattle.hyd_spec_flows.specs.declared.FlowFails.TheVariants.{Name, Vector}
 use Rattle.hyd_lemmas.proofs.ListsOptionsAndResults.{same_item}
 use Rattle.hyd_theorems_on_definitions.proofs.OneFirstFailure.{fails-no-certificate, one-failure}
-use Rattle.hyd_theorems_on_histories.proofs.ReportTimeLinesHold.{mapped_at}
+use Rattle.hyd_theorems_on_histories.proofs.ListsByPlace.{mapped_at}
 use Rattle.hyd_theorems_on_flows.proofs.IntervalsInOrder.{same_vector}
 
 -- ---- names

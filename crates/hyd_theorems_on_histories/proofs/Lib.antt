@@ -9,6 +9,3 @@ pub mod AgreementAtStart
 pub mod CommandedLinkStates
 pub mod AgreementAfterPeriod
 pub mod PrintedValues
-pub mod ReportTimeLinesHold
-pub mod ReportLinesHold
-pub mod HistoriesAlongRuns

@@ -9,8 +9,7 @@ use Rattle.hyd_num.specs.FileQuantity.{flow_factor}
 use Rattle.hyd_num.specs.PrintedDecimals.{head_quantity, pressure_quantity, flow_quantity}
 use Rattle.hyd_num.specs.declared.flow_units.FlowUnit.{FlowUnit}
 use Rattle.hyd_spec_certificates.specs.Interval.{Interval}
-use Rattle.hyd_spec_reports.specs.Report.{Prints}
-use Rattle.hyd_spec_reports.specs.Claims.{LiesBetween, at_part}
+use Rattle.hyd_spec_certificates.specs.PrintedIntervals.{Prints, LiesBetween, at_part}
 use Rattle.hyd_theorems_on_definitions.specs.LyingInIntervals.{LiesIn}
 use Rattle.hyd_lemmas.proofs.BooleanTests.{le-from}
 

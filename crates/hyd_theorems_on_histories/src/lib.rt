@@ -4,7 +4,7 @@
 #![tactic(auto)]
 
 ghost use Rattle.std.specs.Prelude.{◌≡◌, ◌≢◌, ◌<◌, ◌+◌, ℕ, ℤ, false, List, Bool};
-ghost use Rattle.std.specs.List.{list_any, AllZip, AllByRecursion};
+ghost use Rattle.std.specs.List.{list_any, AllZip};
 ghost use Rattle.hyd_num.specs.PrintedDecimals.{head_quantity, pressure_quantity, flow_quantity};
 ghost use Rattle.hyd_num.specs.declared.flow_units.FlowUnit.{FlowUnit};
 ghost use Rattle.hyd_net.specs.Sound.{IsSound};
@@ -20,12 +20,9 @@ ghost use Rattle.hyd_spec_certificates.specs.PeriodNetwork.{Grid};
 ghost use Rattle.hyd_spec_certificates.specs.RecordAndStanding.{Record, Standing, initial_standing};
 ghost use Rattle.hyd_spec_certificates.specs.ThreeValuedLogic.{at_both_ends, is_unknown};
 ghost use Rattle.hyd_spec_certificates.specs.Decided.{readings_below, readings_above, rule_truths, decided_changes};
-ghost use Rattle.hyd_spec_certificates.specs.Decided.{SomeMayReach, SomeMustReach, links_at};
+ghost use Rattle.hyd_spec_certificates.specs.Decided.{SomeMayReach, SomeMustReach};
 ghost use Rattle.hyd_spec_certificates.specs.Valid.{LeavesLinks, IsValid, Continues};
-ghost use Rattle.hyd_spec_reports.specs.ReportLine.{ReportLine};
-ghost use Rattle.hyd_spec_reports.specs.Report.{Prints, AreEndLines};
-ghost use Rattle.hyd_spec_reports.specs.Claims.{LiesBetween, at_part, LineHolds};
-ghost use Rattle.hyd_spec_reports.specs.PromisesOfRunsAndChecks.{Found, IsRun, EveryHistoryAgrees};
+ghost use Rattle.hyd_spec_certificates.specs.PrintedIntervals.{Prints, LiesBetween, at_part};
 ghost use Rattle.hyd_theorems_on_definitions.specs.LyingInIntervals.{LiesIn};
 ghost use Rattle.hyd_theorems_on_definitions.specs.VerdictsOfTests.{Tells};
 ghost use Rattle.hyd_theorems_on_histories.specs.Agreement.{AreBetween, IsUnder, AgreesWith, IsOwnState, IsKept};
@@ -90,16 +87,6 @@ pub fn lengths()
         → (period.length ≡ seconds) × (commanded_after project S period ≡ links) }
 {}
 
-/// Each line that a record's end brings holds of the period.
-pub fn end_lines()
-    ensures { (project : Project) → IsSound project → (S : ℕ) (commanded : List LinkState) (period : Period)
-        (grid : Grid)
-        (standing : Standing) (row : Record) → IsUnder project S period grid standing row → IsKept project standing
-        → AllZip (IsOwnState project) project.links.list (links_at project standing) → commanded ≡ standing.commanded
-        → period.length ≡ row.length → (lines : List ReportLine) → AreEndLines project grid standing row lines
-        → AllByRecursion (LineHolds project S commanded period) lines }
-{}
-
 // ---- from period to period
 
 /// Pump patterns, controls and rules leave each link in a state of its own.
@@ -146,13 +133,4 @@ pub fn steps()
         → (after_levels after_volumes : List ℤ) → AreNextStocks project S period after_levels after_volumes
         → AgreesWith project S next (period.time + period.length) after_levels after_volumes
         (commanded_after project S period) }
-{}
-
-// ---- every history
-
-/// Every history of a sound network agrees with every run of valid records.
-pub fn induction()
-    ensures { (project : Project) → IsSound project → (founds : List Found) (last : Standing)
-        → IsRun project founds last
-        → EveryHistoryAgrees project founds }
 {}

@@ -22,7 +22,7 @@ use Rattle.hyd_spec_certificates.specs.Decided.{rule_is_open, by_clock, event_is
 use Rattle.hyd_theorems_on_raises.proofs.FirstItemsAndChoices.{first-below}
 use Rattle.hyd_theorems_on_histories.proofs.TruthsAndRuleValues.{in-groups}
 use Rattle.hyd_theorems_on_histories.proofs.LengthAndLinkStates.{is-empty}
-use Rattle.hyd_theorems_on_histories.proofs.ReportTimeLinesHold.{mapped_at}
+use Rattle.hyd_theorems_on_histories.proofs.ListsByPlace.{mapped_at}
 use Rattle.hyd_theorems_on_nesting.proofs.FirstPassingItem.{find_or_none, all_contained}
 use Rattle.hyd_theorems_on_nesting.proofs.ClockLengthAndEndsExist.{any-there, earliest_is, latest_is}
 

@@ -7,7 +7,5 @@ pub mod RuleInstants
 pub mod NoStopWhereValid
 pub mod FirstPassingItem
 pub mod EveryPeriodEnds
-pub mod ReportsExist
 pub mod GridsExist
 pub mod RecordOrStop
-pub mod RunsGoOnOrStop

@@ -15,14 +15,15 @@ use Rattle.hyd_spec_certificates.specs.Valid.{IsGridAt, IsValid, Continues, cont
 use Rattle.hyd_spec_certificates.specs.Valid.{AreStates, ControlsAreDecided, levels_next, volumes_next, demand_limit}
 use Rattle.hyd_theorems_on_definitions.proofs.OneEndOfPeriod.{not-last, leaves-not-last, leaves-one, leaves-no-rule}
 use Rattle.hyd_theorems_on_definitions.proofs.OneEndOfPeriod.{leaves-no-event}
-use Rattle.hyd_spec_reports.specs.declared.StopCause.{StopCause}
-use Rattle.hyd_spec_reports.specs.declared.StopCause.TheVariants.{Demand as DemandOutOfRange, NoCertificate}
-use Rattle.hyd_spec_reports.specs.declared.StopCause.TheVariants.{RoundsSpent, RuleOpen, EventOpen, TankOpen}
-use Rattle.hyd_spec_reports.specs.declared.StopCause.TheVariants.{ControlOpen}
-use Rattle.hyd_spec_reports.specs.Stops.{IsFirstDemand, HasNoCertificate, IsTightRow, LeavesRuleOpen, LeavesEventOpen}
-use Rattle.hyd_spec_reports.specs.Stops.{EndsAtLevels, LeavesTankOpen, LeavesControlOpen, Stops}
+use Rattle.hyd_spec_certificates.specs.declared.StopCause.{StopCause}
+use Rattle.hyd_spec_certificates.specs.declared.StopCause.TheVariants.{Demand as DemandOutOfRange, NoCertificate}
+use Rattle.hyd_spec_certificates.specs.declared.StopCause.TheVariants.{RoundsSpent, RuleOpen, EventOpen, TankOpen}
+use Rattle.hyd_spec_certificates.specs.declared.StopCause.TheVariants.{ControlOpen}
+use Rattle.hyd_spec_certificates.specs.Stops.{IsFirstDemand, HasNoCertificate, IsTightRow, LeavesRuleOpen}
+use Rattle.hyd_spec_certificates.specs.Stops.{LeavesEventOpen}
+use Rattle.hyd_spec_certificates.specs.Stops.{EndsAtLevels, LeavesTankOpen, LeavesControlOpen, Stops}
 use Rattle.hyd_spec_certificates.specs.Certificate.{IsCertificate}
-use Rattle.hyd_theorems_on_definitions.proofs.OneRun.{one_grid}
+use Rattle.hyd_theorems_on_definitions.proofs.OneGrid.{one_grid}
 use Rattle.hyd_theorems_on_definitions.proofs.OneRefusal.{states-decided, controls-decided}
 use Rattle.hyd_theorems_on_histories.specs.Agreement.{IsKept}
 use Rattle.hyd_theorems_on_nesting.specs.Nesting.{AreNested, IsTightened}

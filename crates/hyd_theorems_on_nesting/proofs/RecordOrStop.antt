@@ -28,12 +28,13 @@ use Rattle.hyd_spec_certificates.specs.Decided.{WithoutRules, RuleIsOpen, EventI
 use Rattle.hyd_spec_certificates.specs.Valid.{IsProblem, IsGridAt, DemandsAreInRange, demand_limit, AreCertificates}
 use Rattle.hyd_spec_certificates.specs.Valid.{LeavesLinks, by_rules, by_clock, levels_next, volumes_next, stocks_next}
 use Rattle.hyd_spec_certificates.specs.Valid.{AreStates, ControlsAreDecided, continues, finishes, LeadsOn}
-use Rattle.hyd_spec_reports.specs.declared.StopCause.{StopCause}
-use Rattle.hyd_spec_reports.specs.declared.StopCause.TheVariants.{Demand as DemandOutOfRange, NoCertificate, RuleOpen}
-use Rattle.hyd_spec_reports.specs.declared.StopCause.TheVariants.{EventOpen, TankOpen, ControlOpen}
-use Rattle.hyd_spec_reports.specs.Stops.{IsTightRow, open_states, is_open_control}
-use Rattle.hyd_spec_reports.specs.TurnsOfProblems.{EarlierHaveCertificates, beginning}
-use Rattle.hyd_spec_reports.specs.Stops.{Stops}
+use Rattle.hyd_spec_certificates.specs.declared.StopCause.{StopCause}
+use Rattle.hyd_spec_certificates.specs.declared.StopCause.TheVariants.{Demand as DemandOutOfRange, NoCertificate}
+use Rattle.hyd_spec_certificates.specs.declared.StopCause.TheVariants.{RuleOpen}
+use Rattle.hyd_spec_certificates.specs.declared.StopCause.TheVariants.{EventOpen, TankOpen, ControlOpen}
+use Rattle.hyd_spec_certificates.specs.Stops.{IsTightRow, open_states, is_open_control}
+use Rattle.hyd_spec_certificates.specs.TurnsOfProblems.{EarlierHaveCertificates, beginning}
+use Rattle.hyd_spec_certificates.specs.Stops.{Stops}
 use Rattle.hyd_theorems_on_definitions.specs.SoundLawsAndGrids.{IsSteady}
 use Rattle.hyd_lemmas.proofs.BooleanTests.{nat-lt-no}
 use Rattle.hyd_lemmas.proofs.ListsOptionsAndResults.{as_long}

@@ -1,15 +1,14 @@
--- Whether a run goes on from a standing or is stopped, and which of two runs is longer.
-use Rattle.std.specs.Prelude.{ℕ, List, [], ◌∷◌, ◌++◌, ⊤}
+-- Whether a run goes on from a standing or is stopped.
+use Rattle.std.specs.Prelude.{ℕ, ⊤}
 use Rattle.hyd_spec.specs.ProgramTypes.{Project}
 use Rattle.hyd_spec_certificates.specs.PeriodNetwork.{Grid}
 use Rattle.hyd_spec_certificates.specs.RecordAndStanding.{Record, Standing}
 use Rattle.hyd_spec_certificates.specs.Valid.{IsValid}
-use Rattle.hyd_spec_reports.specs.declared.StopCause.{StopCause}
-use Rattle.hyd_spec_reports.specs.declared.StopCause.TheVariants.{Demand as DemandOutOfRange, NoCertificate}
-use Rattle.hyd_spec_reports.specs.declared.StopCause.TheVariants.{RoundsSpent, RuleOpen, EventOpen, TankOpen}
-use Rattle.hyd_spec_reports.specs.declared.StopCause.TheVariants.{ControlOpen}
-use Rattle.hyd_spec_reports.specs.Stops.{Stops}
-use Rattle.hyd_spec_reports.specs.PromisesOfRunsAndChecks.{Found, IsRun}
+use Rattle.hyd_spec_certificates.specs.declared.StopCause.{StopCause}
+use Rattle.hyd_spec_certificates.specs.declared.StopCause.TheVariants.{Demand as DemandOutOfRange, NoCertificate}
+use Rattle.hyd_spec_certificates.specs.declared.StopCause.TheVariants.{RoundsSpent, RuleOpen, EventOpen, TankOpen}
+use Rattle.hyd_spec_certificates.specs.declared.StopCause.TheVariants.{ControlOpen}
+use Rattle.hyd_spec_certificates.specs.Stops.{Stops}
 
 -- A cause of a stop other than spent rounds: it says that no record at all could go on.
 abbrev pub IsReason : StopCause → Type 0
@@ -33,8 +32,3 @@ pub record IsStopped (project : Project) (standing : Standing) (rounds : ℕ) : 
   pub cause : StopCause
   pub reason : IsReason cause
   pub stops : Stops project standing rounds cause
-
--- A run goes on by one more period.
-pub record IsLonger (project : Project) (founds : List Found) : Type 0 where
-  pub found : Found
-  pub is_run : IsRun project (founds ++ (found ∷ [])) found.next

@@ -21,23 +21,17 @@ ghost use Rattle.hyd_spec_certificates.specs.RecordAndStanding.{Record, Standing
 ghost use Rattle.hyd_spec_certificates.specs.Decided.{Watch, watches, stocks_of_tank, inflow_of_tank, heads_below};
 ghost use Rattle.hyd_spec_certificates.specs.Decided.{heads_above, IsClockLength, IsEarliestEnd, IsLatestEnd};
 ghost use Rattle.hyd_spec_certificates.specs.Decided.{RulesMatter, End, EndsBy};
-ghost use Rattle.hyd_spec_certificates.specs.Valid.{DemandsAreInRange, IsGridAt, LeavesLinks, LeadsOn, IsValid};
-ghost use Rattle.hyd_spec_certificates.specs.Valid.{Continues, stocks_next, levels_next, volumes_next};
-ghost use Rattle.hyd_spec_reports.specs.declared.StopCause.{StopCause};
-ghost use Rattle.hyd_spec_reports.specs.Stops.{Stops};
-ghost use Rattle.hyd_spec_reports.specs.ReportLine.{ReportLine};
-ghost use Rattle.hyd_spec_reports.specs.Report.{IsReport};
-ghost use Rattle.hyd_spec_reports.specs.PromisesOfRunsAndChecks.{Found, IsRun};
+ghost use Rattle.hyd_spec_certificates.specs.Valid.{DemandsAreInRange, IsGridAt, LeavesLinks, IsValid, Continues};
+ghost use Rattle.hyd_spec_certificates.specs.Valid.{stocks_next, levels_next, volumes_next};
+ghost use Rattle.hyd_spec_certificates.specs.declared.StopCause.{StopCause};
+ghost use Rattle.hyd_spec_certificates.specs.Stops.{Stops};
 ghost use Rattle.hyd_theorems_on_definitions.specs.LyingInIntervals.{IsInside, AreInside, HasStock};
 ghost use Rattle.hyd_theorems_on_definitions.specs.SoundLawsAndGrids.{IsSteady};
 ghost use Rattle.hyd_theorems_on_histories.specs.Agreement.{IsKept};
 ghost use Rattle.hyd_theorems_on_nesting.specs.Nesting.{IsOrdered, AreNested, IsTightened};
-ghost use Rattle.hyd_theorems_on_nesting.specs.FirstAmongWatched.{ReachTest};
+ghost use Rattle.hyd_theorems_on_nesting.specs.FirstAmongWatched.{ReachTest, watch_passes, IsFirstAmong, IsWalked};
 ghost use Rattle.hyd_theorems_on_nesting.specs.StandingsOfRuns.{IsTidy};
-ghost use Rattle.hyd_theorems_on_nesting.specs.FirstAmongWatched.{watch_passes};
 ghost use Rattle.hyd_theorems_on_nesting.specs.GoingOnOrStopped.{IsReason, LeadsSomewhere, IsStopped};
-ghost use Rattle.hyd_theorems_on_nesting.specs.FirstAmongWatched.{IsFirstAmong, IsWalked};
-ghost use Rattle.hyd_theorems_on_nesting.specs.GoingOnOrStopped.{IsLonger};
 
 // ---- certificates of two sides
 
@@ -175,30 +169,10 @@ pub fn ends()
         → standing.time ≢ project.times.duration → (e : End) × EndsBy project grid standing row e }
 {}
 
-/// Each record that leads on has a report.
-pub fn reports()
-    ensures { (project : Project) → IsSound project → (grid : Grid) (standing : Standing) (row : Record)
-        (next : Standing)
-        → IsKept project standing → IsTidy project standing → IsGridAt project standing grid
-        → LeadsOn project grid standing row next
-        → (lines : List ReportLine) × IsReport project grid standing row lines }
-{}
-
 /// At each unfinished standing of a run a valid record leads on, or a cause of a stop holds, whatever the number of
 /// rounds.
 pub fn onward()
     ensures { (project : Project) → IsSound project → (standing : Standing) → IsKept project standing
         → standing.finished ≡ false
         → (rounds : ℕ) → LeadsSomewhere project standing ⊎ IsStopped project standing rounds }
-{}
-
-/// Every standing that a run leaves keeps what standings keep. A run that isn't finished goes on by one more period,
-/// or a cause of a stop holds at the standing that it leaves, whatever the number of rounds.
-pub fn runs()
-    ensures keep { (project : Project) → IsSound project → (founds : List Found) (last : Standing)
-        → IsRun project founds last
-        → IsKept project last × IsTidy project last }
-    ensures go_on { (project : Project) → IsSound project → (founds : List Found) (last : Standing)
-        → IsRun project founds last
-        → last.finished ≡ false → (rounds : ℕ) → IsLonger project founds ⊎ IsStopped project last rounds }
 {}

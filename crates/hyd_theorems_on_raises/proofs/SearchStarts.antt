@@ -16,7 +16,7 @@ use Rattle.hyd_spec.specs.Assignment.{head_at}
 use Rattle.hyd_spec_certificates.specs.PeriodNetwork.{Grid, GridJunction, all_heads, fixed_heads, opposite, end_on}
 use Rattle.hyd_spec_certificates.specs.PeriodNetwork.{tank_side}
 use Rattle.hyd_spec_certificates.specs.EnclosingFunctions.{low, high}
-use Rattle.hyd_spec_reports.specs.TurnsOfProblems.{beginning}
+use Rattle.hyd_spec_certificates.specs.TurnsOfProblems.{beginning}
 use Rattle.hyd_spec_certificates.specs.declared.HeldJunction.{HeldJunction}
 use Rattle.hyd_spec_certificates.specs.Certificate.{box_limit, IsInBox, Passes, Suits, IsBeyond, IsCertificate}
 use Rattle.hyd_spec_certificates.specs.Certificate.{IsCertificateHolding}

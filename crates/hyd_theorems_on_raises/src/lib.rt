@@ -18,7 +18,7 @@ ghost use Rattle.hyd_spec_certificates.specs.Certificate.{IsTightHolding, IsRoun
 ghost use Rattle.hyd_spec_certificates.specs.StartsRaisesAndLeaps.{LiesBeyond, IsStart, IsLeap, Climbs, HasParts};
 ghost use Rattle.hyd_spec_certificates.specs.StartsRaisesAndLeaps.{HasRounds};
 ghost use Rattle.hyd_spec_certificates.specs.StartsRaisesAndLeaps.{IsOrderedHolding, JoinsNone};
-ghost use Rattle.hyd_spec_reports.specs.TurnsOfProblems.{beginning};
+ghost use Rattle.hyd_spec_certificates.specs.TurnsOfProblems.{beginning};
 ghost use Rattle.hyd_theorems_on_definitions.specs.SoundLawsAndGrids.{IsSteady};
 
 /// A vector with a head for each junction is a certificate, or fails first at a junction; not both, and at one

@@ -7,7 +7,7 @@ use Rattle.hyd_net.specs.ProjectAsCompared.{compared_pattern, bare_list}
 use Rattle.hyd_spec.specs.ProgramTypes.{Project}
 use Rattle.hyd_spec.specs.NodeNumbers.{junction_count, tank_count}
 use Rattle.hyd_spec_certificates.specs.RecordAndStanding.{Record}
-use Rattle.hyd_spec_reports.specs.CertificateText.{IsCertificateText, version_of}
+use Rattle.hyd_spec_certificates.specs.CertificateText.{IsCertificateText, version_of}
 use Rattle.hyd_theorems_on_rereading.specs.WithoutSpare.{bare_junction, bare_rule, bare_project}
 
 -- ---- the header line

@@ -20,18 +20,24 @@ use Rattle.hyd_spec_certificates.specs.PeriodNetwork.{Grid, GridJunction}
 use Rattle.hyd_spec_certificates.specs.FlowIntervals.{difference}
 use Rattle.hyd_spec_certificates.specs.RecordAndStanding.{Record, Standing}
 use Rattle.hyd_spec_certificates.specs.Decided.{heads_below, heads_above, links_at, acts_on, decided_changes}
-use Rattle.hyd_spec_reports.specs.declared.Event.{Event}
-use Rattle.hyd_spec_reports.specs.declared.StatusWord.{StatusWord}
-use Rattle.hyd_spec_reports.specs.CertificateText.{line}
+use Rattle.hyd_spec_certificates.specs.declared.Event.{Event}
+use Rattle.hyd_spec_certificates.specs.declared.StatusWord.{StatusWord}
+use Rattle.hyd_spec_certificates.specs.CertificateText.{line}
 use Rattle.hyd_spec_reports.specs.ReportLine.{ReportLine, ControlLine, TimeLine, JunctionLine, ReservoirLine, TankLine}
 use Rattle.hyd_spec_reports.specs.ReportLine.{LinkLine, FilledLine, EmptiedLine, ReachedLine, RuleLine, line_words}
 use Rattle.hyd_spec_reports.specs.ReportLine.{tank_id, reservoir_id, rule_id, tank_words, reservoir_words}
 use Rattle.hyd_spec_reports.specs.ReportLine.{event_words, given_words, link_id, clock_text, line_text, report_text}
-use Rattle.hyd_spec_reports.specs.Report.{Prints, LineEach}
-use Rattle.hyd_spec_reports.specs.ChangesAtStart.{control_changes, changes_at, change_line, control_lines}
-use Rattle.hyd_spec_reports.specs.Report.{is_report_time, IsJunctionLine, IsReservoirLine, IsTankLine, by_knots}
-use Rattle.hyd_spec_reports.specs.Report.{status_of, IsLinkLine, AreStateLines, tank_events, control_event, events_of}
-use Rattle.hyd_spec_reports.specs.Report.{EndBrings, at_end, by_rules, by_clock, AreEndLines, IsReport}
+use Rattle.hyd_spec_certificates.specs.PrintedIntervals.{Prints}
+use Rattle.hyd_spec_reports.specs.Report.{LineEach}
+use Rattle.hyd_spec_certificates.specs.ChangesAtStart.{control_changes, changes_at}
+use Rattle.hyd_spec_reports.specs.Report.{change_line, control_lines}
+use Rattle.hyd_spec_certificates.specs.PrintedIntervals.{is_report_time}
+use Rattle.hyd_spec_reports.specs.Report.{IsJunctionLine, IsReservoirLine, IsTankLine}
+use Rattle.hyd_spec_certificates.specs.StatusesOfLinks.{by_knots, status_of}
+use Rattle.hyd_spec_reports.specs.Report.{IsLinkLine, AreStateLines}
+use Rattle.hyd_spec_certificates.specs.EndsOfPeriods.{tank_events, control_event, events_of}
+use Rattle.hyd_spec_certificates.specs.EndsOfPeriods.{EndBrings, at_end, by_rules, by_clock}
+use Rattle.hyd_spec_reports.specs.Report.{AreEndLines, IsReport}
 use Rattle.hyd_theorems_on_rereading.proofs.PartsWithSpares.{Inner, with_inner, IsLikeRule, AreAlike}
 use Rattle.hyd_theorems_on_rereading.proofs.SameQuantities.{same_map, same_count, same_node}
 use Rattle.hyd_theorems_on_rereading.proofs.SameLinkStatesAtStart.{same_patterned, same_links_at}

@@ -12,7 +12,7 @@ ghost use Rattle.hyd_spec.specs.PeriodLength.{Period};
 ghost use Rattle.hyd_spec.specs.History.{IsHistory};
 ghost use Rattle.hyd_spec_certificates.specs.RecordAndStanding.{Record, Standing};
 ghost use Rattle.hyd_spec_certificates.specs.Valid.{AreValid};
-ghost use Rattle.hyd_spec_reports.specs.CertificateText.{version_of};
+ghost use Rattle.hyd_spec_certificates.specs.CertificateText.{version_of};
 ghost use Rattle.hyd_spec_reports.specs.ReportLine.{ReportLine, report_text};
 ghost use Rattle.hyd_spec_reports.specs.PromisesOfRunsAndChecks.{Found, IsRun};
 ghost use Rattle.hyd_theorems_on_rereading.specs.WithoutSpare.{bare_project};

@@ -7,18 +7,18 @@ use Rattle.hyd_spec.specs.ProgramTypes.{Project}
 use Rattle.hyd_spec.specs.Lists.{joined, IsFrontOf}
 use Rattle.hyd_spec.specs.NodeNumbers.{junction_count, tank_count}
 use Rattle.hyd_spec_certificates.specs.RecordAndStanding.{Record, Standing}
-use Rattle.hyd_spec_reports.specs.CertificateText.{line, version_of, header_line, record_text, end_line}
-use Rattle.hyd_spec_reports.specs.CertificateText.{certificate_text}
+use Rattle.hyd_spec_certificates.specs.CertificateText.{line, version_of, header_line, record_text, end_line}
+use Rattle.hyd_spec_certificates.specs.CertificateText.{certificate_text}
 use Rattle.hyd_spec_reports.specs.ReportLine.{ReportLine, report_text, line_text, done_line}
-use Rattle.hyd_spec_reports.specs.declared.StopCause.{StopCause}
-use Rattle.hyd_spec_reports.specs.Stops.{Stops}
+use Rattle.hyd_spec_certificates.specs.declared.StopCause.{StopCause}
+use Rattle.hyd_spec_certificates.specs.Stops.{Stops}
 use Rattle.hyd_spec_reports.specs.PromisesOfRunsAndChecks.{Found, rows_of, lines_of, Sharpness, IsSharpFound}
 use Rattle.hyd_spec_reports.specs.PromisesOfRunsAndChecks.{IsTightThroughout}
 use Rattle.hyd_spec_reports.specs.PromisesOfRunsAndChecks.{certificate_so_far, report_so_far}
 use Rattle.hyd_spec_certificates.specs.Narrow.{IsNarrow}
 use Rattle.hyd_theorems_on_nesting.specs.GoingOnOrStopped.{IsReason}
 use Rattle.hyd_theorems_on_nesting.proofs.NoStopWhereValid.{no_stop}
-use Rattle.hyd_theorems_on_nesting.proofs.RunsGoOnOrStop.{run_keeps}
+use Rattle.hyd_theorems_on_runs.proofs.RunsGoOnOrStop.{run_keeps}
 use Rattle.hyd_theorems_on_tight_runs.specs.TightRuns.{IsTightRun, FinishesTight}
 use Rattle.hyd_theorems_on_tight_runs.proofs.TwoRuns.{records_append, fronts, whole, next_valid, one_standing}
 use Rattle.hyd_lemmas.proofs.ListsOptionsAndResults.{joined_append}

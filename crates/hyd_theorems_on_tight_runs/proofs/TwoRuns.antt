@@ -8,7 +8,7 @@ use Rattle.hyd_spec_certificates.specs.RecordAndStanding.{Record, Standing, init
 use Rattle.hyd_spec_certificates.specs.Valid.{IsValid}
 use Rattle.hyd_spec_reports.specs.PromisesOfRunsAndChecks.{Found, IsRunFrom, IsRun, none, more, IsTightThroughout}
 use Rattle.hyd_spec_reports.specs.PromisesOfRunsAndChecks.{rows_of}
-use Rattle.hyd_theorems_on_definitions.proofs.OneRun.{one_run, one_left, steps, ends_here}
+use Rattle.hyd_theorems_on_runs.proofs.OneRun.{one_run, one_left, steps, ends_here}
 use Rattle.hyd_theorems_on_tight_runs.specs.TightRuns.{IsTightRun}
 
 -- ---- lists

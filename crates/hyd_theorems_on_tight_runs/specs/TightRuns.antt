@@ -4,7 +4,7 @@ use Rattle.std.specs.Prelude.{◌≡◌, ℕ, true, List, Some}
 use Rattle.std.specs.List.{AllByRecursion}
 use Rattle.hyd_spec.specs.ProgramTypes.{Project}
 use Rattle.hyd_spec_certificates.specs.RecordAndStanding.{Standing}
-use Rattle.hyd_spec_reports.specs.declared.StopCause.{StopCause}
+use Rattle.hyd_spec_certificates.specs.declared.StopCause.{StopCause}
 use Rattle.hyd_spec_reports.specs.PromisesOfRunsAndChecks.{Found, IsRun, Sharpness, IsTightThroughout, Finished}
 use Rattle.hyd_spec_reports.specs.PromisesOfRunsAndChecks.{Stopped}
 use Rattle.hyd_spec_reports.specs.PromisesOfRunsAndChecks.{RunWrites}

@@ -2,7 +2,7 @@
 use Rattle.std.proofs.Common.{◌≡◌, ◌≢◌, ℕ, ◌+◌, ◌<◌, ◌==◌, Bool, true, false, if◌then◌else◌, ◌⊎◌, List, [], ◌∷◌, ◌++◌}
 use Rattle.std.proofs.Common.{refl, sym, ap, ap₂, subst, ◌∙◌, append_assoc, inl, inr, arith}
 use Rattle.std.proofs.lemmas.Bool.{eqb-true}
-use Rattle.hyd_spec_reports.specs.CertificateText.{line_feeds}
+use Rattle.hyd_spec_certificates.specs.CertificateText.{line_feeds}
 use Rattle.hyd_spec_witnesses.specs.WitnessText.{Counts}
 use Rattle.hyd_spec_witnesses.specs.FaultyLine.{IsWitness, IsOneLine, HasFirstLine, ended, unended, IsFaultyLine}
 use Rattle.hyd_lemmas.proofs.BooleanTests.{equal_by_order}

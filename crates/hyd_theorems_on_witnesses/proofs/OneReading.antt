@@ -10,7 +10,7 @@ use Rattle.std.proofs.lemmas.Str.Parse.{digit_from_value}
 use Rattle.std.proofs.lemmas.List.{append-nil}
 use Rattle.std.proofs.lemmas.List.Elements.{All-head, All-tail}
 use Rattle.hyd_spec.specs.Lists.{joined}
-use Rattle.hyd_spec_reports.specs.CertificateText.{line}
+use Rattle.hyd_spec_certificates.specs.CertificateText.{line}
 use Rattle.hyd_spec_witnesses.specs.MetPeriods.{Moment}
 use Rattle.hyd_spec_witnesses.specs.WitnessText.{Counts, moment_line, value_lines, stock_line}
 use Rattle.hyd_spec_witnesses.specs.WitnessText.{stock_lines, moment_text, witness_end, IsValue, AreValues, IsMoment}

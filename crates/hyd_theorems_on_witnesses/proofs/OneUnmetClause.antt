@@ -16,7 +16,7 @@ use Rattle.hyd_spec_witnesses.specs.MetPeriods.{IsMet}
 use Rattle.hyd_spec_witnesses.specs.FirstUnmetClause.{FailsFirstAt, HasDemandsInRange, HasItsLinks, HasItsDemands}
 use Rattle.hyd_spec_witnesses.specs.FirstUnmetClause.{HasItsEmitters, Balances, FailsBy, IsUnmet}
 use Rattle.hyd_lemmas.proofs.BooleanTests.{equal_by_order}
-use Rattle.hyd_theorems_on_definitions.proofs.OneRun.{same_grid}
+use Rattle.hyd_theorems_on_definitions.proofs.OneGrid.{same_grid}
 
 -- ---- lists
 

@@ -1,5 +1,5 @@
 use Rattle.hyd_spec_certificates.specs.RecordAndStanding.{initial_standing}
-use Rattle.hyd_theorems_on_definitions.proofs.OneRun.{one_left}
+use Rattle.hyd_theorems_on_runs.proofs.OneRun.{one_left}
 use Rattle.hyd_theorems_on_checks.proofs.RunsByRecords.{one_by_records, next_valid}
 use Rattle.hyd_theorems_on_checks.proofs.runs.Goals as goal
 

@@ -3,7 +3,7 @@ use Rattle.std.specs.Int.{w128}
 use Rattle.std.proofs.lemmas.Int.{ints}
 use Rattle.hyd_num.specs.Rational.{ceiling}
 use Rattle.hyd_net.specs.Curves.{value_at}
-use Rattle.hyd_spec_reports.specs.Report.{by_drive}
+use Rattle.hyd_spec_certificates.specs.StatusesOfLinks.{by_drive}
 use Rattle.hyd_law.specs.KnotsOfStraightLines.{places}
 use Rattle.hyd_period_network.specs.ExactLaw.{is_nothing}
 use Rattle.hyd_bounds.proofs.StatusWordByOwnLaw.{curve-word, some-most, some-least}

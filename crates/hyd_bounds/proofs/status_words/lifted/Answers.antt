@@ -3,7 +3,7 @@ use Rattle.std.specs.Int.{w128}
 use Rattle.std.proofs.lemmas.Int.{ints}
 use Rattle.hyd_num.specs.Rational.{floor, ceiling}
 use Rattle.hyd_spec.specs.DemandsHeadsAndPumpLifts.{lift_of}
-use Rattle.hyd_spec_reports.specs.Report.{by_drive}
+use Rattle.hyd_spec_certificates.specs.StatusesOfLinks.{by_drive}
 use Rattle.hyd_bounds.proofs.status_words.lifted.Goals as goal
 
 pub overflow_add-from : goal.overflow_add-from

@@ -1,4 +1,4 @@
-use Rattle.hyd_theorems_on_histories.proofs.HistoriesAlongRuns.{every_history}
+use Rattle.hyd_theorems_on_runs.proofs.HistoriesAlongRuns.{every_history}
 use Rattle.hyd_cases_of_runs.proofs.BasinRun.{curved_run, spilling_run}
 use Rattle.hyd_cases_of_runs.proofs.BasinSound.{curved_sound, spilling_sound}
 use Rattle.hyd_cases_of_runs.proofs.BasinHistory.{curved_agrees, spilling_agrees}

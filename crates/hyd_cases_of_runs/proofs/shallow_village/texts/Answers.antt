@@ -2,7 +2,7 @@ use Rattle.std.proofs.Common.{◌∷◌, [], refl, arith, inl}
 use Rattle.std.specs.Fmt.{digits}
 use Rattle.std.proofs.lemmas.List.Elements.{All-nil, All-cons}
 use Rattle.hyd_num.specs.PrintedDecimals.{fixed_point}
-use Rattle.hyd_spec_reports.specs.CertificateText.{IsRow}
+use Rattle.hyd_spec_certificates.specs.CertificateText.{IsRow}
 use Rattle.hyd_cases_of_runs.specs.ShallowVillage.{row_0, row_1}
 use Rattle.hyd_cases_of_runs.proofs.VillageTexts.{vector, row_fits}
 use Rattle.hyd_cases_of_runs.proofs.shallow_village.texts.Goals as goal

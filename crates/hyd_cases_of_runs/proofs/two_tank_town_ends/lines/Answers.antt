@@ -4,7 +4,8 @@ use Rattle.hyd_cases_of_runs.proofs.TwoTankTownAsOneValue.{town_is}
 use Rattle.std.specs.Fmt.{digits}
 use Rattle.hyd_num.specs.PrintedDecimals.{fixed_point}
 use Rattle.std.specs.Prelude.{map}
-use Rattle.hyd_spec_reports.specs.Report.{events_of, event_line}
+use Rattle.hyd_spec_certificates.specs.EndsOfPeriods.{events_of}
+use Rattle.hyd_spec_reports.specs.Report.{event_line}
 use Rattle.hyd_spec_reports.specs.ReportLine.{line_text}
 use Rattle.hyd_cases_of_runs.specs.TwoTankTownPeriods.{standing_at_two, standing_when_full, grid_at_two, grid_when_full}
 use Rattle.hyd_cases_of_runs.specs.TwoTankTownPeriods.{row_at_two, row_when_full}

@@ -2,7 +2,7 @@ use Rattle.std.proofs.Common.{ap}
 use Rattle.hyd_cases_of_runs.proofs.two_tank_town_ends.open_controls.Goals as goal
 use Rattle.hyd_cases_of_runs.proofs.TwoTankTownAsOneValue.{town_is}
 use Rattle.std.specs.Prelude.{pos, [], ◌∷◌, map}
-use Rattle.hyd_spec_reports.specs.Stops.{is_open_control}
+use Rattle.hyd_spec_certificates.specs.Stops.{is_open_control}
 
 pub returns-clause-decided : goal.returns-clause-decided
 returns-clause-decided c = λ project town. ap (λ project. map (is_open_control (record {

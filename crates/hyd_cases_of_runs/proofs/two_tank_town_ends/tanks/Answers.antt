@@ -2,7 +2,7 @@ use Rattle.std.proofs.Common.{ap}
 use Rattle.hyd_cases_of_runs.proofs.two_tank_town_ends.tanks.Goals as goal
 use Rattle.hyd_cases_of_runs.proofs.TwoTankTownAsOneValue.{town_is}
 use Rattle.hyd_spec_certificates.specs.Decided.{carried_at}
-use Rattle.hyd_spec_reports.specs.Report.{tank_events}
+use Rattle.hyd_spec_certificates.specs.EndsOfPeriods.{tank_events}
 use Rattle.hyd_cases_of_runs.specs.TwoTankTownPeriods.{standing_at_two, standing_when_full, grid_at_two, grid_when_full}
 use Rattle.hyd_cases_of_runs.specs.TwoTankTownPeriods.{row_at_two, row_when_full}
 

@@ -7,7 +7,7 @@ use Rattle.hyd_spec.specs.DemandsHeadsAndPumpLifts.{is_us}
 use Rattle.hyd_spec.specs.Rules.{state_of_link}
 use Rattle.hyd_spec_certificates.specs.FlowIntervals.{difference}
 use Rattle.hyd_spec_certificates.specs.Decided.{links_at, heads_below, heads_above}
-use Rattle.hyd_spec_reports.specs.Report.{status_of}
+use Rattle.hyd_spec_certificates.specs.StatusesOfLinks.{status_of}
 use Rattle.hyd_cases_of_runs.specs.TwoTankTownPeriods.{standing_at_two, standing_when_full, grid_at_two, grid_when_full}
 use Rattle.hyd_cases_of_runs.specs.TwoTankTownPeriods.{row_at_two, row_when_full}
 use Rattle.hyd_cases_of_runs.specs.TwoTankTownReport.{lift}

@@ -4,8 +4,9 @@ use Rattle.hyd_cases_of_runs.proofs.TwoTankTownAsOneValue.{town_is}
 use Rattle.std.specs.Fmt.{digits}
 use Rattle.hyd_num.specs.PrintedDecimals.{fixed_point}
 use Rattle.std.specs.Prelude.{◌++◌, map}
-use Rattle.hyd_spec_reports.specs.Report.{events_of, event_line}
-use Rattle.hyd_spec_reports.specs.ChangesAtStart.{control_lines}
+use Rattle.hyd_spec_certificates.specs.EndsOfPeriods.{events_of}
+use Rattle.hyd_spec_reports.specs.Report.{event_line}
+use Rattle.hyd_spec_reports.specs.Report.{control_lines}
 use Rattle.hyd_spec_reports.specs.ReportLine.{line_text, report_text, done_line}
 use Rattle.hyd_cases_of_runs.specs.TwoTankTownPeriods.{standing_at_two, grid_at_two, row_at_two}
 use Rattle.hyd_cases_of_runs.specs.TwoTankTownReport.{lines_at_two}

@@ -5,7 +5,7 @@ use Rattle.std.specs.Fmt.{digits}
 use Rattle.hyd_num.specs.PrintedDecimals.{fixed_point}
 use Rattle.std.specs.Prelude.{map}
 use Rattle.hyd_spec_certificates.specs.Decided.{decided_changes}
-use Rattle.hyd_spec_reports.specs.ChangesAtStart.{change_line}
+use Rattle.hyd_spec_reports.specs.Report.{change_line}
 use Rattle.hyd_spec_reports.specs.ReportLine.{line_text}
 use Rattle.hyd_cases_of_runs.specs.TwoTankTownPeriods.{standing_when_full, grid_when_full, row_when_full}
 

@@ -2,7 +2,7 @@ use Rattle.std.proofs.Common.{ap}
 use Rattle.hyd_cases_of_runs.proofs.two_tank_town_starts.changes.Goals as goal
 use Rattle.hyd_cases_of_runs.proofs.TwoTankTownAsOneValue.{town_is}
 use Rattle.hyd_spec_certificates.specs.Decided.{acts_on}
-use Rattle.hyd_spec_reports.specs.ChangesAtStart.{start_changes}
+use Rattle.hyd_spec_certificates.specs.ChangesAtStart.{start_changes}
 use Rattle.hyd_cases_of_runs.specs.TwoTankTownPeriods.{standing_at_start, standing_at_one, standing_at_two}
 use Rattle.hyd_cases_of_runs.specs.TwoTankTownPeriods.{standing_when_full}
 use Rattle.hyd_cases_of_runs.specs.TwoTankTownPeriods.{standing_after_rules, standing_at_three}

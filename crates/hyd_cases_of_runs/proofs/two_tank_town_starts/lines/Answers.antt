@@ -4,7 +4,7 @@ use Rattle.hyd_cases_of_runs.proofs.TwoTankTownAsOneValue.{town_is}
 use Rattle.std.specs.Fmt.{digits}
 use Rattle.hyd_num.specs.PrintedDecimals.{fixed_point}
 use Rattle.std.specs.Prelude.{map}
-use Rattle.hyd_spec_reports.specs.ChangesAtStart.{control_lines}
+use Rattle.hyd_spec_reports.specs.Report.{control_lines}
 use Rattle.hyd_spec_reports.specs.ReportLine.{line_text}
 use Rattle.hyd_cases_of_runs.specs.TwoTankTownPeriods.{standing_at_one, standing_when_full, standing_at_three}
 

@@ -1,4 +1,4 @@
-use Rattle.hyd_theorems_on_histories.proofs.HistoriesAlongRuns.{every_history}
+use Rattle.hyd_theorems_on_runs.proofs.HistoriesAlongRuns.{every_history}
 use Rattle.hyd_cases_of_runs.specs.Village.{village}
 use Rattle.hyd_cases_of_runs.specs.VillageRun.{founds, left}
 use Rattle.hyd_cases_of_runs.proofs.VillageSound.{sound}

@@ -1,7 +1,7 @@
 use Rattle.std.proofs.Common.{◌∷◌, [], codes}
 use Rattle.std.specs.Fmt.{decimal}
 use Rattle.hyd_io.specs.DeskBytes.{prepend_known}
-use Rattle.hyd_spec_reports.specs.CertificateText.{words}
+use Rattle.hyd_spec_certificates.specs.CertificateText.{words}
 use Rattle.hyd_cert.specs.RecordView.{header_of}
 use Rattle.hyd_cert.proofs.HeadLemmas.{stuck_first, stuck_behind_header, header_is}
 use Rattle.hyd_cert.proofs.RecordFaultLemmas.{none_at_first, none_behind_header}

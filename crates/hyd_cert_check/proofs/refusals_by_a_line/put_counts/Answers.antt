@@ -1,7 +1,7 @@
 -- The parts are the line.
 use Rattle.std.proofs.Common.{◌≡◌, ℕ, List, [], ◌∷◌, ◌++◌, codes, append_assoc, refl}
 use Rattle.std.specs.Fmt.{decimal}
-use Rattle.hyd_spec_reports.specs.CertificateText.{line}
+use Rattle.hyd_spec_certificates.specs.CertificateText.{line}
 use Rattle.hyd_io.proofs.PutLemmas.{puts_same}
 use Rattle.hyd_cert_check.proofs.refusals_by_a_line.put_counts.Goals as goal
 

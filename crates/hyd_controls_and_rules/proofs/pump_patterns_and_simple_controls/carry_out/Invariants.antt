@@ -1,7 +1,7 @@
 use Rattle.std.proofs.Common.{◌≡◌, ◌+◌, ◌≤◌, ◌++◌, length, map, drop}
 use Rattle.hyd_spec_certificates.specs.SpansAsIntervals.{levels_of}
 use Rattle.hyd_spec_certificates.specs.Decided.{acts_on}
-use Rattle.hyd_spec_reports.specs.ChangesAtStart.{control_changes}
+use Rattle.hyd_spec_certificates.specs.ChangesAtStart.{control_changes}
 use Rattle.hyd_controls_and_rules.specs.PumpPatternsAndSimpleControls.{controlled_by}
 use Rattle.hyd_controls_and_rules.proofs.pump_patterns_and_simple_controls.carry_out.Given as goal
 

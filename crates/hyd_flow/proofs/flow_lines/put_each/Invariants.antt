@@ -3,7 +3,7 @@ use Rattle.std.specs.Prelude.{Ok}
 use Rattle.std.specs.List.{AllZip}
 use Rattle.hyd_io.specs.TextPutIn.{Puts}
 use Rattle.hyd_spec.specs.Lists.{joined}
-use Rattle.hyd_spec_flows.specs.FlowLines.{FlowLine, IsFlowLine, flow_line_text}
+use Rattle.hyd_spec_reports_with_flows.specs.FlowLines.{FlowLine, IsFlowLine, flow_line_text}
 use Rattle.hyd_cert.specs.FlowPartView.{links_in}
 use Rattle.hyd_period_network.specs.NetAsPeriodNetwork.{grid_of}
 use Rattle.hyd_flow.proofs.flow_lines.put_each.Given as goal

@@ -6,7 +6,7 @@ use Rattle.hyd_cert.specs.declared.named_vectors.NamedVectors.{NamedVectors}
 use Rattle.hyd_period_network.specs.NetAsPeriodNetwork.{grid_of}
 use Rattle.hyd_spec_certificates.specs.declared.Side.{Side}
 use Rattle.hyd_spec_flows.specs.FlowParts.{NamedLink, JoinsJunctions, HasItsVector}
-use Rattle.hyd_spec_flows.specs.FlowLines.{IsFlowLine}
+use Rattle.hyd_spec_reports_with_flows.specs.FlowLines.{IsFlowLine}
 use Rattle.std.specs.List.{AllZip}
 use Rattle.hyd_flow.proofs.LinesOfFlows.{lines_there, lines_due}
 use Rattle.hyd_flow.proofs.flow_lines.put_flow_lines.Goals as goal

@@ -1,6 +1,6 @@
 use Rattle.std.proofs.Common.{◌≡◌, ◌+◌, ◌++◌, map, string_bytes, refl, ap, sym, ◌∙◌}
 use Rattle.std.specs.List.{flat_map}
-use Rattle.hyd_spec_reports.specs.CertificateText.{line}
+use Rattle.hyd_spec_certificates.specs.CertificateText.{line}
 use Rattle.hyd_spec_generated.specs.Sequence.{following, digit_of, drawn}
 use Rattle.hyd_spec_generated.specs.GeneratedText.{numbers, junction_with, junction_line}
 use Rattle.hyd_gen.proofs.OneJunctionMore.{drawn_more, junctions_more, one_more}

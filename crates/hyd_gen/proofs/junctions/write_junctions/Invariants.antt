@@ -1,6 +1,6 @@
 use Rattle.std.proofs.Common.{◌≡◌, ◌++◌, map, string_bytes}
 use Rattle.std.specs.List.{flat_map}
-use Rattle.hyd_spec_reports.specs.CertificateText.{line}
+use Rattle.hyd_spec_certificates.specs.CertificateText.{line}
 use Rattle.hyd_spec_generated.specs.Sequence.{drawn}
 use Rattle.hyd_spec_generated.specs.GeneratedText.{numbers, junction_line}
 use Rattle.hyd_gen.proofs.junctions.write_junctions.Given as goal

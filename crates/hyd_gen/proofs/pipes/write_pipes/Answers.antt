@@ -1,6 +1,6 @@
 use Rattle.std.proofs.Common.{◌+◌, string_bytes, refl}
 use Rattle.std.specs.List.{flat_map}
-use Rattle.hyd_spec_reports.specs.CertificateText.{line}
+use Rattle.hyd_spec_certificates.specs.CertificateText.{line}
 use Rattle.hyd_spec_generated.specs.GeneratedText.{numbers, next_pipe, under_pipe, pipes_from}
 use Rattle.hyd_gen.proofs.OneJunctionMore.{pipes_more, two_more}
 use Rattle.hyd_gen.proofs.pipes.write_pipes.Goals as goal

@@ -1,6 +1,6 @@
 use Rattle.std.proofs.Common.{◌≡◌, ◌++◌, string_bytes}
 use Rattle.std.specs.List.{flat_map}
-use Rattle.hyd_spec_reports.specs.CertificateText.{line}
+use Rattle.hyd_spec_certificates.specs.CertificateText.{line}
 use Rattle.hyd_spec_generated.specs.GeneratedText.{numbers, pipes_from}
 use Rattle.hyd_gen.proofs.pipes.write_pipes.Given as goal
 

@@ -1,6 +1,6 @@
 use Rattle.std.proofs.Common.{◌≡◌, [], ◌∷◌, ◌++◌, map, codes, string_bytes, ap, sym, ◌∙◌, rules}
 use Rattle.std.specs.List.{flat_map}
-use Rattle.hyd_spec_reports.specs.CertificateText.{line}
+use Rattle.hyd_spec_certificates.specs.CertificateText.{line}
 use Rattle.hyd_spec_generated.specs.GeneratedText.{first_lines, junction_line, numbers, source_lines, pipes_from}
 use Rattle.hyd_spec_generated.specs.GeneratedText.{source_pipes}
 use Rattle.hyd_gen.proofs.OneJunctionMore.{five, parts}

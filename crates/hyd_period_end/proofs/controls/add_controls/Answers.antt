@@ -1,7 +1,7 @@
 use Rattle.std.proofs.Common.{◌∙◌, arith}
 use Rattle.std.specs.Prelude.{map}
 use Rattle.hyd_spec_certificates.specs.SpansAsIntervals.{levels_of}
-use Rattle.hyd_spec_reports.specs.Report.{control_event}
+use Rattle.hyd_spec_certificates.specs.EndsOfPeriods.{control_event}
 use Rattle.hyd_period_end.proofs.EventsSoFar.{control_further, all_controls}
 use Rattle.hyd_period_end.proofs.controls.add_controls.Goals as goal
 

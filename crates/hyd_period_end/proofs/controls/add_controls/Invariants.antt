@@ -2,7 +2,7 @@ use Rattle.std.proofs.Common.{◌≡◌, ◌≤◌, ◌+◌, ◌++◌, length, t
 use Rattle.std.specs.Prelude.{map}
 use Rattle.hyd_spec.specs.Lists.{map_from, present}
 use Rattle.hyd_spec_certificates.specs.SpansAsIntervals.{levels_of}
-use Rattle.hyd_spec_reports.specs.Report.{control_event}
+use Rattle.hyd_spec_certificates.specs.EndsOfPeriods.{control_event}
 use Rattle.hyd_period_end.proofs.controls.add_controls.Given as goal
 
 abbrev pub invariant-loop-number : goal.invariant-loop-number

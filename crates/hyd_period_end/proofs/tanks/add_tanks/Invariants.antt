@@ -1,7 +1,7 @@
 use Rattle.std.proofs.Common.{◌≡◌, ◌≤◌, ◌+◌, ◌++◌, length, take}
 use Rattle.std.specs.Prelude.{map}
 use Rattle.hyd_spec_certificates.specs.SpansAsIntervals.{levels_of}
-use Rattle.hyd_spec_reports.specs.Report.{tank_events}
+use Rattle.hyd_spec_certificates.specs.EndsOfPeriods.{tank_events}
 use Rattle.hyd_period_end.proofs.tanks.add_tanks.Given as goal
 
 abbrev pub invariant-loop-tank : goal.invariant-loop-tank

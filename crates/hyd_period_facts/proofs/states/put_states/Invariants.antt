@@ -2,7 +2,7 @@ use Rattle.std.proofs.Common.{◌≡◌, ℕ, ◌+◌, ◌<◌, ◌≤◌, Bool,
 use Rattle.std.specs.Prelude.{Option, Some, map, slice_index_or}
 use Rattle.hyd_spec.specs.declared.TankState.{TankState}
 use Rattle.hyd_spec_certificates.specs.SpansAsIntervals.{levels_of}
-use Rattle.hyd_spec_reports.specs.Stops.{open_states}
+use Rattle.hyd_spec_certificates.specs.Stops.{open_states}
 use Rattle.hyd_period_facts.proofs.DecidedTankStates.{states_at}
 use Rattle.hyd_period_facts.proofs.states.put_states.Given as goal
 

@@ -2,7 +2,7 @@
 use Rattle.std.proofs.Common.{ℕ, List, ap}
 use Rattle.hyd_spec.specs.declared.Change.{Change}
 use Rattle.hyd_spec_reports.specs.ReportLine.{line_text}
-use Rattle.hyd_spec_reports.specs.ChangesAtStart.{change_line}
+use Rattle.hyd_spec_reports.specs.Report.{change_line}
 use Rattle.hyd_report.proofs.JoinedTexts.{joined-more, joined-split}
 use Rattle.hyd_io.proofs.PutLemmas.{puts_then, puts_cut_off, puts_same}
 use Rattle.hyd_report.proofs.changes.put_changes.Goals as goal

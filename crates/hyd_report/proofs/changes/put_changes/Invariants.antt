@@ -2,7 +2,7 @@ use Rattle.std.proofs.Common.{map, take}
 use Rattle.std.specs.Prelude.{Ok}
 use Rattle.hyd_spec.specs.Lists.{joined}
 use Rattle.hyd_spec_reports.specs.ReportLine.{line_text}
-use Rattle.hyd_spec_reports.specs.ChangesAtStart.{change_line}
+use Rattle.hyd_spec_reports.specs.Report.{change_line}
 use Rattle.hyd_io.specs.TextPutIn.{Puts}
 use Rattle.hyd_report.proofs.changes.put_changes.Given as goal
 

@@ -1,7 +1,7 @@
 -- The pieces are the line.
 use Rattle.std.proofs.Common.{◌≡◌, ◌∙◌, ℕ, List, [], ◌∷◌, codes, append_assoc, refl}
 use Rattle.hyd_spec.specs.Lists.{joined}
-use Rattle.hyd_spec_reports.specs.CertificateText.{line}
+use Rattle.hyd_spec_certificates.specs.CertificateText.{line}
 use Rattle.hyd_io.proofs.PutLemmas.{puts_same}
 use Rattle.hyd_report.proofs.done_partial_and_refused_end.put_refused_end.Goals as goal
 

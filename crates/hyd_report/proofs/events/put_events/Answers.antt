@@ -1,6 +1,6 @@
 -- One line more, or a line that is cut off.
 use Rattle.std.proofs.Common.{ℕ, List}
-use Rattle.hyd_spec_reports.specs.declared.Event.{Event}
+use Rattle.hyd_spec_certificates.specs.declared.Event.{Event}
 use Rattle.hyd_spec_reports.specs.ReportLine.{line_text}
 use Rattle.hyd_spec_reports.specs.Report.{event_line}
 use Rattle.hyd_report.proofs.JoinedTexts.{joined-more, joined-split}

@@ -1,6 +1,6 @@
 use Rattle.std.proofs.Common.{ap, sym}
 use Rattle.hyd_io.proofs.PutLemmas.{puts_same}
-use Rattle.hyd_spec_flows.specs.FlowLines.{refused_flow_line}
+use Rattle.hyd_spec_reports_with_flows.specs.FlowLines.{refused_flow_line}
 use Rattle.hyd_report.proofs.flow_lines.put_refused_flow.Goals as goal
 
 pub returns-in-Name : goal.returns-in-Name

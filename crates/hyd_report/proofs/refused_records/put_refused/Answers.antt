@@ -1,7 +1,7 @@
 -- One part after another.
 use Rattle.std.proofs.Common.{◌≡◌, ◌∙◌, ap}
 use Rattle.std.specs.Fmt.{decimal}
-use Rattle.hyd_spec_reports.specs.ReportLine.{refused_period}
+use Rattle.hyd_spec_certificates.specs.RefusedRecords.{refused_period}
 use Rattle.hyd_report.proofs.StopLemmas.{refused_text}
 use Rattle.hyd_io.proofs.PutLemmas.{puts_then, puts_cut_off, puts_same}
 use Rattle.hyd_report.proofs.refused_records.put_refused.Goals as goal

@@ -2,7 +2,7 @@
 use Rattle.std.proofs.Common.{◌≡◌, ◌∙◌, ℕ, List, [], ◌∷◌, codes, append_assoc, refl, ap}
 use Rattle.std.specs.Fmt.{decimal}
 use Rattle.hyd_spec.specs.Lists.{joined}
-use Rattle.hyd_spec_reports.specs.CertificateText.{line}
+use Rattle.hyd_spec_certificates.specs.CertificateText.{line}
 use Rattle.hyd_io.proofs.PutLemmas.{puts_same}
 use Rattle.hyd_report.proofs.refused_text.put_refused_text.Goals as goal
 

@@ -1,7 +1,7 @@
 -- Events, and then the changes by rules.
 use Rattle.std.proofs.Common.{◌+◌, drop, refl}
 use Rattle.hyd_spec_reports.specs.Report.{event_line}
-use Rattle.hyd_spec_reports.specs.ChangesAtStart.{change_line}
+use Rattle.hyd_spec_reports.specs.Report.{change_line}
 use Rattle.hyd_report.specs.EventTextsAndChangesByRules.{before_rules}
 use Rattle.hyd_report.proofs.LineLemmas.{end_text}
 use Rattle.hyd_io.proofs.PutLemmas.{puts_then, puts_cut_off, puts_same}

@@ -2,7 +2,7 @@
 use Rattle.std.proofs.Common.{◌≡◌, ◌∙◌, ap}
 use Rattle.std.specs.Fmt.{decimal}
 use Rattle.hyd_spec_reports.specs.ReportLine.{clock_text}
-use Rattle.hyd_spec_reports.specs.Stops.{period_of}
+use Rattle.hyd_spec_certificates.specs.Stops.{period_of}
 use Rattle.hyd_report.proofs.StopLemmas.{stop_text}
 use Rattle.hyd_io.proofs.PutLemmas.{puts_then, puts_cut_off, puts_same}
 use Rattle.hyd_report.proofs.stops.put_stop.Goals as goal

@@ -11,7 +11,7 @@ use Rattle.hyd_run.proofs.StepLemmas.{tanks-there, links-there}
 use Rattle.hyd_sim.specs.RunView.{standing_of}
 use Rattle.hyd_spec.specs.Lists.{joined}
 use Rattle.hyd_spec.specs.ProgramTypes.{Project}
-use Rattle.hyd_spec_flows.specs.FlowLines.{flow_line_text}
+use Rattle.hyd_spec_reports_with_flows.specs.FlowLines.{flow_line_text}
 use Rattle.hyd_run_naming_flows.proofs.StepLemmas.{report-there, given-there, part-there, lines-now}
 use Rattle.hyd_run_naming_flows.proofs.periods.put_lines.Goals as goal
 

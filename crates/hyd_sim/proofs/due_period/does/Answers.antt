@@ -4,8 +4,8 @@ use Rattle.hyd_spec.specs.NodeNumbers.{junction_count, tank_count}
 use Rattle.std.proofs.Common.{ℤ, arith, to_z, of_z, w64}
 use Rattle.std.proofs.lemmas.Int.{ints}
 use Rattle.hyd_spec_certificates.specs.Narrow.{IsNarrow}
-use Rattle.hyd_spec_reports.specs.Stops.{Stops}
-use Rattle.hyd_spec_reports.specs.declared.StopCause.{StopCause}
+use Rattle.hyd_spec_certificates.specs.Stops.{Stops}
+use Rattle.hyd_spec_certificates.specs.declared.StopCause.{StopCause}
 use Rattle.hyd_cert.specs.Lines.{Header}
 use Rattle.hyd_cert.specs.VectorsOfRecord.{behind_two}
 use Rattle.hyd_cert.specs.RecordView.{row_of}

@@ -1,8 +1,8 @@
 use Rattle.std.proofs.Common.{◌≡◌, ℕ, true, sym, ap, subst, ◌∙◌}
 use Rattle.std.specs.Prelude.{length}
 use Rattle.hyd_spec.specs.NodeNumbers.{junction_count, tank_count}
-use Rattle.hyd_spec_reports.specs.Stops.{Stops}
-use Rattle.hyd_spec_reports.specs.declared.StopCause.{StopCause}
+use Rattle.hyd_spec_certificates.specs.Stops.{Stops}
+use Rattle.hyd_spec_certificates.specs.declared.StopCause.{StopCause}
 use Rattle.hyd_cert.specs.Lines.{Header}
 use Rattle.hyd_cert.specs.VectorsOfRecord.{behind_two}
 use Rattle.hyd_cert.specs.RecordView.{row_of}

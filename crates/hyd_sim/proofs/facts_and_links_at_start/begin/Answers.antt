@@ -7,7 +7,7 @@ use Rattle.hyd_spec_certificates.specs.SpansAsIntervals.{levels_of}
 use Rattle.hyd_spec_certificates.specs.Decided.{acts_on}
 use Rattle.hyd_spec_certificates.specs.Valid.{ControlsAreDecided}
 use Rattle.hyd_spec_certificates.specs.declared.LevelSpan.{LevelSpan}
-use Rattle.hyd_spec_reports.specs.ChangesAtStart.{start_changes}
+use Rattle.hyd_spec_certificates.specs.ChangesAtStart.{start_changes}
 use Rattle.hyd_theorems_on_histories.specs.Agreement.{IsOwnState}
 use Rattle.hyd_theorems_on_histories.proofs.CommandedLinkStates.{started_own}
 use Rattle.hyd_tank.specs.StockIntervals.{volumes_of}

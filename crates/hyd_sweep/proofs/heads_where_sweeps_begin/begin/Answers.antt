@@ -6,7 +6,7 @@ use Rattle.std.proofs.lemmas.List.{get_or_default}
 use Rattle.std.proofs.lemmas.List.Edits.{map_over_more}
 use Rattle.hyd_spec.specs.Assignment.{head_at}
 use Rattle.hyd_spec_certificates.specs.StartsRaisesAndLeaps.{IsStart}
-use Rattle.hyd_spec_reports.specs.TurnsOfProblems.{beginning}
+use Rattle.hyd_spec_certificates.specs.TurnsOfProblems.{beginning}
 use Rattle.hyd_theorems_on_raises.proofs.SearchStarts.{start-end, beginning-is}
 use Rattle.hyd_sweep.proofs.OneHeadThroughout.{filled}
 use Rattle.hyd_sweep.proofs.heads_where_sweeps_begin.begin.Goals as goal

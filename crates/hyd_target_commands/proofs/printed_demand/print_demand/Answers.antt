@@ -2,7 +2,7 @@
 use Rattle.std.proofs.Common.{◌≡◌, subst}
 use Rattle.std.specs.Prelude.{OnOk, OnErr}
 use Rattle.hyd_io.specs.DeskBytes.{append_known, PutOut}
-use Rattle.hyd_spec_reports.specs.declared.StopCause.{StopCause}
+use Rattle.hyd_spec_certificates.specs.declared.StopCause.{StopCause}
 use Rattle.hyd_spec_reports.specs.ReportLine.{stop_line}
 use Rattle.std.proofs.lemmas.Result.{on_ok_weaker, on_err_weaker}
 use Rattle.hyd_target_commands.proofs.TextsPrinted.{whole-of-flush, front-of-flush, cause-of-flush, steady-by-flush}

@@ -1,4 +1,4 @@
-use Rattle.hyd_theorems_on_definitions.proofs.OneRun.{one_grid}
+use Rattle.hyd_theorems_on_definitions.proofs.OneGrid.{one_grid}
 use Rattle.hyd_theorems_on_definitions.proofs.determined.grids.Goals as goal
 
 pub returns : goal.returns

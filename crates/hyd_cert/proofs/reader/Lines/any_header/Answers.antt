@@ -2,7 +2,7 @@ use Rattle.std.proofs.Common.{◌≡◌, ◌≢◌, ◌++◌, sym, ap, ◌∙◌
 use Rattle.std.specs.Fmt.{decimal}
 use Rattle.hyd_cert.specs.Lines.{header_text, header_words, IsHeaderLine}
 use Rattle.hyd_cert.specs.PlacesWithFlows.{with_flows, IsFlowsHeaderLine}
-use Rattle.hyd_spec_reports.specs.CertificateText.{words}
+use Rattle.hyd_spec_certificates.specs.CertificateText.{words}
 use Rattle.hyd_io.specs.DeskBytes.{prepend_known}
 use Rattle.hyd_cert.specs.RecordView.{header_of}
 use Rattle.hyd_cert.proofs.LineLemmas.{header_is_line, other_lacks}

@@ -1,6 +1,6 @@
 use Rattle.std.proofs.Common.{◌+◌, length}
 use Rattle.hyd_spec_certificates.specs.declared.Side.TheVariants.{Upper, Lower}
-use Rattle.hyd_spec_reports.specs.TurnsOfProblems.{turn}
+use Rattle.hyd_spec_certificates.specs.TurnsOfProblems.{turn}
 use Rattle.hyd_cert.specs.RecordView.{row_of}
 use Rattle.hyd_period_network.specs.NetAsPeriodNetwork.{grid_of}
 use Rattle.hyd_period_vectors.specs.SoughtVectors.{Comes, EachBefore}

@@ -1,7 +1,7 @@
 use Rattle.std.proofs.Common.{◌≡◌, subst}
 use Rattle.std.specs.Prelude.{Err}
-use Rattle.hyd_spec_reports.specs.declared.CertRefused.{CertRefused}
-use Rattle.hyd_spec_reports.specs.RefusedRecords.{IsRefused}
+use Rattle.hyd_spec_certificates.specs.declared.CertRefused.{CertRefused}
+use Rattle.hyd_spec_certificates.specs.RefusedRecords.{IsRefused}
 use Rattle.hyd_cert.specs.RecordView.{row_of}
 use Rattle.hyd_sim.specs.RunView.{SimView, standing_of}
 use Rattle.hyd_sim.proofs.sim.Sim.accept.Goals as goal

@@ -1,0 +1,137 @@
+//! Why the words of the command line aren't a command.
+
+use crate::spoken_words::{Spoken, is_repeated, spoken_in, word_at, word_count};
+use crate::texts::{GENERAL, WrongWord};
+use crate::usages::{Usage, fits, takes_value, usage_of};
+use std::fmt::{self, Display, Formatter};
+
+/// Why words aren't a command, and where help is. Where nothing certain is found, the sentence is a general one.
+#[derive(Clone, Copy)]
+pub struct WrongWords<'a> {
+    /// The words behind the program's name.
+    pub words: &'a [String],
+}
+
+// Whether a word is one of some.
+fn is_among(word: &str, words: &[&str]) -> bool {
+    for one in words {
+        if *one == word {
+            return true;
+        }
+    }
+    false
+}
+
+// What is wrong with an option.
+fn option_fault<'a>(usage: Usage, name: &'a str, value: Option<&'a str>) -> Option<WrongWord<'a>> {
+    if !is_among(name, usage.options) {
+        return Some(WrongWord::NoOption(name, usage));
+    }
+    match value {
+        Some(value) if !takes_value(name) => Some(WrongWord::NoValueThere(name, value)),
+        Some(value) if !fits(name, value) => Some(WrongWord::Value(name, value)),
+        None if takes_value(name) => Some(WrongWord::ValueLacks(name)),
+        _ => None,
+    }
+}
+
+// The first option with which something is wrong.
+fn first_option_fault<'a>(usage: Usage, words: &'a [String]) -> Option<WrongWord<'a>> {
+    for one in spoken_in(words) {
+        if let Spoken::Option(name, value) = one {
+            if let Some(fault) = option_fault(usage, name, value) {
+                return Some(fault);
+            }
+        }
+    }
+    None
+}
+
+// An option that stands twice.
+fn repeated_option<'a>(usage: Usage, words: &[String]) -> Option<WrongWord<'a>> {
+    for option in usage.options {
+        if is_repeated(words, option) {
+            return Some(WrongWord::Twice(option));
+        }
+    }
+    None
+}
+
+// The first word that can't stand for what is asked for there.
+fn place_fault<'a>(usage: Usage, words: &'a [String]) -> Option<WrongWord<'a>> {
+    for (place, asked) in usage.words.iter().enumerate() {
+        let word = word_at(words, place)?;
+        if !fits(asked, word) {
+            return Some(WrongWord::Value(asked, word));
+        }
+    }
+    None
+}
+
+// Too many words, or too few.
+fn count_fault<'a>(usage: Usage, words: &'a [String]) -> Option<WrongWord<'a>> {
+    if let Some(word) = word_at(words, usage.words.len()) {
+        return Some(WrongWord::TooMany(word, usage));
+    }
+    let count = word_count(words);
+    if count < usage.words.len() {
+        return Some(WrongWord::TooFew(count, usage));
+    }
+    None
+}
+
+// One name for two files.
+fn name_fault<'a>(usage: Usage, words: &'a [String]) -> Option<WrongWord<'a>> {
+    let last = usage.words.len().checked_sub(1)?;
+    let name = word_at(words, last)?;
+    if is_among("CERT", usage.words) && word_at(words, last.checked_sub(1)?)? == name {
+        return Some(WrongWord::OneFile(name));
+    }
+    None
+}
+
+// What is wrong with the number of words, or with the names among them.
+fn late_fault<'a>(usage: Usage, words: &'a [String]) -> Option<WrongWord<'a>> {
+    match count_fault(usage, words) {
+        Some(fault) => Some(fault),
+        None => name_fault(usage, words),
+    }
+}
+
+// What is wrong with the words behind a command's name.
+fn fault_behind<'a>(usage: Usage, words: &'a [String]) -> Option<WrongWord<'a>> {
+    if let Some(fault) = first_option_fault(usage, words) {
+        return Some(fault);
+    }
+    if let Some(fault) = repeated_option(usage, words) {
+        return Some(fault);
+    }
+    match place_fault(usage, words) {
+        Some(fault) => Some(fault),
+        None => late_fault(usage, words),
+    }
+}
+
+// What is said of a first word that is no command's name; `help` with more than one word is told in general.
+fn write_no_command<W: fmt::Write>(name: &str, f: &mut Formatter<W>) -> fmt::Result {
+    if is_among(name, &["help", "--help", "-h"]) {
+        return f.write_str(GENERAL);
+    }
+    write!(f, "{}", WrongWord::NoCommand(name))
+}
+
+impl Display for WrongWords<'_> {
+    fn fmt<W: fmt::Write>(&self, f: &mut Formatter<W>) -> fmt::Result {
+        let Some((first, behind)) = self.words.split_first() else {
+            return f.write_str(GENERAL);
+        };
+        let name = first.as_str();
+        let Some(usage) = usage_of(name) else {
+            return write_no_command(name, f);
+        };
+        match fault_behind(usage, behind) {
+            Some(fault) => write!(f, "{fault}. hyd help {name} explains its words"),
+            None => f.write_str(GENERAL),
+        }
+    }
+}

@@ -1,0 +1,5 @@
+pub mod OneCapacityOfNumbers
+pub mod LossesInTicks
+pub mod CapacitiesEncloseLosses
+pub mod PipeLaws
+pub mod MinorLosses

@@ -1,0 +1,16 @@
+pub mod CutNumbers
+pub mod CutPowers
+pub mod GreatestAndLeast
+pub mod WholeNumbers
+pub mod FlowTests
+pub mod OrderOfCutNumbers
+pub mod Margins
+pub mod PowersOfWholeNumbers
+pub mod ExactFromTests
+pub mod LossesAtScale
+pub mod HeldQuotients
+pub mod TwoParts
+pub mod FoundFlows
+pub mod FlowsEnclose
+pub mod SignedFlows
+pub mod ProductsByShifts

@@ -1,0 +1,3 @@
+pub mod FlowsWithin
+pub mod Brackets
+pub mod LawsOfPowers

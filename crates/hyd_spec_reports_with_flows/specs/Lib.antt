@@ -1,0 +1,2 @@
+pub mod FlowLines
+pub mod PromisesWithFlows

@@ -1,0 +1,13 @@
+pub mod Tests
+pub mod ContentsInShares
+pub mod NextContents
+pub mod LineAtPlace
+pub mod VolumeCurves
+pub mod CurveVolumes
+pub mod TargetVolumes
+pub mod TargetsMet
+pub mod NearLevels
+pub mod LevelsAtVolumes
+pub mod NextStocks
+pub mod ExactLevels
+pub mod FullEmptyOrBetween

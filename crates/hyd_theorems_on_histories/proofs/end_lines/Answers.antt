@@ -1,5 +1,0 @@
-use Rattle.hyd_theorems_on_histories.proofs.ReportLinesHold.{end_lines_hold}
-use Rattle.hyd_theorems_on_histories.proofs.end_lines.Goals as goal
-
-pub returns : goal.returns
-returns c = end_lines_hold

@@ -1,5 +1,0 @@
-use Rattle.hyd_theorems_on_histories.proofs.HistoriesAlongRuns.{every_history}
-use Rattle.hyd_theorems_on_histories.proofs.induction.Goals as goal
-
-pub returns : goal.returns
-returns c = every_history

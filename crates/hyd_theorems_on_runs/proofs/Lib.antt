@@ -1,0 +1,9 @@
+pub mod OnePeriodMore
+pub mod OneReport
+pub mod OneRun
+pub mod RunRecords
+pub mod ReportTimeLinesHold
+pub mod ReportLinesHold
+pub mod HistoriesAlongRuns
+pub mod ReportsExist
+pub mod RunsGoOnOrStop

@@ -1,0 +1,10 @@
+pub mod WritingLemmas
+pub mod Numerals
+pub mod WitnessLines
+pub mod FirstFaultLemmas
+pub mod Blocks
+pub mod ListsOfValues
+pub mod RestOfWitness
+pub mod ListsRead
+pub mod ReaderLemmas
+pub mod OneBeginning
