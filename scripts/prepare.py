@@ -665,7 +665,7 @@ def main():
     for place, what in sorted(work.advice, key=lambda item: item[0]):
         print(f"{args.file}:{place}: NOT CHANGED: {what}", file=sys.stderr)
     changes, rest = len(said) + len(work.changes), len(work.advice)
-    print(f"prepare: {changes} changes; {rest} things that hyd refuses or reads otherwise are left", file=sys.stderr)
+    print(f"prepare: {changes} changes; {rest} things are left that this script knows and does not change; hyd may refuse others", file=sys.stderr)
     return 1 if rest else 0
 
 
