@@ -5,9 +5,11 @@
 
 OTHER is the folder of an independent program in Python: its module `fuzz` makes texts and changes certificates, its module
 `cli` answers. Each of RUNS random networks (2,000 where it isn't given), over some hours or of a single instant, is run with
-`--tight`, 100,000 rounds and `--flows` with one to sixteen of its links between junctions; now and then one of the names is no link, a link at
+`--tight`, 100,000 rounds or fewer and `--flows` with one to sixteen of its links between junctions; now and then one of the names is no link, a link at
 a reservoir or tank, a repeated one or one of a form that no file has. Status, printed bytes and certificate must be the same,
-but where rounds were spent in one of the two. Each certificate with flows is then checked by both, and up to CHECKS changed ones (2,000): heads of the
+but where rounds were spent in one of the two. The vectors of a link may differ where so many plain rounds lead to none: that is
+tried by making them. Then this repository's must be vectors with that node held, as the other program checks them, nowhere but at it farther
+out than the record's, and its FLOW lines those of its vectors; all else must be the same. Each certificate with flows is then checked by both, and up to CHECKS changed ones (2,000): heads of the
 vectors moved, numbers of links changed, repeated or put out of range, parts left out, doubled or put elsewhere, and what
 `fuzz` changes in any certificate. It says how many runs and checks came to each last line.
 
@@ -33,6 +35,7 @@ from differences import printed_by
 MOST_PERIODS = 12
 OTHER_SECONDS = 20
 SPENT = b' ROUNDS '
+SWEEPS = ['100000', '100000', '200', '20', '3']
 ODD_NAMES = ['nobody', 'a;b', '\u00e9', 'x' * 31]
 WRONG_NAMES = ['', 'x' * 32]
 
@@ -138,8 +141,49 @@ def expected(cli, files, words):
     return status, printed, files.get('n.cert')
 
 
+def records_of(cli, text, cert):
+    """The periods of a certificate with flows, as the other program accepts them, each with its part; none where it refuses it."""
+    records = []
+    tool = cli.Tool({'n.inp': text}, 'f')
+    status, _ = tool.accept_all(tool.project('n.inp'), cert, lambda period, part: records.append((period, part)))
+    return records if status == 0 else []
+
+
+def is_free_vector(period, link, side, rounds, vector):
+    """Whether so many plain rounds lead to no vector of a side, and this one lies no farther out than the record's."""
+    import laws
+    import solve
+    start = laws.LOWER if side == laws.UPPER else laws.UPPER
+    held = period.net.project.links[link].a
+    own, up = period.vectors[laws.MAIN, side], 1 if side == laws.UPPER else -1
+    if any(up * (mine - most) > 0 for i, (mine, most) in enumerate(zip(vector, own)) if i != held):
+        return False
+    sweep = solve.plain_rounds(solve.Side(period.net, laws.MAIN, side), period.vectors[laws.MAIN, start], rounds, held)
+    return sweep.outcome == solve.ROUNDS_SPENT
+
+
+def differ_freely(cli, files, words, want, got):
+    """Whether two runs differ only in vectors of links where the rounds are spent, and these are what they may be."""
+    certs = [it[2] or b'' for it in (want, got)]
+    if words[0] != 'run' or want[0] != got[0] or not all(cert.startswith(b'HYDCERT 3') for cert in certs):
+        return False
+    theirs, ours = (records_of(cli, files['n.inp'], cert) for cert in certs)
+    checked = expected(cli, {'n.inp': files['n.inp'], 'n.cert': certs[1]}, ['check', 'n.inp', 'n.cert'])
+    if not ours or len(ours) != len(theirs) or checked[1].splitlines()[:-1] != got[1].splitlines()[:-1]:
+        return False
+    rounds = int(words[words.index('--sweeps') + 1])
+    for (period, named), (other, expect) in zip(ours, theirs):
+        if period.vectors != other.vectors or [link for link, _ in named] != [link for link, _ in expect]:
+            return False
+        for (link, vectors), (_, nearest) in zip(named, expect):
+            for side in vectors:
+                if vectors[side] != nearest[side] and not is_free_vector(period, link, side, rounds, vectors[side]):
+                    return False
+    return want[1].splitlines()[-1] == got[1].splitlines()[-1]
+
+
 def compared(job):
-    """A seed's run and checks: for each its words, its files, and both answers."""
+    """A seed's run and checks: for each its words, its files, both answers, and whether they differ where they may."""
     program, other, changes, seed = job
     if other not in sys.path:
         sys.path.insert(0, other)
@@ -153,14 +197,14 @@ def compared(job):
         text = network(fuzz, rng)
         while not links_of(cli, text)[0]:
             text = network(fuzz, rng)
-        words = ['run', 'n.inp', 'n.cert', '--tight', '--sweeps', '100000', '--flows', names_for(rng, *links_of(cli, text))]
+        words = ['run', 'n.inp', 'n.cert', '--tight', '--sweeps', rng.choice(SWEEPS), '--flows', names_for(rng, *links_of(cli, text))]
         files = {'n.inp': text}
-        want = expected(cli, files, words)
-        out.append((words, files, want, ended(program, files, words)))
+        want, got = expected(cli, files, words), ended(program, files, words)
+        out.append((words, files, want, got, want != got and differ_freely(cli, files, words, want, got)))
         if want[2] and want[2].startswith(b'HYDCERT 3'):
             for cert in [want[2]] + [changed(fuzz, rng, want[2]) for _ in range(changes)]:
                 files, words = {'n.inp': text, 'n.cert': cert}, ['check', 'n.inp', 'n.cert']
-                out.append((words, files, expected(cli, files, words), ended(program, files, words)))
+                out.append((words, files, expected(cli, files, words), ended(program, files, words), False))
     except (TimeoutError, cli.TooManyPeriods):
         pass
     finally:
@@ -194,9 +238,13 @@ def main():
         jobs = [(str(program), given[0], each, 'flows/%d/%d' % (first, k)) for k in range(runs)]
         with multiprocessing.Pool(int(os.environ.get('JOBS', '2'))) as pool:
             for seed, out in pool.imap_unordered(compared, jobs, 4):
-                for number, (words, files, want, got) in enumerate(out):
-                    if want == got or is_usage(want, got) or is_spent(words, want, got):
-                        how = 'rounds spent' if is_spent(words, want, got) and want != got else 'same'
+                for number, (words, files, want, got, free) in enumerate(out):
+                    if want == got or is_usage(want, got):
+                        how = 'same'
+                    elif is_spent(words, want, got):
+                        how = 'rounds spent'
+                    elif free:
+                        how = 'other vectors where rounds are spent'
                     else:
                         how, wrong = 'DIFFERENT', wrong + 1
                         tell(seed, files['n.inp'], files.get('n.cert', b''), want, got)

@@ -43,7 +43,7 @@ SECOND = {"SPECIFIC": {"GRAV": "GRAVITY"}, "EMITTER": {"EXP": "EXPONENT"}, "MINI
 IDLE_OPTIONS = ("SEGM", "VERI", "HTOL", "QTOL", "RQTOL")
 TIMES = {"DURA": "DURATION", "HYDR": "HYDRAULIC", "QUAL": "QUALITY", "RULE": "RULE", "PATT": "PATTERN",
          "REPO": "REPORT", "STAR": "START", "STAT": "STATISTIC"}
-TIME_UNITS = {"SEC": "SECONDS", "MIN": "MINUTES", "HOU": "HOURS", "DAY": "DAYS"}
+TIME_UNITS = {"SEC": "SECONDS", "MIN": "MINUTES", "HOU": "HOURS", "HR": "HOURS", "DAY": "DAYS"}
 KNOWN_UNITS = "SEC SECONDS MIN MINUTES HOUR HOURS DAY DAYS".split()
 RULE_WORDS = {"RULE": "RULE", "IF": "IF", "AND": "AND", "OR": "OR", "THEN": "THEN", "ELSE": "ELSE", "PRIO": "PRIORITY"}
 OBJECTS = {"JUNC": "JUNCTION", "RESERV": "RESERVOIR", "TANK": "TANK", "PIPE": "PIPE", "PUMP": "PUMP",
@@ -370,14 +370,18 @@ class Preparing:
         if fit is None:
             return self.advise(line, said + ", and EPANET has no fit through them either")
         h0, b, n = fit
-        said += f". EPANET's fit is h = {h0:.9g} - {b:.9g} q^{n:.9g}. A curve by straight lines with a fourth point on "
-        said += "it"
+        said += f". EPANET's fit is h = {h0:.9g} - {b:.9g} q^{n:.9g}. Straight lines with a fourth point on it"
         if points[2][1] > 0:
-            said += f", where the head is 0, is near: a line '{name} {(h0 / b) ** (1 / n):.4f} 0' behind the others"
+            q = (h0 / b) ** (1 / n)
+            fourth = (q, 0.0)
+            where = f", where the head is 0, stand for it: a line '{name} {q:.4f} 0' behind the others"
         else:
             q = float(points[1][0] + points[2][0]) / 2
-            said += f" is near: a line '{name} {q:.4f} {h0 - b * q ** n:.4f}' before the last one"
-        said += "; more points on the fit come nearer"
+            fourth = (q, h0 - b * q ** n)
+            where = f" stand for it: a line '{name} {q:.4f} {fourth[1]:.4f}' before the last one"
+        far, at = farthest(sorted([(float(q), float(h)) for q, h in points] + [fourth]), fit)
+        said += f"{where}. They run from the fit by {far:.4g} of head at most, {100 * far / h0:.1f} % of that at "
+        said += f"flow 0, at flow {at:.4g}; more points on the fit come nearer"
         self.advise(line, said)
 
     # options and times
@@ -438,7 +442,9 @@ class Preparing:
         seconds = {"START": {"CLOCK": "CLOCKTIME"}, "PATTERN": {"TIME": "TIMESTEP", "STAR": "START"},
                    "REPORT": {"TIME": "TIMESTEP", "STAR": "START"}}.get(key, {"TIME": "TIMESTEP"})
         if line.upper(1)[:1].isalpha():
-            self.whole(line, 1, seconds)
+            if self.whole(line, 1, seconds) is None and key not in ("PATTERN", "REPORT"):
+                # (EPANET doesn't look at the second word of these)
+                self.replace(line, 1, next(iter(seconds.values())), "keyword")
         elif line.word(1) and key not in ("PATTERN", "REPORT"):
             word = next(iter(seconds.values()))
             line.put(0, f"{line.word(0)} {word}")
@@ -455,7 +461,8 @@ class Preparing:
                 self.changed(line, f"time: {word} {unit.lower()} is written {word}")
             return
         if unit and unit not in KNOWN_UNITS:
-            self.whole(line, k + 1, TIME_UNITS, "unit of time")
+            other = ", which EPANET doesn't take either" if unit.startswith("HR") else ""
+            self.whole(line, k + 1, TIME_UNITS, "unit of time" + other)
         seconds = seconds_of(word, line.upper(k + 1))
         if rounds and seconds is not None and seconds != int(seconds) and seconds - int(seconds) >= Decimal("0.5"):
             self.advise(line, f"{word} {unit.lower()} is {plain(seconds)} seconds: EPANET rounds, hyd cuts to "
@@ -604,6 +611,16 @@ def epanet_fit(points):
     return (h0, (h0 - h1) / q1 ** n, n) if 0 < n <= 20 else None
 
 
+def farthest(points, fit):
+    """How far straight lines through points run from a fit, in head, and at which flow."""
+    (h0, b, n), found = fit, (0.0, 0.0)
+    for (q0, y0), (q1, y1) in zip(points, points[1:]):
+        for k in range(1, 200):
+            q = q0 + (q1 - q0) * k / 200
+            found = max(found, (abs(y0 + (y1 - y0) * k / 200 - (h0 - b * q ** n)), q))
+    return found
+
+
 def seconds_of(word, unit):
     """The seconds of a time without a colon, or None."""
     value = number(word)
@@ -611,9 +628,22 @@ def seconds_of(word, unit):
     return None if value is None or each is None else value * each
 
 
+def two_byte_code(data):
+    """The code of a text of two bytes for each letter, by its first bytes; None of any other."""
+    if data[:2] in (b"\xff\xfe", b"\xfe\xff"):
+        return "utf-16"
+    if len(data) > 1 and 0 in data[:2] and any(data[:2]):
+        return "utf-16-le" if data[1] == 0 else "utf-16-be"
+    return None
+
+
 def read_lines(data):
     """The lines of a text, each with its section; and what was changed of the text as a whole."""
     said = []
+    two_bytes = two_byte_code(data)
+    if two_bytes:
+        data = data.decode(two_bytes, "replace").lstrip("\ufeff").encode("utf-8")
+        said.append((1, "two bytes for each letter (UTF-16): one for each (UTF-8)"))
     if data.startswith(b"\xef\xbb\xbf"):
         data = data[3:]
         said.append((1, "a byte order mark: left out"))
@@ -656,7 +686,8 @@ def main():
         work = Preparing(lines)
         work.run()
         with open(args.new, "wb") as file:
-            file.write(text_of(lines, "\r\n" if b"\r\n" in data else "\n"))
+            returns = b"\r\n" in data or b"\r\0\n" in data
+            file.write(text_of(lines, "\r\n" if returns else "\n"))
     except OSError as fault:
         print(f"prepare: {fault}", file=sys.stderr)
         return 2

@@ -142,6 +142,29 @@ SAID = [
     ("hour 0 with AM", 3, 0, lambda: added("TIMES", "START CLOCKTIME 0:00 am"), "scripts/prepare.py"),
     ("a pump's curve of three points", 6, 4, lambda: replaced("C 1000 30", "C 0 40\nC 1000 30\nC 2000 25"),
      "scripts/prepare.py"),
+    ("a C of Hazen-Williams with HEADLOSS C-M", 3, 0, lambda: added("PIPES", "Q R J 1000 300 110"),
+     "write HEADLOSS H-W"),
+    ("an elevation in feet without UNITS", 3, 0, lambda: replaced("UNITS CMD", "").replace("J 0 1000", "J 40000 1"),
+     "no UNITS line"),
+    ("hour 13 with PM", 3, 0, lambda: added("TIMES", "START CLOCKTIME 13:00 PM"), "behind hour 12"),
+    ("two words for UNITS", 1, 0, lambda: added("OPTIONS", "Flow Units LPS"), "write UNITS LPS"),
+    ("a heading but for a letter", 1, 0, lambda: BASE + "[JUNTIONS]\n", "did you mean [JUNCTIONS]?"),
+    ("semicolons between words", 1, 0, lambda: added("JUNCTIONS", "J4;14;10"), "; begins a comment"),
+    ("a name in quotes", 5, 0, lambda: added("PIPES", 'Q R "J" 1000 300 0.012'), "write J"),
+    ("a letter that may stand in a skipped section", 1, 0, lambda: added("JUNCTIONS", "\u00c4 0 5"),
+     "that are skipped"),
+    ("an empty file", 6, 1, lambda: "", "the file is empty"),
+    ("a file in UTF-16", 1, 0, lambda: "[\0J\0]\0", "UTF-16"),
+    ("a certificate for the network", 1, 0, lambda: "HYDCERT 1 1 0\n", "NET stands before CERT"),
+    ("a report for the network", 1, 0, lambda: "HYD 1\n", "this is a report"),
+    ("another word before a time step", 1, 0, lambda: added("TIMES", "Hydraulic Step 1:00"), "scripts/prepare.py"),
+]
+
+# Runs, their status, what their last line has, and what is said.
+RUNS = [
+    ("pressures below 0", lambda: replaced("J 0 1000", "J 200 1"), 0, "DONE", "pressures may be below 0"),
+    ("a dead end behind a check valve", lambda: added("PIPES", "Q J K 1000 300 0.012 0 CV") + "[JUNCTIONS]\nK 0\n", 6,
+     "NOCERT", "mends it"),
 ]
 
 STOPS = [
@@ -149,8 +172,8 @@ STOPS = [
     ("TANK", "stops/a-tank-whose-state-is-open.inp", ["--tight"], 6),
     ("RULE", "stops/a-rule-that-is-open.inp", ["--tight"], 6),
     ("CONTROL", "stops/a-control-that-is-open.inp", ["--tight"], 6),
-    ("EVENT", "stops/a-tank-that-is-full-after-one-second-or-the-next.inp", ["--tight"], 6),
-    ("ROUNDS", "valves/two-junctions-without-a-source.inp", ["--tight"], 7),
+    ("EVENT", "stops/a-tank-that-is-full-after-one-second-or-the-next.inp", ["--tight"], 6, "and its maximum"),
+    ("ROUNDS", "valves/two-junctions-without-a-source.inp", ["--tight"], 7, "joined to each other alone"),
     ("DEMAND", "stops/a-demand-that-is-out-of-range-later.inp", ["--tight"], 8),
 ]
 
@@ -160,12 +183,15 @@ WORDS = [
     (["help", "walk"], "there is no command walk"), (["walk"], "walk is no command"),
     (["run", "n.inp", "n.cert", "--widht", "1"], "--widht is no option of hyd run"),
     (["run", "n.inp", "n.cert", "--width", "20,5"], "20,5 can't stand for --width"),
+    (["run", "n.inp", "n.cert", "--width", "-1"], "-1 can't stand for --width"),
+    (["run", "n.inp", "n.cert", "--flows", "P1,", "P2"], "without spaces"),
     (["run", "n.inp"], "missing: CERT"), (["fire", "n.inp", "J"], "missing: P"),
     (["fire", "n.inp", "J", "-5"], "-5 is read as an option"),
 ]
 
 CERTIFICATES = [
     ("GRAMMAR", "valves/no-demand.inp", "checks/no-end-line.cert", "seems to be cut off"),
+    ("GRAMMAR", "valves/no-demand.inp", "tanks/a-tank-that-fills.inp", "a network, where CERT should stand"),
     ("COUNT", "valves/no-demand.inp", "checks/the-header-of-two-junctions.cert"),
     ("END", "valves/no-demand.inp", "checks/an-end-line-of-two-records.cert"),
     ("PLACE", "valves/no-demand.inp", "checks/another-number.cert"),
@@ -200,6 +226,14 @@ def main():
         for title, cause, detail, text, *has in REFUSALS + SAID:
             pathlib.Path(net).write_text(text(), encoding="utf-8")
             good.append(shown(title, ran(program, ["run", net, cert]), 5, f"cause {cause} detail {detail}", *has))
+        for title, text, status, word, has in RUNS:
+            pathlib.Path(net).write_text(text(), encoding="utf-8")
+            good.append(shown(title, ran(program, ["run", net, cert]), status, word, has))
+        other = pathlib.Path(folder) / "other.txt"
+        other.write_text("something else\n", encoding="ascii")
+        pathlib.Path(net).write_text(BASE, encoding="ascii")
+        good.append(shown("a file that isn't overwritten", ran(program, ["run", net, str(other)]), 4, "",
+                          "give another name"))
         for word, path, words, status, *has in STOPS:
             good.append(shown(word, ran(program, ["run", str(STORED / path), cert, *words]), status, word, *has))
         for word, path, certificate, *has in CERTIFICATES:

@@ -55,6 +55,10 @@ REWRITTEN = [
     ("[TIMES]\nTOTAL DURATION 2", "DURATION 2"),
     ("[TIMES]\nPATT TIME 0:90", "PATTERN TIMESTEP 1:30:00"),
     ("[TIMES]\nHYDRAULIC 1:00", "HYDRAULIC TIMESTEP 1:00"),
+    ("[TIMES]\nHydraulic Step 1:00", "Hydraulic TIMESTEP 1:00"),
+    ("[TIMES]\nRULE STEP 0:05", "RULE TIMESTEP 0:05"),
+    ("[TIMES]\nSTART TIME 0:00", "START CLOCKTIME 0:00"),
+    ("[TIMES]\nDURATION 24 hrs", "DURATION 24 HOURS"),
     ("[TIMES]\nREPORT TIMESTEP 30 mins", "REPORT TIMESTEP 30 MINUTES"),
     ("[TIMES]\nMINIMUM TRAVELTIME 1", ";MINIMUM TRAVELTIME 1"),
     ("[OPTIONS]\nPattern", ";Pattern"),
@@ -100,6 +104,7 @@ LEFT = [
     ("[PUMPS]\nX R J POWER 20", "constant power"),
     ("[PUMPS]\nX R J 20", "constant power"),
     ("[PUMPS]\nX R J HEAD E\n[CURVES]\nE 0 104\nE 2000 92\nE 4000 63", "EPANET's fit is h = 104"),
+    ("[PUMPS]\nX R J HEAD E\n[CURVES]\nE 0 104\nE 2000 92\nE 4000 63", "% of that at flow 0"),
     ("[CONTROLS]\nLINK U CLOSED IF NODE J ABOVE 40", "IF JUNCTION J PRESSURE"),
     ("[RULES]\nRULE 1\nIF JUNCTION J DEMAND > 4\nTHEN PUMP U STATUS IS OPEN", "don't look at DEMAND"),
     ("[RULES]\nRULE 1\nIF TANK T LEVEL = 4\nTHEN PUMP U STATUS IS OPEN", "compares by"),
@@ -160,6 +165,12 @@ def try_rows(trial):
                     rows + "\n" + done.stderr)
     done = trial.script("prepare.py", file, "-o", file)
     trial.holds("the file that is read isn't written", done.returncode == 2)
+    for code in ("utf-16", "utf-16-le", "utf-16-be"):
+        file.write_bytes((BASE + "[TITLE]\nWasserwerk S\u00fcd\n").replace("\n", "\r\n").encode(code))
+        trial.holds("refused as it stands:", trial.refused(file), code)
+        done = trial.script("prepare.py", file, "-o", new)
+        trial.holds("rewritten from two bytes for each letter:", done.returncode == 0, code + "\n" + done.stderr)
+        trial.holds("read then:", not trial.refused(new), code)
 
 
 def try_forms(trial):

@@ -2,14 +2,14 @@
 #![tactic(auto)]
 
 /// A ratio of misses to weights at which there is nothing left to do.
-const SMALL: f64 = 0.125;
+const SMALL: f64 = 1.0;
 
 /// A ratio below which standing still is taken for what whole ticks allow. Above it the ratio rises in the first steps,
 /// and stands still for a dozen of them in hard networks.
 const NEAR: f64 = 64.0;
 
 /// How many steps may pass without the ratio being halved.
-const PATIENCE: u32 = 3;
+const PATIENCE: u32 = 1;
 
 /// How near the heads came so far.
 #[derive(Clone, Copy, Drop)]
@@ -36,6 +36,11 @@ impl Progress {
         }
         self.best = ratio;
         true
+    }
+
+    /// Counts from the least ratio so far.
+    pub(crate) fn go_on(&mut self) {
+        self.mark = self.best;
     }
 
     /// Whether further steps would gain nothing.

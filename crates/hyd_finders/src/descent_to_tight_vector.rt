@@ -4,15 +4,15 @@
 ghost use Rattle.std.specs.Prelude.{◌≡◌, length};
 
 use crate::flows::is_flat;
-use crate::line_search::HEAD_TICK_PART;
-use crate::number_lists::{copy, number_at};
-use crate::raises::{further, mend, over, put_over};
+use crate::mending::Mender;
+use crate::number_lists::{copy, number_at, real_at};
+use crate::raises::{further, over, put_near_over};
 use crate::tightness_test::Turns;
 use hyd_period_network::Net;
 use hyd_spec_certificates::Side;
 use hyd_vector_check::is_in_box;
 use std::alloc::{AllocError as OutOfMemory, Global};
-use std::num::{nearest_i64_to_f64, saturating_f64_to_i64};
+use std::num::saturating_f64_to_i64;
 
 /// How often the way of a set is doubled, and then halved.
 const DOUBLINGS: u32 = 60;
@@ -93,12 +93,11 @@ fn put_nearer(net: &Net, side: Side, heads: &[i64], trial: &mut [i64], ticks: i6
 }
 
 // Puts each junction so far nearer as a step times a scale says.
-fn put_step(net: &Net, side: Side, heads: &[i64], step: &[i64], scale: f64, trial: &mut [i64])
+fn put_step(net: &Net, side: Side, heads: &[i64], step: &[f64], scale: f64, trial: &mut [i64])
     ensures { length trial.new ≡ length trial.old }
 {
     for junction in 0..net.junctions() {
-        let way = nearest_i64_to_f64(number_at(step, junction).max(0));
-        let ticks = saturating_f64_to_i64(way * scale);
+        let ticks = saturating_f64_to_i64(real_at(step, junction) * scale).max(0);
         if let Some(entry) = trial.get_mut(junction as usize) {
             *entry = further(side, number_at(heads, junction), ticks.saturating_neg());
         }
@@ -178,10 +177,10 @@ impl Descent {
     }
 
     /// Puts by how much each junction passes.
-    pub(crate) fn put_over(&self, net: &Net, side: Side, amounts: &mut [i64])
+    pub(crate) fn put_over(&self, net: &Net, side: Side, amounts: &mut [f64])
         ensures { length amounts.new ≡ length amounts.old }
     {
-        put_over(net, side, &self.heads, amounts);
+        put_near_over(net, side, &self.heads, amounts);
     }
 
     /// Copies the order of the turns.
@@ -191,13 +190,19 @@ impl Descent {
         self.turns.copy_order(into);
     }
 
-    /// Goes along a step, in parts of a tick, to where a few raises lead to a certificate again: as far as it says, or
+    // Whether a few raises lead from the trial to a certificate.
+    fn is_mended(&mut self, net: &Net, side: Side, mender: &mut Mender) -> bool {
+        mender.note_short(net, side, &self.trial)
+            && matches!(mender.mend(net, side, &mut self.trial), Ok(true))
+    }
+
+    /// Goes along a step to where a few raises lead to a certificate again: as far as it says, or
     /// else a quarter of that, or of this.
-    pub(crate) fn go(&mut self, net: &Net, side: Side, step: &[i64]) {
-        let mut scale = HEAD_TICK_PART;
+    pub(crate) fn go(&mut self, net: &Net, side: Side, step: &[f64], mender: &mut Mender) {
+        let mut scale = 1.0;
         for _ in 0..QUARTERS {
             put_step(net, side, &self.heads, step, scale, &mut self.trial);
-            if let Ok(true) = mend(net, side, &mut self.trial) {
+            if self.is_mended(net, side, mender) {
                 copy(&self.trial, &mut self.heads);
                 return;
             }

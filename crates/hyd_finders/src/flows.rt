@@ -4,11 +4,13 @@
 ghost use Rattle.std.specs.Prelude.{◌≡◌, ◌<◌, ◌≤◌, ◌*◌, length, unsigned_abs};
 ghost use Rattle.hyd_spec_certificates.specs.Certificate.{box_limit};
 
-use crate::number_lists::{add_at, number_at};
+use crate::flow_curves::{Curve, curve_at, flow};
+use crate::number_lists::{add_real_at, number_at, real_at};
 use hyd_law::{Law, OutLaw};
 use hyd_period_network::{Ends, Net, Tie};
 use hyd_spec_certificates::{BOX_LIMIT, Side};
 use hyd_vector_check::{is_in_box, outflow};
+use std::num::nearest_i64_to_f64;
 
 /// The greatest head difference at which a law is asked: that of the ends of the box, in head ticks.
 const WIDEST: i64 = 2 * BOX_LIMIT;
@@ -48,8 +50,8 @@ fn high_flow(net: &Net, link: u32, difference: i64) -> i64
     narrowed(law.high(near))
 }
 
-// The flow of a link at a head difference, as the middle of its bounds.
-fn middle_flow(net: &Net, link: u32, difference: i64) -> i64
+/// The flow of a link at a head difference, as the middle of its bounds.
+pub(crate) fn middle_flow(net: &Net, link: u32, difference: i64) -> i64
     requires { link < length net.now.ends }
 {
     let _links = net.links();
@@ -117,35 +119,55 @@ pub(crate) fn difference(heads: &[i64], ends: Ends) -> i64 {
     number_at(heads, ends.from).saturating_sub(number_at(heads, ends.to))
 }
 
-// Puts the load of each junction less what leaves it beside its links.
-fn put_outflows(net: &Net, heads: &[i64], loads: &[i64], misses: &mut [i64])
+// What leaves a junction at a head beside its links, near the middle of its bounds.
+fn near_outflow(net: &Net, junction: u32, head: i64) -> f64 {
+    if junction >= net.junctions() {
+        return 0.0;
+    }
+    if net.emitter_law(junction).is_none() {
+        if let OutLaw::Fixed(law) = net.demand_law(junction) {
+            return nearest_i64_to_f64(law.demand);
+        }
+    }
+    nearest_i64_to_f64(middle_outflow(net, junction, head))
+}
+
+/// Puts the load of each junction less what leaves it beside its links.
+pub(crate) fn put_outflows(net: &Net, heads: &[i64], loads: &[f64], misses: &mut [f64])
     ensures { length misses.new ≡ length misses.old }
 {
     for junction in 0..net.junctions() {
         if let Some(miss) = misses.get_mut(junction as usize) {
-            let leaves = middle_outflow(net, junction, number_at(heads, junction));
-            *miss = number_at(loads, junction).saturating_sub(leaves);
+            let leaves = near_outflow(net, junction, number_at(heads, junction));
+            *miss = real_at(loads, junction) - leaves;
         }
     }
 }
 
 // Adds what links bring to their ends.
-fn add_flows(net: &Net, heads: &[i64], misses: &mut [i64])
+fn add_flows(net: &Net, curves: &[Curve], heads: &[i64], misses: &mut [f64])
     ensures { length misses.new ≡ length misses.old }
 {
     for link in 0..net.links() {
         let ends = net.ends(link);
-        let flow = middle_flow(net, link, difference(heads, ends));
-        add_at(misses, ends.from, flow.saturating_neg());
-        add_at(misses, ends.to, flow);
+        let curve = curve_at(curves, link);
+        let flow = flow(net, link, &curve, difference(heads, ends));
+        add_real_at(misses, ends.from, -flow);
+        add_real_at(misses, ends.to, flow);
     }
 }
 
 /// Puts by how much each junction misses its balance at given heads of all nodes: its load and what flows in, less what
 /// flows out.
-pub(crate) fn put_misses(net: &Net, heads: &[i64], loads: &[i64], misses: &mut [i64])
+pub(crate) fn put_misses(
+    net: &Net,
+    curves: &[Curve],
+    heads: &[i64],
+    loads: &[f64],
+    misses: &mut [f64],
+)
     ensures { length misses.new ≡ length misses.old }
 {
     put_outflows(net, heads, loads, misses);
-    add_flows(net, heads, misses);
+    add_flows(net, curves, heads, misses);
 }

@@ -4,14 +4,18 @@
 //! Tested by `hyd_tests_on_certificates` and `hyd_tests_on_library`.
 #![tactic(auto)]
 
-mod certificate_test;
+mod conjugate_gradients;
 mod convergence;
 mod descent_to_tight_vector;
 mod finder;
+mod flow_curves;
+mod flow_form;
 mod flows;
 mod gradient;
 mod jacobian;
+mod junction_queue;
 mod line_search;
+mod mending;
 mod number_lists;
 mod raises;
 mod slopes;

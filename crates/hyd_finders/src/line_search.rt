@@ -4,16 +4,18 @@
 ghost use Rattle.std.specs.Prelude.{◌≡◌, ◌<◌, length};
 ghost use Rattle.hyd_period_network.specs.SoundNets.{HasProblem};
 
+use crate::flow_curves::{Curve, no_flow, put_curves};
 use crate::flows::put_misses;
-use crate::number_lists::copy;
-use crate::raises::{NoValue, mend};
+use crate::mending::Mender;
+use crate::number_lists::{copy, product};
+use crate::raises::NoValue;
 use hyd_period_network::Net;
 use hyd_spec_certificates::{BOX_LIMIT, Problem, Side};
 use std::alloc::{AllocError as OutOfMemory, Global};
-use std::num::{nearest_i64_to_f64, saturating_f64_to_i64};
+use std::num::saturating_f64_to_i64;
 
-/// One part of a step in head ticks.
-pub(crate) const HEAD_TICK_PART: f64 = 0.0625;
+/// A step may go past the balance by so great a part of the way there.
+const SLACK: f64 = 0.1;
 
 /// How often a step that goes too far is halved.
 const HALVINGS: u32 = 58;
@@ -29,31 +31,34 @@ pub(crate) struct Course {
     /// The heads that were tried last.
     trial: Vec<i64>,
     /// What each junction is to have left over on balance, in flow ticks.
-    pub(crate) loads: Vec<i64>,
+    pub(crate) loads: Vec<f64>,
     /// By how much each junction misses that at the heads tried last.
-    pub(crate) misses: Vec<i64>,
+    pub(crate) misses: Vec<f64>,
     /// The part of the step that was tried last.
     tried: f64,
+    /// How far past the balance a step may go, as misses times step.
+    slack: f64,
+    /// The curves of the links.
+    pub(crate) curves: Vec<Curve>,
+}
+
+// The nearest whole number.
+fn nearest_whole(number: f64) -> i64 {
+    if number < 0.0 {
+        saturating_f64_to_i64(number - 0.5)
+    } else {
+        saturating_f64_to_i64(number + 0.5)
+    }
 }
 
 // Puts heads a part of a step away, held in the box.
-fn move_by(heads: &[i64], step: &[i64], part: f64, moved: &mut [i64])
+fn move_by(heads: &[i64], step: &[f64], part: f64, moved: &mut [i64])
     ensures { length moved.new ≡ length moved.old }
 {
-    let scale = part * HEAD_TICK_PART;
     for ((entry, head), number) in moved.iter_mut().zip(heads).zip(step) {
-        let way = saturating_f64_to_i64(nearest_i64_to_f64(*number) * scale);
+        let way = nearest_whole(*number * part);
         *entry = head.saturating_add(way).clamp(-BOX_LIMIT, BOX_LIMIT);
     }
-}
-
-// The sum of the products of misses and step: its sign says on which side of the balance along the step they are.
-fn product(misses: &[i64], step: &[i64]) -> f64 {
-    let mut sum = 0.0;
-    for (miss, number) in misses.iter().zip(step) {
-        sum += nearest_i64_to_f64(*miss) * nearest_i64_to_f64(*number);
-    }
-    sum
 }
 
 // Puts the heads of reservoirs and tanks.
@@ -76,16 +81,19 @@ impl Course {
         Ok(Course {
             heads: vec![in alloc; 0i64; nodes]?,
             trial: vec![in alloc; 0i64; nodes]?,
-            loads: vec![in alloc; 0i64; junctions]?,
-            misses: vec![in alloc; 0i64; junctions]?,
+            loads: vec![in alloc; 0.0; junctions]?,
+            misses: vec![in alloc; 0.0; junctions]?,
             tried: 0.0,
+            slack: 0.0,
+            curves: vec![in alloc; no_flow(); net.links() as usize]?,
         })
     }
 
-    /// Puts the heads of reservoirs and tanks in a problem and on a side.
+    /// Puts the curves of a net, and the heads of reservoirs and tanks in a problem and on a side.
     pub(crate) fn fix(&mut self, net: &Net, problem: Problem, side: Side)
         requires { HasProblem net.now problem }
     {
+        put_curves(net, &mut self.curves);
         put_fixed(net, problem, side, &mut self.heads);
     }
 
@@ -93,24 +101,36 @@ impl Course {
     pub(crate) fn begin(&mut self, net: &Net, from: &[i64]) {
         copy(from, &mut self.heads);
         copy(&self.heads, &mut self.trial);
-        put_misses(net, &self.trial, &self.loads, &mut self.misses);
+        put_misses(
+            net,
+            &self.curves,
+            &self.trial,
+            &self.loads,
+            &mut self.misses,
+        );
     }
 
     // Tries a part of a step.
-    fn try_part(&mut self, net: &Net, step: &[i64], part: f64) {
+    fn try_part(&mut self, net: &Net, step: &[f64], part: f64) {
         move_by(&self.heads, step, part, &mut self.trial);
-        put_misses(net, &self.trial, &self.loads, &mut self.misses);
+        put_misses(
+            net,
+            &self.curves,
+            &self.trial,
+            &self.loads,
+            &mut self.misses,
+        );
         self.tried = part;
     }
 
-    // Whether a part of a step doesn't go past the balance along it.
-    fn is_short(&mut self, net: &Net, step: &[i64], part: f64) -> bool {
+    // Whether a part of a step doesn't go far past the balance along it.
+    fn is_short(&mut self, net: &Net, step: &[f64], part: f64) -> bool {
         self.try_part(net, step, part);
-        product(&self.misses, step) >= 0.0
+        product(&self.misses, step) >= -self.slack
     }
 
     // A part near the balance, from one that is short, where twice it isn't.
-    fn refined(&mut self, net: &Net, step: &[i64], part: f64) -> f64 {
+    fn refined(&mut self, net: &Net, step: &[f64], part: f64) -> f64 {
         let mut reached = part;
         for more in [0.5, 0.25, 0.125] {
             let further = reached + part * more;
@@ -122,7 +142,7 @@ impl Course {
     }
 
     // A multiple of the step, doubled while it is short.
-    fn doubled(&mut self, net: &Net, step: &[i64]) -> f64 {
+    fn doubled(&mut self, net: &Net, step: &[f64]) -> f64 {
         let mut reached = 1.0;
         for _ in 0..DOUBLINGS {
             let further = reached * 2.0;
@@ -135,7 +155,7 @@ impl Course {
     }
 
     // A part of the step that is short: halved until it is.
-    fn halved(&mut self, net: &Net, step: &[i64]) -> f64 {
+    fn halved(&mut self, net: &Net, step: &[f64]) -> f64 {
         let mut part = 0.5;
         for _ in 0..HALVINGS {
             if self.is_short(net, step, part) {
@@ -148,7 +168,8 @@ impl Course {
 
     /// Moves the heads along a step, near to the balance along it: flows rise with heads, so it is passed at most once.
     /// Where the whole step is short, it is taken, or doubled where `farther` asks for that.
-    pub(crate) fn advance(&mut self, net: &Net, step: &[i64], farther: bool) {
+    pub(crate) fn advance(&mut self, net: &Net, step: &[f64], farther: bool) {
+        self.slack = product(&self.misses, step).abs() * SLACK;
         let part = if !self.is_short(net, step, 1.0) {
             self.halved(net, step)
         } else if farther {
@@ -162,18 +183,26 @@ impl Course {
         copy(&self.trial, &mut self.heads);
     }
 
+    /// Takes a whole step.
+    pub(crate) fn take(&mut self, net: &Net, step: &[f64]) {
+        self.try_part(net, step, 1.0);
+        copy(&self.trial, &mut self.heads);
+    }
+
     /// Whether a few raises from the heads lead to where none of the junctions falls short of a certificate, which is
     /// put as the proposal then. Fails where one of these junctions has no value.
     pub(crate) fn mended(
         &mut self,
         net: &Net,
         side: Side,
+        mender: &mut Mender,
         proposal: &mut [i64],
     ) -> Result<bool, NoValue>
         ensures { length proposal.new ≡ length proposal.old }
     {
+        mender.note_near(net, side, &self.curves, &self.heads);
         copy(&self.heads, &mut self.trial);
-        let mended = mend(net, side, &mut self.trial)?;
+        let mended = mender.mend(net, side, &mut self.trial)?;
         if mended {
             copy(&self.trial, proposal);
         }

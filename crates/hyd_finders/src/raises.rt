@@ -1,4 +1,4 @@
-//! Raises at the few junctions where heads fall short of a certificate.
+//! Whether a junction falls short of a certificate, and by how much it has to be raised then.
 #![tactic(auto)]
 
 ghost use Rattle.std.specs.Prelude.{◌≡◌, length};
@@ -8,19 +8,7 @@ use crate::number_lists::number_at;
 use hyd_period_network::Net;
 use hyd_spec_certificates::Side;
 use hyd_vector_check::is_in_box;
-
-/// One in so many junctions may fall short, and `FEW` more. Where more do, raises lead far away.
-const SHARE: u32 = 5;
-
-const FEW: u32 = 4;
-
-/// So many raises are made at most for each junction, and `SPARE_RAISES` more.
-const RAISES: u32 = 2;
-
-const SPARE_RAISES: u32 = 200;
-
-/// The most passes over all junctions.
-const PASSES: u32 = 40;
+use std::num::nearest_i64_to_f64;
 
 /// How often the way of a raise is doubled.
 const DOUBLINGS: u32 = 60;
@@ -86,6 +74,18 @@ pub(crate) fn put_over(net: &Net, side: Side, heads: &[i64], amounts: &mut [i64]
     }
 }
 
+/// The same in floating point.
+pub(crate) fn put_near_over(net: &Net, side: Side, heads: &[i64], amounts: &mut [f64])
+    ensures { length amounts.new ≡ length amounts.old }
+{
+    for junction in 0..net.junctions() {
+        if let Some(entry) = amounts.get_mut(junction as usize) {
+            let amount = over(net, side, heads, junction, number_at(heads, junction));
+            *entry = nearest_i64_to_f64(amount);
+        }
+    }
+}
+
 // The first of 1, 2, 4 .. ticks farther out at which a junction passes, if it does at one of them in the box.
 fn reach(net: &Net, side: Side, heads: &[i64], junction: u32) -> Result<i64, NoValue> {
     let here = number_at(heads, junction);
@@ -121,19 +121,8 @@ fn ticks_to_pass(net: &Net, side: Side, heads: &[i64], junction: u32, reach: i64
     most
 }
 
-// How many junctions fall short.
-fn count_short(net: &Net, side: Side, heads: &[i64]) -> u32 {
-    let mut count = 0u32;
-    for junction in 0..net.junctions() {
-        if !passes(net, side, heads, junction, number_at(heads, junction)) {
-            count = count.saturating_add(1);
-        }
-    }
-    count
-}
-
-// Raises a junction to the nearest head at which it passes.
-fn raise(net: &Net, side: Side, heads: &mut [i64], junction: u32) -> Result<(), NoValue>
+/// Raises a junction to the nearest head at which it passes.
+pub(crate) fn raise(net: &Net, side: Side, heads: &mut [i64], junction: u32) -> Result<(), NoValue>
     ensures { length heads.new ≡ length heads.old }
 {
     let reach = reach(net, side, heads, junction)?;
@@ -143,43 +132,4 @@ fn raise(net: &Net, side: Side, heads: &mut [i64], junction: u32) -> Result<(), 
         *entry = head;
     }
     Ok(())
-}
-
-// Raises each junction that falls short when it is its turn, and counts the raises.
-fn raise_each(net: &Net, side: Side, heads: &mut [i64]) -> Result<u32, NoValue>
-    ensures { length heads.new ≡ length heads.old }
-{
-    let mut count = 0u32;
-    for junction in 0..net.junctions() {
-        if !passes(net, side, heads, junction, number_at(heads, junction)) {
-            raise(net, side, heads, junction)?;
-            count = count.saturating_add(1);
-        }
-    }
-    Ok(count)
-}
-
-/// Raises junctions that fall short, and those that do then, where they are few, and tells whether none does any more.
-/// Fails at the first junction that has no value. The heads are those of all nodes.
-pub(crate) fn mend(net: &Net, side: Side, heads: &mut [i64]) -> Result<bool, NoValue>
-    ensures { length heads.new ≡ length heads.old }
-{
-    let junctions = net.junctions();
-    if count_short(net, side, heads) > (junctions / SHARE).saturating_add(FEW) {
-        return Ok(false);
-    }
-    let mut left = junctions
-        .saturating_mul(RAISES)
-        .saturating_add(SPARE_RAISES);
-    for _ in 0..PASSES {
-        let raises = raise_each(net, side, heads)?;
-        if raises == 0 {
-            return Ok(true);
-        }
-        if raises > left {
-            return Ok(false);
-        }
-        left -= raises;
-    }
-    Ok(false)
 }

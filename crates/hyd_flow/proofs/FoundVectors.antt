@@ -16,6 +16,9 @@ use Rattle.hyd_spec_certificates.specs.RecordAndStanding.{Record, vector_of, vec
 use Rattle.hyd_spec_certificates.specs.BoxesWithHeldJunction.{held_in}
 use Rattle.hyd_spec_flows.specs.FlowParts.{held_for, IsHeldVector, IsSharpVector, HasItsVector, JoinsJunctions}
 use Rattle.hyd_cert.specs.VectorsOfRecord.{two_vectors}
+use Rattle.std.proofs.lemmas.Option.{slice_get_within}
+use Rattle.hyd_spent_rounds.specs.SpentRounds.{AreSpent}
+use Rattle.hyd_flow.specs.NearVectors.{IsNear}
 use Rattle.hyd_lemmas.proofs.ListsOptionsAndResults.{same_item}
 use Rattle.hyd_theorems_on_raises.proofs.RaisesInAnyOrder.{one-reached}
 use Rattle.hyd_theorems_on_flows.specs.RecordOnGrid.{IsCertified}
@@ -66,22 +69,54 @@ module _ (grid : Grid) (row : Record) (is : IsCertified grid row) (from : ℕ) (
       subst (IsHeldVector grid row link side) (sym (drawn_is u put link e))
       (held_drawn grid row is link side (subst (λ (n : ℕ). n < length grid.junctions) (sym e) inside))
 
-  pub near_put : (rounds : ℕ) (u start v : List ℤ) → u ≡ slice_set (vector_of row Main side) held.junction held.head
-      → start ≡ vector_of row Main (opposite side) → AreRoundsHolding (Some held) grid Main side rounds start v
+  -- of the rounds that were made to it no vector is one with that junction held
+  pub spent_sweep : (rounds : ℕ) (start v : List ℤ) → start ≡ vector_of row Main (opposite side)
+      → AreRoundsHolding (Some held) grid Main side rounds start v
       → (IsCertificateHolding (Some held) grid Main side v → ⊥)
-      → (link : GridLink) → link.from ≡ from → IsSharpVector rounds grid row link side u
-  near_put rounds u start v put at by_rounds none link e =
-      subst (IsSharpVector rounds grid row link side) (sym (drawn_is u put link e))
-      (spent_near grid row is link side rounds (λ reached others holds.
+      → AreSpent held grid side rounds (vector_of row Main (opposite side))
+  spent_sweep rounds start v at by_rounds none reached others holds =
+      let own = vector_of row Main (opposite side) in
+      let from_own = subst (λ (s : List ℤ). AreRoundsHolding (Some held) grid Main side rounds s v) at by_rounds in
+      let one = one-reached (Some held) grid is.steady Main side rounds own v reached
+      (both grid row is (opposite side)).one_each from_own others in
+      none (subst (IsCertificateHolding (Some held) grid Main side) (sym one) holds)
+
+  -- where the rounds are spent, so they are for each link from there
+  none_reached : (rounds : ℕ) → AreSpent held grid side rounds (vector_of row Main (opposite side))
+      → (link : GridLink) → link.from ≡ from → (reached : List ℤ)
+      → AreRoundsHolding (Some (held_for row link side)) grid Main side rounds
+      (vector_of row Main (opposite side)) reached → IsHeldVector grid row link side reached → ⊥
+  none_reached rounds spent link e reached others holds =
       let own = vector_of row Main (opposite side) in
       let here : held ≡ held_for row link side = same ∙ ap (held_in own) (sym e) in
-      let from_own = subst (λ (s : List ℤ). AreRoundsHolding (Some held) grid Main side rounds s v) at by_rounds in
-      let other = subst (λ (h : HeldJunction). AreRoundsHolding (Some h) grid Main side rounds own reached) (sym here)
-      others in
-      let one = one-reached (Some held) grid is.steady Main side rounds own v reached
-      (both grid row is (opposite side)).one_each from_own other in
-      none (subst (IsCertificateHolding (Some held) grid Main side) (sym one)
-      (subst (λ (h : HeldJunction). IsCertificateHolding (Some h) grid Main side reached) (sym here) holds))))
+      spent reached
+      (subst (λ (h : HeldJunction). AreRoundsHolding (Some h) grid Main side rounds own reached) (sym here) others)
+      (subst (λ (h : HeldJunction). IsCertificateHolding (Some h) grid Main side reached) (sym here) holds)
+
+  pub near_put : (rounds : ℕ) (u : List ℤ) → u ≡ slice_set (vector_of row Main side) held.junction held.head
+      → AreSpent held grid side rounds (vector_of row Main (opposite side))
+      → (link : GridLink) → link.from ≡ from → IsSharpVector rounds grid row link side u
+  near_put rounds u put spent link e =
+      subst (IsSharpVector rounds grid row link side) (sym (drawn_is u put link e))
+      (spent_near grid row is link side rounds (none_reached rounds spent link e))
+
+  -- a vector no farther out than the record's own
+  pub held_near : (u : List ℤ) → IsNear held grid side (vector_of row Main side) u → (link : GridLink)
+      → link.from ≡ from → IsHeldVector grid row link side u
+  held_near u near link e =
+      subst (λ (n : ℕ). IsCertificateHolding (Some (held_in (vector_of row Main (opposite side)) n)) grid Main side u)
+      (sym e) (subst (λ (h : HeldJunction). IsCertificateHolding (Some h) grid Main side u) same near.is_held)
+
+  pub near_spent : (rounds : ℕ) (u : List ℤ) → IsNear held grid side (vector_of row Main side) u
+      → AreSpent held grid side rounds (vector_of row Main (opposite side))
+      → (link : GridLink) → link.from ≡ from → IsSharpVector rounds grid row link side u
+  near_spent rounds u near spent link e = record {
+    least = λ reached others holds. absurd (none_reached rounds spent link e reached others holds);
+    inside = λ i junction at apart. near.inside i
+        (let a = slice_get_within grid.junctions i junction at in let b = near.is_held.one_each in
+        omega (arith, a, b))
+        (λ k. apart (k ∙ (ap (λ (h : HeldJunction). h.junction) same ∙ sym e)));
+  }
 
   -- there is a vector
   pub none_put : from < length grid.junctions → ((w : List ℤ) → IsCertificateHolding (Some held) grid Main side w → ⊥)

@@ -1,2 +1,3 @@
 pub mod GivenRecords
+pub mod NearVectors
 pub mod RefusedVectors

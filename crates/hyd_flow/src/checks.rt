@@ -49,7 +49,7 @@ fn suits(net: &Net, side: Side, held: &HeldJunction, u: &[i64], i: u32) -> bool
 }
 
 /// The first junction at which what is asked of it doesn't hold.
-fn first_failing(net: &Net, side: Side, held: &HeldJunction, u: &[i64]) -> Option<u32>
+pub(crate) fn first_failing(net: &Net, side: Side, held: &HeldJunction, u: &[i64]) -> Option<u32>
     requires one_each { length u.now ≡ length net.now.junctions }
     requires in_box { All IsInBox u.now }
     requires held_in_box { IsInBox held.now.head }

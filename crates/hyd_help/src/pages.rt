@@ -45,8 +45,8 @@ Runs the network, writes the certificate, prints the report.
   --width W    how wide intervals of heads may become, in metres: above 0 to
                1000, else 0.01
   --tight      the tightest certificate on the grid of 10^-13 metres
-  --flows IDS  up to 16 links between junctions, parted by commas: tighter
-               intervals of their flows, in FLOW lines
+  --flows IDS  up to 16 links between junctions, parted by commas without
+               spaces: tighter intervals of their flows, in FLOW lines
 
   hyd run examples/net1.inp net1.cert
 

@@ -3,7 +3,7 @@
 ghost use Rattle.std.specs.Prelude.{length};
 ghost use Rattle.std.specs.Iterator.{at_most};
 
-use crate::usages::takes_value;
+use crate::usages::{is_value, takes_value};
 
 /// What a word behind a command's name is.
 #[derive(Clone, Copy)]
@@ -57,7 +57,7 @@ impl<'a> Iterator for SpokenWords<'a> {
         }
         if takes_value(word) {
             if let Some((value, behind)) = rest.split_first() {
-                if !value.as_str().starts_with('-') {
+                if is_value(word, value.as_str()) {
                     self.rest = behind;
                     return Some(Spoken::Option(word, Some(value.as_str())));
                 }

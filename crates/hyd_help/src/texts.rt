@@ -1,6 +1,6 @@
 //! The texts of what is wrong with the words of the command line.
 
-use crate::usages::Usage;
+use crate::usages::{Usage, is_below_0};
 use std::fmt::{self, Display, Formatter};
 
 /// What is said where nothing more is known.
@@ -40,7 +40,7 @@ fn values_of(asked: &str) -> &'static str {
         "--sweeps" => "a whole number from 0 to 100000",
         "--width" =>
             "a number of metres above 0 and at most 1000, with a point before its decimals, as 0.01",
-        "--flows" => "up to 16 IDs of links, parted by commas",
+        "--flows" => "up to 16 IDs of links in one word, parted by commas without spaces, as P1,P2",
         "SEED" => "a whole number from 0 to 2147483647",
         "JUNCTIONS" => "a whole number from 1 to 10000",
         "P" =>
@@ -58,14 +58,6 @@ fn options_of(usage: Usage) -> &'static str {
     }
 }
 
-// Whether a word is a number below 0, as it may stand for a pressure.
-fn is_below_0(word: &str) -> bool {
-    match word.as_bytes() {
-        [b'-', next, ..] => next.is_ascii_digit() || *next == b'.',
-        _ => false,
-    }
-}
-
 // What is said of a word that is no option of a command.
 fn write_no_option<W: fmt::Write>(word: &str, usage: Usage, f: &mut Formatter<W>) -> fmt::Result {
     if is_below_0(word) {
@@ -77,6 +69,25 @@ fn write_no_option<W: fmt::Write>(word: &str, usage: Usage, f: &mut Formatter<W>
     let name = usage.name;
     let options = options_of(usage);
     write!(f, "{word} is no option of hyd {name}, which has {options}")
+}
+
+// Whether a word seems to be a part of a list in which spaces stand.
+fn is_part_of_list(word: &str) -> bool {
+    word.starts_with(',') || word.ends_with(',')
+}
+
+// What is said of a word too many.
+fn write_too_many<W: fmt::Write>(word: &str, usage: Usage, f: &mut Formatter<W>) -> fmt::Result {
+    let name = usage.name;
+    let words = Words(usage.words);
+    write!(
+        f,
+        "{word} is a word too many. The command is hyd {name}{words}"
+    )?;
+    if is_part_of_list(word) {
+        return f.write_str(", and names of --flows stand in one word, without spaces, as P1,P2");
+    }
+    Ok(())
 }
 
 // What is said of too few words.
@@ -119,12 +130,7 @@ impl Display for WrongWord<'_> {
             ),
             WrongWord::Twice(option) => write!(f, "{option} stands twice"),
             WrongWord::TooFew(count, usage) => write_too_few(count, usage, f),
-            WrongWord::TooMany(word, usage) => write!(
-                f,
-                "{word} is a word too many. The command is hyd {}{}",
-                usage.name,
-                Words(usage.words)
-            ),
+            WrongWord::TooMany(word, usage) => write_too_many(word, usage, f),
             WrongWord::OneFile(name) => write!(
                 f,
                 "NET and CERT are both called {name}: the certificate is another file"

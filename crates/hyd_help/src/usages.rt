@@ -68,6 +68,20 @@ pub(crate) fn takes_value(option: &str) -> bool {
     option == "--sweeps" || option == "--width" || option == "--flows"
 }
 
+/// Whether a word is a number below 0, as it may stand for a pressure.
+pub(crate) fn is_below_0(word: &str) -> bool {
+    match word.as_bytes() {
+        [b'-', next, ..] => next.is_ascii_digit() || *next == b'.',
+        _ => false,
+    }
+}
+
+/// Whether a word is the value of an option behind which it stands: one that begins with `-` is another option, but for
+/// a number below 0 where a number is asked for.
+pub(crate) fn is_value(option: &str, word: &str) -> bool {
+    !word.starts_with('-') || (option != "--flows" && is_below_0(word))
+}
+
 // The number that a word writes, in billionths.
 fn nano_of(word: &str) -> Option<i128> {
     match read_decimal(word.as_bytes()) {

@@ -17,18 +17,18 @@ use crate::run_ends::{say_end, status_of_end};
 use hyd_cert::FlowPart;
 use hyd_command_answers::{Status, fault_status};
 use hyd_finders::{Finder, Gradient};
+use hyd_flow::FlowSearch;
 use hyd_io::{Channel, Desk, Pen};
 use hyd_net::Project;
 use hyd_run_naming_flows::run_naming;
 use hyd_sim::{Settings, Sim};
-use hyd_sweep::Sweeper;
 use std::alloc::Global;
 
 /// Creates CERT, and puts a run out with the flows of the links that the part names.
 fn put_run<D: Desk, F: Finder>(
     sim: &mut Sim,
     finder: &mut F,
-    sweeper: &mut Sweeper,
+    search: &mut FlowSearch,
     part: &mut FlowPart,
     cert: &str,
     desk: &mut D,
@@ -36,7 +36,7 @@ fn put_run<D: Desk, F: Finder>(
     requires start { standing_of sim.old ≡ initial_standing sim.old.project }
     requires named { MayBeNamed sim.old.project (names_of (part_of part.old)) }
     requires junctions { part.old.junctions ≡ junction_count sim.old.project }
-    requires room { sweeper.old ≡ junction_count sim.old.project }
+    requires room { search.old ≡ junction_count sim.old.project }
     requires creates { IsTrue (D.may_create cert.now) }
     ensures cause { HasCause result (D.counts desk.old) (D.counts desk.new) }
     ensures answers { AnswersRunNaming sim.old.project (names_of (part_of part.old)) sim.old.settings cert.now result
@@ -53,7 +53,7 @@ fn put_run<D: Desk, F: Finder>(
     match run_naming(
         sim,
         finder,
-        sweeper,
+        search,
         part,
         &mut certificate,
         &mut report,
@@ -71,7 +71,7 @@ fn put_run<D: Desk, F: Finder>(
 fn run_by_gradient<D: Desk>(
     alloc: Global,
     sim: &mut Sim,
-    sweeper: &mut Sweeper,
+    search: &mut FlowSearch,
     part: &mut FlowPart,
     cert: &str,
     desk: &mut D,
@@ -79,7 +79,7 @@ fn run_by_gradient<D: Desk>(
     requires start { standing_of sim.old ≡ initial_standing sim.old.project }
     requires named { MayBeNamed sim.old.project (names_of (part_of part.old)) }
     requires junctions { part.old.junctions ≡ junction_count sim.old.project }
-    requires room { sweeper.old ≡ junction_count sim.old.project }
+    requires room { search.old ≡ junction_count sim.old.project }
     requires creates { IsTrue (D.may_create cert.now) }
     ensures cause { HasCause result (D.counts desk.old) (D.counts desk.new) }
     ensures answers { AnswersRunNaming sim.old.project (names_of (part_of part.old)) sim.old.settings cert.now result
@@ -89,13 +89,13 @@ fn run_by_gradient<D: Desk>(
     ensures opens { OpensCert result (D.openings desk.old) (D.openings desk.new) }
 {
     match Gradient::open(alloc, sim.net()) {
-        Ok(mut finder) => put_run(sim, &mut finder, sweeper, part, cert, desk),
+        Ok(mut finder) => put_run(sim, &mut finder, search, part, cert, desk),
         Err(_) => Status::OutOfMemory,
     }
 }
 
 /// Takes room for the search of the links' vectors, and puts that run out.
-fn run_by_sweeps<D: Desk>(
+fn run_by_search<D: Desk>(
     alloc: Global,
     sim: &mut Sim,
     part: &mut FlowPart,
@@ -114,8 +114,8 @@ fn run_by_sweeps<D: Desk>(
     ensures opens { OpensCert result (D.openings desk.old) (D.openings desk.new) }
 {
     let junctions = sim.project().junctions.len() as u32;
-    match Sweeper::open(alloc, junctions) {
-        Ok(mut sweeper) => run_by_gradient(alloc, sim, &mut sweeper, part, cert, desk),
+    match FlowSearch::open(alloc, sim.net(), junctions) {
+        Ok(mut search) => run_by_gradient(alloc, sim, &mut search, part, cert, desk),
         Err(_) => Status::OutOfMemory,
     }
 }
@@ -142,7 +142,7 @@ fn run_naming_numbers<D: Desk>(
     match FlowPart::open(alloc, junctions) {
         Ok(mut part) => {
             part.name(links);
-            run_by_sweeps(alloc, sim, &mut part, cert, desk)
+            run_by_search(alloc, sim, &mut part, cert, desk)
         }
         Err(_) => Status::OutOfMemory,
     }

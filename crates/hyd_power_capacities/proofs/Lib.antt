@@ -3,3 +3,4 @@ pub mod LossesInTicks
 pub mod CapacitiesEncloseLosses
 pub mod PipeLaws
 pub mod MinorLosses
+pub mod OnePowerCapacity

@@ -31,7 +31,7 @@ one-up p q s t a b = one-scaled s t (record { crossed = a.least t b.at_least }) 
   crossed = b.least s a.at_least;
 })
 
-same-ratio : (p q : ℕ) (r s : Pair) → IsRatio p q r → IsRatio p q s → SameEnds r s
+pub same-ratio : (p q : ℕ) (r s : Pair) → IsRatio p q r → IsRatio p q s → SameEnds r s
 same-ratio p q r s a b = record { low = one-down p q r.lo s.lo a.low b.low; high = one-up p q r.hi s.hi a.high b.high }
 
 -- one end of a product, and of a quotient
@@ -62,7 +62,7 @@ quotient-up a b c d s t e f x y = one-up (numerator c * denominator d) (denomina
     (subst (λ (n : Scaled). IsUp (numerator c * denominator n) (denominator c * numerator n) s) f
     (subst (λ (n : Scaled). IsUp (numerator n * denominator b) (denominator n * numerator b) s) e x)) y
 
-same-product : (x y r u v s : Pair) → IsProduct x y r → IsProduct u v s → SameEnds x u → SameEnds y v → SameEnds r s
+pub same-product : (x y r u v s : Pair) → IsProduct x y r → IsProduct u v s → SameEnds x u → SameEnds y v → SameEnds r s
 same-product x y r u v s a b p q = record {
   low = product-down x.lo y.lo u.lo v.lo r.lo s.lo p.low q.low a.low b.low;
   high = product-up x.hi y.hi u.hi v.hi r.hi s.hi p.high q.high a.high b.high;
@@ -122,7 +122,7 @@ same-dragged length us r s a b =
     drag (same-ratio _ _ a.foot b.foot a.foot_is b.foot_is) in
     same-power a.ticks b.ticks r s 1000 1000 refl ticks a.dragged_is b.dragged_is
 
-same-constant : (length diameter c : Decimal) (us : Bool) (r s : Pair) → IsConstant length diameter c us r
+pub same-constant : (length diameter c : Decimal) (us : Bool) (r s : Pair) → IsConstant length diameter c us r
     → IsConstant length diameter c us s → SameEnds r s
 same-constant length diameter c us r s a b =
     same-quotient a.carried a.dragged r b.carried b.dragged s a.constant_is b.constant_is
@@ -139,7 +139,7 @@ same-minor diameter k us r s a b =
     (same-power a.across b.across a.fourth b.fourth 4 4 refl (same-ratio _ _ a.across b.across a.across_is b.across_is)
     a.fourth_is b.fourth_is)
 
-same-minor_ticks : (diameter k : Decimal) (us : Bool) (r s : Pair) → IsMinorTicks diameter k us r
+pub same-minor_ticks : (diameter k : Decimal) (us : Bool) (r s : Pair) → IsMinorTicks diameter k us r
     → IsMinorTicks diameter k us s → SameEnds r s
 same-minor_ticks diameter k us r s a b =
     let unit : SameEnds a.unit b.unit = same-ratio _ _ a.unit b.unit a.unit_is b.unit_is in
@@ -149,7 +149,7 @@ same-minor_ticks diameter k us r s a b =
     (same-ratio _ _ a.foot b.foot a.foot_is b.foot_is))
     (same-product a.unit a.unit a.square b.unit b.unit b.square a.square_is b.square_is unit unit)
 
-same-raised : (r s : Pair) (high other : Scaled) → SameEnds r s → IsRaised r high → IsRaised s other → high ≡ other
+pub same-raised : (r s : Pair) (high other : Scaled) → SameEnds r s → IsRaised r high → IsRaised s other → high ≡ other
 same-raised r s high other p a b =
     sym a.high_is
     ∙ (same-product r a.factor a.more s b.factor b.more a.more_is b.more_is p

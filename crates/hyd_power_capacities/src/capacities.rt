@@ -1,8 +1,9 @@
 //! The capacity that a pipe's numbers make (EPANET 2.2 User Manual, Analysis Algorithms).
 #![tactic(auto)]
 
-ghost use Rattle.std.specs.Prelude.{◌≡◌, ◌≤◌, ◌*◌, ◌^◌, pos, ◌<ℤ◌, IfOk, OnOk, OnErr};
+ghost use Rattle.std.specs.Prelude.{◌≡◌, ◌≤◌, ◌*◌, ◌^◌, pos, ◌<ℤ◌, IfOk, IfSome, OnOk, OnErr};
 ghost use Rattle.hyd_num.specs.FileQuantity.{billionths};
+ghost use Rattle.hyd_num.specs.BinaryNumbers.{reach};
 ghost use Rattle.hyd_num.specs.Pairs.{pair_reach};
 ghost use Rattle.hyd_num.specs.CapacityPairs.{IsMinorPair};
 ghost use Rattle.hyd_spec_power_laws.specs.PowerCapacities.{IsCarried, IsDragged, IsConstant, IsMinorTicks};
@@ -85,7 +86,8 @@ fn dragged(length: Decimal, us: bool) -> Pair
 // The head ticks that a squared flow tick loses to fittings, none where the coefficient isn't above 0.
 fn minor(diameter: Decimal, k: Decimal, us: bool) -> Option<Pair>
     requires { pos 0 <ℤ diameter.nano }
-    ensures { IsMinorWith (billionths k) diameter k us result }
+    ensures value { IsMinorWith (billionths k) diameter k us result }
+    ensures near { IfSome result (λ m. pair_reach m ≤ 2 ^ 26) }
 {
     if k.nano > 0 {
         return Some(minor_ticks(diameter, k, us));
@@ -96,7 +98,8 @@ fn minor(diameter: Decimal, k: Decimal, us: bool) -> Option<Pair>
 fn minor_ticks(diameter: Decimal, k: Decimal, us: bool) -> Pair
     requires diameter { pos 0 <ℤ diameter.nano }
     requires k { pos 0 <ℤ k.nano }
-    ensures { IsMinorTicks diameter k us result }
+    ensures value { IsMinorTicks diameter k us result }
+    ensures near { pair_reach result ≤ 2 ^ 14 }
 {
     let ticks = mul(minor_loss(diameter, k, us), ratio(FOOT, 1));
     let unit = flow_unit();
@@ -116,14 +119,16 @@ fn minor_loss(diameter: Decimal, k: Decimal, us: bool) -> Pair
 
 fn lessened(constant: Pair) -> Scaled
     requires { pair_reach constant ≤ 2 ^ 24 }
-    ensures { IsLessened constant result }
+    ensures value { IsLessened constant result }
+    ensures near { reach result ≤ 2 ^ 25 }
 {
     mul(constant, ratio(MARGIN - 1, MARGIN)).lo
 }
 
 fn raised(constant: Pair) -> Scaled
     requires { pair_reach constant ≤ 2 ^ 24 }
-    ensures { IsRaised constant result }
+    ensures value { IsRaised constant result }
+    ensures near { reach result ≤ 2 ^ 25 }
 {
     mul(constant, ratio(MARGIN + 1, MARGIN)).hi
 }

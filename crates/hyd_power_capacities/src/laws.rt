@@ -2,7 +2,7 @@
 //! a body.
 #![tactic(auto)]
 
-ghost use Rattle.std.specs.Prelude.{ℕ, ◌<◌, ◌≤◌, ◌*◌, ℤ, ◌≤ℤ◌, Bool};
+ghost use Rattle.std.specs.Prelude.{◌≡◌, ℕ, ◌<◌, ◌≤◌, ◌*◌, ℤ, ◌≤ℤ◌, Bool};
 ghost use Rattle.hyd_num.specs.declared.decimals.Decimal.{Decimal};
 ghost use Rattle.hyd_num.specs.FileQuantity.{billionths};
 ghost use Rattle.hyd_spec_power_laws.specs.declared.power_capacities.PowerCapacity.{PowerCapacity};
@@ -39,4 +39,9 @@ pub fn flows_of_pipes()
         capacity.pipe.minor S (S * flow_up capacity.high capacity.minor d) y }
     ensures ordered { (capacity : PowerCapacity) (d : ℤ) → IsMade capacity → 0 < billionths capacity.pipe.length
         → 0 < billionths capacity.pipe.diameter → power_low capacity d ≤ℤ power_high capacity d }
+{}
+
+/// A pipe's numbers make one capacity.
+pub fn one_capacity()
+    ensures { (a b : PowerCapacity) → a.pipe ≡ b.pipe → IsMade a → IsMade b → a ≡ b }
 {}

@@ -8,4 +8,4 @@ mod file_numbers;
 mod laws;
 
 pub use capacities::{PowerRange, hazen_williams_capacity};
-pub use laws::{flows_of_pipes, hazen_williams_losses};
+pub use laws::{flows_of_pipes, hazen_williams_losses, one_capacity};

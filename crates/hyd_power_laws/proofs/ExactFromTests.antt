@@ -121,26 +121,44 @@ driving-at_most k z some short =
     let e : 2 ^ 0 ≡ 1 = pow-zero 2 in
     omega (arith, c, ap (λ x. k.mant * x * value (cut_power (in_63_digits z) digits_of_1000)) e)
 
-pub low_exactly : (constant : Pair) (k : Scaled) (q z : ℕ) → IsLessened constant k → 1 ≤ q → q < 2 ^ 128 → 1 ≤ z
-    → z < 2 ^ 128 → flow_side k q ≤ head_side k z
-    → q ^ 1852 * (2 ^ 60) ^ 1000 * denominator constant.lo ≤ numerator constant.lo * z ^ 1000
-low_exactly constant k q z lessened some short left head test =
+-- E is a factor that the head's side is taken with
+pub low_exactly-times : (E : ℕ) (constant : Pair) (k : Scaled) (q z : ℕ) → IsLessened constant k → 1 ≤ q → q < 2 ^ 128
+    → 1 ≤ z → z < 2 ^ 128 → flow_side k q ≤ E * head_side k z
+    → q ^ 1852 * (2 ^ 60) ^ 1000 * denominator constant.lo ≤ numerator constant.lo * (E * z ^ 1000)
+low_exactly-times E constant k q z lessened some short left head test =
     let e = exponent digits_of_1852 in
     let f = exponent digits_of_1000 in
     let r = e + roundings digits_of_1852 in
     let t : value (cut_power (in_63_digits q) digits_of_1852) * (2 ^ 7176 * 2 ^ down k.exp)
-    ≤ value (driving k z) * 2 ^ up k.exp = (rw (pow-add 2 7176 (down k.exp)) at test) in
+    ≤ E * (value (driving k z) * 2 ^ up k.exp) = (rw (pow-add 2 7176 (down k.exp)) at test) in
     let s = low_sides (q ^ e) ((2 ^ 62) ^ e) ((2 ^ 62) ^ r) ((2 ^ 62 + 1) ^ r)
-    (value (cut_power (in_63_digits q) digits_of_1852)) (value (driving k z)) (2 ^ 7176) (2 ^ down k.exp) (2 ^ up k.exp)
+    (value (cut_power (in_63_digits q) digits_of_1852)) (value (driving k z)) (2 ^ 7176) (2 ^ down k.exp)
+    (2 ^ up k.exp * E)
     k.mant (value (cut_power (in_63_digits z) digits_of_1000)) (z ^ f) ((2 ^ 62) ^ f) ((2 ^ 60) ^ f)
-    (whole-power-near q digits_of_1852 some short) t (driving-at_most k z left head)
+    (whole-power-near q digits_of_1852 some short) (omega (arith, t)) (driving-at_most k z left head)
     (whole-power-at_most z digits_of_1000 left head) sides_balance (positive_power (2 ^ 62) f (omega arith)) in
-    let m = low_margin (q ^ e * (2 ^ 60) ^ f) (k.mant * 2 ^ up k.exp) (2 ^ down k.exp) (z ^ f) ((2 ^ 62) ^ r)
+    let m = low_margin (q ^ e * (2 ^ 60) ^ f) (k.mant * 2 ^ up k.exp) (2 ^ down k.exp) (E * z ^ f) ((2 ^ 62) ^ r)
     ((2 ^ 62 + 1) ^ r) (numerator constant.lo) (denominator constant.lo) (2 ^ 49) (2 ^ 49 - 1) (omega (arith, s))
     (lessened_end constant k lessened)
     (margin_below r (omega (arith, exponent_of_flows, roundings_of_flows)))
     (mul-pos (mul-pos (pow_pos (down k.exp)) (pow_pos 49)) (positive_power (2 ^ 62) r (omega arith))) in
     rw (exponent_of_flows, exponent_of_heads) at m
+
+no-less : (x : ℕ) → x ≤ 1 * x
+no-less x = omega arith
+
+no-more : (x : ℕ) → 1 * x ≤ x
+no-more x = omega arith
+
+once-at_most : (a n d x : ℕ) → a * d ≤ n * (1 * x) → a * d ≤ n * x
+once-at_most a n d x h = omega (arith, h)
+
+pub low_exactly : (constant : Pair) (k : Scaled) (q z : ℕ) → IsLessened constant k → 1 ≤ q → q < 2 ^ 128 → 1 ≤ z
+    → z < 2 ^ 128 → flow_side k q ≤ head_side k z
+    → q ^ 1852 * (2 ^ 60) ^ 1000 * denominator constant.lo ≤ numerator constant.lo * z ^ 1000
+low_exactly constant k q z lessened some short left head test =
+    once-at_most (q ^ 1852 * (2 ^ 60) ^ 1000) (numerator constant.lo) (denominator constant.lo) (z ^ 1000)
+    (low_exactly-times 1 constant k q z lessened some short left head (le_trans test (no-less (head_side k z))))
 
 -- ---- the upper test
 
@@ -193,28 +211,39 @@ driving-near k z some short =
     let e : 2 ^ 0 ≡ 1 = pow-zero 2 in
     omega (arith, c, ap (λ x. k.mant * x * value (cut_power (in_63_digits z) digits_of_1000)) e)
 
-pub high_exactly : (constant : Pair) (k : Scaled) (q z : ℕ) → IsRaised constant k → 1 ≤ q → q < 2 ^ 128 → 1 ≤ z
-    → z < 2 ^ 128 → head_side k z ≤ flow_side k q
-    → numerator constant.hi * z ^ 1000 ≤ q ^ 1852 * (2 ^ 60) ^ 1000 * denominator constant.hi
-high_exactly constant k q z raised some short left head test =
+pub high_exactly-times : (E : ℕ) (constant : Pair) (k : Scaled) (q z : ℕ) → IsRaised constant k → 1 ≤ q → q < 2 ^ 128
+    → 1 ≤ z → z < 2 ^ 128 → E * head_side k z ≤ flow_side k q
+    → numerator constant.hi * (E * z ^ 1000) ≤ q ^ 1852 * (2 ^ 60) ^ 1000 * denominator constant.hi
+high_exactly-times E constant k q z raised some short left head test =
     let e = exponent digits_of_1852 in
     let f = exponent digits_of_1000 in
     let r = f + roundings digits_of_1000 in
-    let t : value (driving k z) * 2 ^ up k.exp
+    let t : E * (value (driving k z) * 2 ^ up k.exp)
     ≤ value (cut_power (in_63_digits q) digits_of_1852) * (2 ^ 7176 * 2 ^ down k.exp) =
     (rw (pow-add 2 7176 (down k.exp)) at test) in
     let s = high_sides (q ^ e) ((2 ^ 62) ^ e) ((2 ^ 62) ^ r) ((2 ^ 62 + 1) ^ r) (2 ^ 62) (2 ^ 62 + 1)
-    (value (cut_power (in_63_digits q) digits_of_1852)) (value (driving k z)) (2 ^ 7176) (2 ^ down k.exp) (2 ^ up k.exp)
+    (value (cut_power (in_63_digits q) digits_of_1852)) (value (driving k z)) (2 ^ 7176) (2 ^ down k.exp)
+    (2 ^ up k.exp * E)
     k.mant (value (cut_power (in_63_digits z) digits_of_1000)) (z ^ f) ((2 ^ 62) ^ f) ((2 ^ 60) ^ f)
-    t (driving-near k z left head) (whole-power-near z digits_of_1000 left head)
+    (omega (arith, t)) (driving-near k z left head) (whole-power-near z digits_of_1000 left head)
     (whole-power-at_most q digits_of_1852 some short) sides_balance (positive_power (2 ^ 62) f (omega arith)) in
     let n : (2 ^ 62) ^ suc r ≡ (2 ^ 62) ^ r * 2 ^ 62 = pow-suc (2 ^ 62) r in
     let o : (2 ^ 62 + 1) ^ suc r ≡ (2 ^ 62 + 1) ^ r * (2 ^ 62 + 1) = pow-suc (2 ^ 62 + 1) r in
-    let g : k.mant * 2 ^ up k.exp * z ^ f * (2 ^ 62) ^ suc r ≤ q ^ e * (2 ^ 60) ^ f * 2 ^ down k.exp
+    let g : k.mant * (2 ^ up k.exp * E) * z ^ f * (2 ^ 62) ^ suc r ≤ q ^ e * (2 ^ 60) ^ f * 2 ^ down k.exp
     * (2 ^ 62 + 1) ^ suc r = rw (n, o) s in
-    let m = high_margin (q ^ e * (2 ^ 60) ^ f) (k.mant * 2 ^ up k.exp) (2 ^ down k.exp) (z ^ f) ((2 ^ 62) ^ suc r)
-    ((2 ^ 62 + 1) ^ suc r) (numerator constant.hi) (denominator constant.hi) (2 ^ 49) (2 ^ 49 + 1) g
+    let m = high_margin (q ^ e * (2 ^ 60) ^ f) (k.mant * 2 ^ up k.exp) (2 ^ down k.exp) (E * z ^ f) ((2 ^ 62) ^ suc r)
+    ((2 ^ 62 + 1) ^ suc r) (numerator constant.hi) (denominator constant.hi) (2 ^ 49) (2 ^ 49 + 1) (omega (arith, g))
     (raised_end constant k raised)
     (margin_above (suc r) (omega (arith, exponent_of_heads, roundings_of_heads)))
     (mul-pos (mul-pos (pow_pos (down k.exp)) (omega arith)) (positive_power (2 ^ 62) (suc r) (omega arith))) in
     rw (exponent_of_flows, exponent_of_heads) at m
+
+once-at_least : (a n d x : ℕ) → n * (1 * x) ≤ a * d → n * x ≤ a * d
+once-at_least a n d x h = omega (arith, h)
+
+pub high_exactly : (constant : Pair) (k : Scaled) (q z : ℕ) → IsRaised constant k → 1 ≤ q → q < 2 ^ 128 → 1 ≤ z
+    → z < 2 ^ 128 → head_side k z ≤ flow_side k q
+    → numerator constant.hi * z ^ 1000 ≤ q ^ 1852 * (2 ^ 60) ^ 1000 * denominator constant.hi
+high_exactly constant k q z raised some short left head test =
+    once-at_least (q ^ 1852 * (2 ^ 60) ^ 1000) (numerator constant.hi) (denominator constant.hi) (z ^ 1000)
+    (high_exactly-times 1 constant k q z raised some short left head (le_trans (no-more (head_side k z)) test))

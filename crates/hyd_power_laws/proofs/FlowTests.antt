@@ -52,11 +52,11 @@ flow-rises k p q some le short =
 
 -- ---- what a minor loss leaves: less for greater flows, more of greater heads, and never more than the head
 
-quotient_rises : (a b d : ℕ) → 0 < d → a ≤ b → a / d ≤ b / d
+pub quotient_rises : (a b d : ℕ) → 0 < d → a ≤ b → a / d ≤ b / d
 quotient_rises a b d above le =
     (le-div_iff_mul-le {x = a / d} {y = b} above).1 (le_trans (div-mul-le_self a d) le)
 
-squares_rise : (n p q : ℕ) → p ≤ q → n * (p * p) * 2 ^ 60 ≤ n * (q * q) * 2 ^ 60
+pub squares_rise : (n p q : ℕ) → p ≤ q → n * (p * p) * 2 ^ 60 ≤ n * (q * q) * 2 ^ 60
 squares_rise n p q le = mul-le-mul_right (2 ^ 60) (mul-le-mul_left n (mul-le-mul le le))
 
 pub left-least-falls : (minor : Option Pair) (d p q : ℕ) → p ≤ q → left_at_least minor d q ≤ left_at_least minor d p
@@ -164,7 +164,7 @@ high-goes_on k minor d e p q near short fewer some more pass =
 
 -- ---- so the flows rise with the head
 
-min_rises : (d e n : ℕ) → d ≤ e → min d n ≤ min e n
+pub min_rises : (d e n : ℕ) → d ≤ e → min d n ≤ min e n
 min_rises d e n le = omega (arith, le)
 
 pub down-rises : (k : Scaled) (minor : Option Pair) (d e : ℕ) → d ≤ e → flow_down k minor d ≤ flow_down k minor e

@@ -27,8 +27,8 @@ use Rattle.hyd_power_laws.proofs.LossesAtScale.{zero_power}
 
 -- ---- what is left of a head, exactly
 
-least_left : (nm dm rn rd qq dT z C : ℕ) → 0 < dm → z ≤ dT - C → 1 ≤ z → nm * qq * 2 ^ 60 ≤ C * dm → rn * dm ≤ nm * rd
-    → z * rd + rn * qq * 2 ^ 60 ≤ dT * rd
+pub least_left : (nm dm rn rd qq dT z C : ℕ) → 0 < dm → z ≤ dT - C → 1 ≤ z → nm * qq * 2 ^ 60 ≤ C * dm
+    → rn * dm ≤ nm * rd → z * rd + rn * qq * 2 ^ 60 ≤ dT * rd
 least_left nm dm rn rd qq dT z C above le some ceiling most =
     let a : (z + C) * (dm * rd) ≤ dT * (dm * rd) = mul-le-mul_right (dm * rd) (omega (arith, le, some)) in
     let b : nm * qq * 2 ^ 60 * rd ≤ C * dm * rd = mul-le-mul_right rd ceiling in
@@ -51,7 +51,7 @@ left_at_least_is (Some m) r d q e some =
     ((numerator m.hi * (q * q) * 2 ^ 60 + (denominator m.hi - 1)) / denominator m.hi) above (le_refl _) some
     (omega (arith, c, above)) e.high.crossed
 
-most_left : (nm dm rn rd qq dT z C : ℕ) → 0 < dm → dT - C ≤ z → C * dm ≤ nm * qq * 2 ^ 60 → nm * rd ≤ rn * dm
+pub most_left : (nm dm rn rd qq dT z C : ℕ) → 0 < dm → dT - C ≤ z → C * dm ≤ nm * qq * 2 ^ 60 → nm * rd ≤ rn * dm
     → dT * rd ≤ z * rd + rn * qq * 2 ^ 60
 most_left nm dm rn rd qq dT z C above le floor most =
     let a : dT * (dm * rd) ≤ (z + C) * (dm * rd) = mul-le-mul_right (dm * rd) (omega (arith, le)) in
@@ -70,21 +70,21 @@ left_at_most_is (Some m) r d q e =
 
 -- ---- from the ends of the constant to the constant
 
-from_low_end : (Q n d kn kd Z : ℕ) → 0 < d → Q * d ≤ n * Z → n * kd ≤ kn * d → Q * kd ≤ kn * Z
+pub from_low_end : (Q n d kn kd Z : ℕ) → 0 < d → Q * d ≤ n * Z → n * kd ≤ kn * d → Q * kd ≤ kn * Z
 from_low_end Q n d kn kd Z above h g =
     let a : Q * d * kd ≤ n * Z * kd = mul-le-mul_right kd h in
     let b : n * kd * Z ≤ kn * d * Z = mul-le-mul_right Z g in
     let l : Q * kd * d ≤ kn * Z * d = omega (arith, a, b) in
     le_of_mul-le-mul_right l above
 
-from_high_end : (Q n d kn kd Z : ℕ) → 0 < d → n * Z ≤ Q * d → kn * d ≤ n * kd → kn * Z ≤ Q * kd
+pub from_high_end : (Q n d kn kd Z : ℕ) → 0 < d → n * Z ≤ Q * d → kn * d ≤ n * kd → kn * Z ≤ Q * kd
 from_high_end Q n d kn kd Z above h g =
     let a : n * Z * kd ≤ Q * d * kd = mul-le-mul_right kd h in
     let b : kn * d * Z ≤ n * kd * Z = mul-le-mul_right Z g in
     let l : kn * Z * d ≤ Q * kd * d = omega (arith, a, b) in
     le_of_mul-le-mul_right l above
 
-nothing_left : (n w f b : ℕ) → 1 ≤ f → w ≤ 0 → n * w ^ f ≤ b
+pub nothing_left : (n w f b : ℕ) → 1 ≤ f → w ≤ 0 → n * w ^ f ≤ b
 nothing_left n w f b some none =
     let e : w ≡ 0 = omega (arith, none) in
     rw (e, zero_power f some, mul-zero n) (omega arith)
@@ -108,7 +108,7 @@ many_powers kn kd z q n T e f some le h =
     let b : n ^ f * (q ^ e * T * kd) ≤ n ^ e * (q ^ e * T * kd) = mul-le-mul_right (q ^ e * T * kd) p in
     rw (mul-pow n z f, mul-pow n q e) (omega (arith, a, b))
 
-beyond_range : (f r : Fraction) (S n y z : ℕ) → 1 ≤ n → y ≤ S * n
+pub beyond_range : (f r : Fraction) (S n y z : ℕ) → 1 ≤ n → y ≤ S * n
     → greatest_head * 2 ^ 60 * r.den ≤ z * r.den + r.num * (greatest_flow * greatest_flow) * 2 ^ 60
     → f.num * z ^ 1000 ≤ greatest_flow ^ 1852 * (2 ^ 60) ^ 1000 * f.den
     → PowerLossAtLeast f r S (S * (n * greatest_flow)) y
@@ -150,7 +150,7 @@ module _ (constant : Pair) (minor : Option Pair) (f r : Fraction) (encloses : En
             (passes-low_exactly k (min d greatest_head) (flow_down k minor d) lessened (omega arith) some g.within pass)
       ]
 
-  passes-high_exactly : (k : Scaled) (d q : ℕ) → IsRaised constant k → d ≤ greatest_head → 1 ≤ q → q ≤ greatest_flow
+  pub passes-high_exactly : (k : Scaled) (d q : ℕ) → IsRaised constant k → d ≤ greatest_head → 1 ≤ q → q ≤ greatest_flow
       → passes_high k minor d q ≡ true → f.num * left_at_most minor d q ^ 1000 ≤ q ^ 1852 * (2 ^ 60) ^ 1000 * f.den
   passes-high_exactly k d q raised near some short pass =
       elim (cases_none (left_at_most minor d q)) [

@@ -15,4 +15,4 @@ mod seeds;
 mod whole_numbers;
 
 pub use laws::{flows_enclose, flows_of_capacities, laws_of_cut_powers, losses_by_powers};
-pub use power_flows::{covers, power_high, power_low};
+pub use power_flows::{covers, flow_down, flow_up, power_high, power_low};

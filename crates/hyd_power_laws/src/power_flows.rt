@@ -2,7 +2,8 @@
 #![tactic(auto)]
 
 ghost use Rattle.std.specs.Prelude.{◌≡◌, ◌^◌, ◌*◌, ◌≤◌, unsigned_abs};
-ghost use Rattle.hyd_spec_power_laws.specs.WholeFlows.{flow_down, flow_up, passes_high, greatest_head, greatest_flow};
+ghost use Rattle.hyd_spec_power_laws.specs.WholeFlows.{flow_down, flow_up, passes_high, Covers};
+ghost use Rattle.hyd_spec_power_laws.specs.WholeFlows.{greatest_head, greatest_flow};
 ghost use Rattle.hyd_spec_power_laws.specs.EnclosingFlows.{power_low, power_high};
 
 use crate::flow_tests::{End, flow_test};
@@ -24,9 +25,9 @@ pub fn power_low(capacity: &PowerCapacity, d: i64) -> i128
 {
     let magnitude = d.unsigned_abs();
     if d >= 0 {
-        return i128::from(flow_down(capacity, magnitude));
+        return i128::from(flow_down(capacity.low, capacity.minor, magnitude));
     }
-    -i128::from(flow_up(capacity, magnitude))
+    -i128::from(flow_up(capacity.high, capacity.minor, magnitude))
 }
 
 /// At least that flow.
@@ -37,34 +38,35 @@ pub fn power_high(capacity: &PowerCapacity, d: i64) -> i128
 {
     let magnitude = d.unsigned_abs();
     if d >= 0 {
-        return i128::from(flow_up(capacity, magnitude));
+        return i128::from(flow_up(capacity.high, capacity.minor, magnitude));
     }
-    -i128::from(flow_down(capacity, magnitude))
+    -i128::from(flow_down(capacity.low, capacity.minor, magnitude))
 }
 
-// At most the flow at a head.
-fn flow_down(capacity: &PowerCapacity, head: u64) -> u64
+/// At most the flow at a head, by the lower end of a constant of powers and a minor loss.
+pub fn flow_down(low: Scaled, minor: Option<Pair>, head: u64) -> u64
     requires { head ≤ 3 * 10 ^ 18 }
-    ensures value { result ≡ flow_down capacity.now.low capacity.now.minor head }
+    ensures value { result ≡ flow_down low minor head }
     ensures small { result ≤ 2 ^ 62 }
 {
     if head == 0 {
         return 0;
     }
-    let test = flow_test(End::Low, capacity.low, capacity.minor, head);
+    let test = flow_test(End::Low, low, minor, head);
     greatest_within(&test, guess(&test))
 }
 
-// At least it: the flow after the greatest one that loses less than the head.
-fn flow_up(capacity: &PowerCapacity, head: u64) -> u64
-    requires { head ≤ 3 * 10 ^ 18 }
-    ensures value { result ≡ flow_up capacity.now.high capacity.now.minor head }
+/// At least it, by the upper end: the flow after the greatest one that loses less than the head.
+pub fn flow_up(high: Scaled, minor: Option<Pair>, head: u64) -> u64
+    requires head { head ≤ 3 * 10 ^ 18 }
+    requires covers { Covers high minor }
+    ensures value { result ≡ flow_up high minor head }
     ensures small { result ≤ 2 ^ 62 }
 {
     if head == 0 {
         return 0;
     }
-    let test = flow_test(End::High, capacity.high, capacity.minor, head);
+    let test = flow_test(End::High, high, minor, head);
     greatest_within(&test, guess(&test)) + 1
 }
 

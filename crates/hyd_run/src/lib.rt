@@ -6,6 +6,7 @@
 #![tactic(auto)]
 
 mod first_lines_and_emptied_pens;
+mod low_pressures;
 mod outcome;
 mod period_and_last_lines;
 mod signs_of_life;
@@ -13,6 +14,7 @@ mod steps;
 mod whole_run;
 
 pub use first_lines_and_emptied_pens::{empty, empty_both, put_first};
+pub use low_pressures::{Low, LowPressures};
 pub use outcome::{RunEnd, is_finished};
 pub use period_and_last_lines::{put_last, put_last_line};
 pub use signs_of_life::Signs;

@@ -1,10 +1,11 @@
-//! What shows a person that a run goes on.
+//! What a person is told of a run beside its report: how far it is, and of pressures below 0.
 
 ghost use Rattle.std.specs.Prelude.{◌≡◌, [], None, IsTrue};
 ghost use Rattle.hyd_io.specs.Output.{OnCert};
 ghost use Rattle.hyd_io.specs.TextPutIn.{Puts};
 
 use crate::first_lines_and_emptied_pens::empty;
+use crate::low_pressures::{Low, LowPressures};
 use hyd_io::{Desk, OutFault, Pace, Pen};
 use hyd_sim::Sim;
 use std::fmt::{self, Display, Formatter};
@@ -15,11 +16,12 @@ const SHOWN: u64 = 200;
 /// How often what the report's pen holds is put out, in milliseconds.
 const PUT_OUT: u64 = 1000;
 
-/// How far a run is, when it was shown last, and when the report's pen was emptied last.
+/// How far a run is, when it was shown last, when the report's pen was emptied last, and which pressures were below 0.
 #[derive(Clone, Copy)]
 pub struct Signs {
     shown: Pace,
     put_out: Pace,
+    low: Low,
 }
 
 /// How far a run is: `12:00 of 168:00, 31 periods`.
@@ -57,16 +59,30 @@ impl Signs {
         Signs {
             shown: Pace::new(SHOWN, now),
             put_out: Pace::new(PUT_OUT, now),
+            low: Low::none(),
         }
     }
 
-    /// Shows how far a run is, where that is due.
+    /// Counts the pressures of the period that was done which may be below 0, and shows how far a run is, where that is
+    /// due.
     pub fn show<D: Desk>(&mut self, sim: &Sim, desk: &D) {
+        self.low.count_in(sim.project(), sim.row());
         if self.shown.is_due(desk.milliseconds()) {
             desk.show(&Progress {
                 time: sim.time(),
                 duration: sim.project().times.duration,
                 periods: sim.number(),
+            });
+        }
+    }
+
+    /// Says of a run that is done that pressures may be below 0, where some may.
+    pub fn say_low<D: Desk>(&self, sim: &Sim, desk: &D) {
+        let low = self.low;
+        if low.is_some() {
+            desk.say(&LowPressures {
+                project: sim.project(),
+                low,
             });
         }
     }

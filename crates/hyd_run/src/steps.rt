@@ -36,6 +36,7 @@ fn put_step<D: Desk, F: Finder>(
         Step::Period => {}
         Step::Finished => {
             let _project = sim.project();
+            signs.say_low(sim, desk);
             return Ok(Some(RunEnd::Finished));
         }
         Step::Stop(cause) => {

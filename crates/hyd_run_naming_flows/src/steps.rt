@@ -12,17 +12,17 @@ use crate::periods::put_period;
 use crate::vectors::find_vectors;
 use hyd_cert::{FlowPart, has_small_numbers};
 use hyd_finders::Finder;
+use hyd_flow::FlowSearch;
 use hyd_io::{Desk, OutFault, Pen};
 use hyd_run::{RunEnd, Signs};
 use hyd_sim::{Sim, Step};
-use hyd_sweep::Sweeper;
 
 /// Does the period that is due, finds the vectors of the named links in it, and puts it out. Answers how the run ended
 /// where none is due.
 fn put_step<D: Desk, F: Finder>(
     sim: &mut Sim,
     finder: &mut F,
-    sweeper: &mut Sweeper,
+    search: &mut FlowSearch,
     part: &mut FlowPart,
     signs: &mut Signs,
     certificate: &mut Pen,
@@ -33,7 +33,7 @@ fn put_step<D: Desk, F: Finder>(
         (told D.files D.rest D.written D.printed D.target D.ready D.counts D.openings desk.old)) }
     requires named { MayBeNamed sim.old.project (names_of (part_of part.old)) }
     requires junctions { part.old.junctions ≡ junction_count sim.old.project }
-    requires room { sweeper.old ≡ junction_count sim.old.project }
+    requires room { search.old ≡ junction_count sim.old.project }
     ensures puts { StepPutsNaming (names_of (part_of part.old)) result sim.old sim.new
         (moment certificate.old report.old
         (told D.files D.rest D.written D.printed D.target D.ready D.counts D.openings desk.old))
@@ -43,12 +43,13 @@ fn put_step<D: Desk, F: Finder>(
     ensures settings { sim.new.settings ≡ sim.old.settings }
     ensures names { names_of (part_of part.new) ≡ names_of (part_of part.old) }
     ensures junctions { part.new.junctions ≡ part.old.junctions }
-    ensures room { sweeper.new ≡ sweeper.old }
+    ensures room { search.new ≡ search.old }
 {
     match sim.step(finder) {
         Step::Period => {}
         Step::Finished => {
             let _project = sim.project();
+            signs.say_low(sim, desk);
             return Ok(Some(RunEnd::Finished));
         }
         Step::Stop(cause) => {
@@ -59,7 +60,7 @@ fn put_step<D: Desk, F: Finder>(
     let _project = sim.project();
     has_small_numbers(sim.row());
     signs.show(sim, desk);
-    find_vectors(sim, sweeper, part);
+    find_vectors(sim, search, part);
     match put_period(sim, part, signs, certificate, report, desk) {
         Ok(()) => Ok(None),
         Err(fault) => Err(fault),
@@ -70,7 +71,7 @@ fn put_step<D: Desk, F: Finder>(
 pub(crate) fn put_steps<D: Desk, F: Finder>(
     sim: &mut Sim,
     finder: &mut F,
-    sweeper: &mut Sweeper,
+    search: &mut FlowSearch,
     part: &mut FlowPart,
     certificate: &mut Pen,
     report: &mut Pen,
@@ -80,7 +81,7 @@ pub(crate) fn put_steps<D: Desk, F: Finder>(
         (told D.files D.rest D.written D.printed D.target D.ready D.counts D.openings desk.old)) }
     requires named { MayBeNamed sim.old.project (names_of (part_of part.old)) }
     requires junctions { part.old.junctions ≡ junction_count sim.old.project }
-    requires room { sweeper.old ≡ junction_count sim.old.project }
+    requires room { search.old ≡ junction_count sim.old.project }
     ensures puts { StepsPutNaming (names_of (part_of part.old)) result sim.old sim.new
         (moment certificate.old report.old
         (told D.files D.rest D.written D.printed D.target D.ready D.counts D.openings desk.old))
@@ -92,14 +93,14 @@ pub(crate) fn put_steps<D: Desk, F: Finder>(
     ensures settings { sim.new.settings ≡ sim.old.settings }
     ensures names { names_of (part_of part.new) ≡ names_of (part_of part.old) }
     ensures junctions { part.new.junctions ≡ part.old.junctions }
-    ensures room { sweeper.new ≡ sweeper.old }
+    ensures room { search.new ≡ search.old }
 {
     let mut signs = Signs::new(desk);
     loop {
         match put_step(
             sim,
             finder,
-            sweeper,
+            search,
             part,
             &mut signs,
             certificate,

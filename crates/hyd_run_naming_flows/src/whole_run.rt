@@ -23,10 +23,10 @@ ghost use Rattle.hyd_run_naming_flows.specs.NamingRuns.{IsWholeNaming, RunPutsNa
 use crate::steps::put_steps;
 use hyd_cert::{FlowPart, Record, put_flows_header};
 use hyd_finders::Finder;
+use hyd_flow::FlowSearch;
 use hyd_io::{Desk, OutFault, Pen};
 use hyd_run::{RunEnd, empty_both, put_first, put_last};
 use hyd_sim::Sim;
-use hyd_sweep::Sweeper;
 
 /// Puts the header of a certificate with flows, and then the first line of a report.
 fn put_front<D: Desk>(
@@ -87,7 +87,7 @@ fn put_ending<D: Desk>(
 fn put_run<D: Desk, F: Finder>(
     sim: &mut Sim,
     finder: &mut F,
-    sweeper: &mut Sweeper,
+    search: &mut FlowSearch,
     part: &mut FlowPart,
     certificate: &mut Pen,
     report: &mut Pen,
@@ -98,7 +98,7 @@ fn put_run<D: Desk, F: Finder>(
         (told D.files D.rest D.written D.printed D.target D.ready D.counts D.openings desk.old)) }
     requires named { MayBeNamed sim.old.project (names_of (part_of part.old)) }
     requires junctions { part.old.junctions ≡ junction_count sim.old.project }
-    requires room { sweeper.old ≡ junction_count sim.old.project }
+    requires room { search.old ≡ junction_count sim.old.project }
     ensures puts { RunPutsNaming result sim.old.project sim.old.settings (names_of (part_of part.old))
         (moment certificate.old report.old
         (told D.files D.rest D.written D.printed D.target D.ready D.counts D.openings desk.old))
@@ -109,7 +109,7 @@ fn put_run<D: Desk, F: Finder>(
     ensures settings { sim.new.settings ≡ sim.old.settings }
     ensures names { names_of (part_of part.new) ≡ names_of (part_of part.old) }
     ensures junctions { part.new.junctions ≡ part.old.junctions }
-    ensures room { sweeper.new ≡ sweeper.old }
+    ensures room { search.new ≡ search.old }
 {
     // The record stands under the header of the network.
     let _project = sim.project();
@@ -117,7 +117,7 @@ fn put_run<D: Desk, F: Finder>(
         Ok(()) => {}
         Err(fault) => return Err(fault),
     }
-    match put_steps(sim, finder, sweeper, part, certificate, report, desk) {
+    match put_steps(sim, finder, search, part, certificate, report, desk) {
         Ok(end) => put_ending(sim, end, certificate, report, desk),
         Err(fault) => Err(fault),
     }
@@ -150,7 +150,7 @@ fn finish<D: Desk>(
 /// another as it goes, each period when it is done. Behind each record stands the part of the links that `part` names,
 /// with their vectors in that period, which the rounds of the run's settings find; behind the lines of a period that
 /// begins at a report time stand their FLOW lines. The links join two junctions each, none is named twice, and there
-/// are 1 to 16 of them; part and sweeper were opened for the network's junctions. Takes no memory. Both pens are empty
+/// are 1 to 16 of them; part and search were opened for the network's junctions. Takes no memory. Both pens are empty
 /// at the end. Answers how the run ended.
 ///
 /// - `Fault`: a call that writes or prints failed, and its faults rose by one.
@@ -161,7 +161,7 @@ fn finish<D: Desk>(
 pub fn run_naming<D: Desk, F: Finder>(
     sim: &mut Sim,
     finder: &mut F,
-    sweeper: &mut Sweeper,
+    search: &mut FlowSearch,
     part: &mut FlowPart,
     certificate: &mut Pen,
     report: &mut Pen,
@@ -173,7 +173,7 @@ pub fn run_naming<D: Desk, F: Finder>(
     requires ready { IsTrue (D.ready desk.old) }
     requires named { MayBeNamed sim.old.project (names_of (part_of part.old)) }
     requires junctions { part.old.junctions ≡ junction_count sim.old.project }
-    requires room { sweeper.old ≡ junction_count sim.old.project }
+    requires room { search.old ≡ junction_count sim.old.project }
     ensures whole { IfOk result (λ end. IsPutOutNaming sim.old.project sim.old.settings (names_of (part_of part.old))
         (outcome_of end)
         (told D.files D.rest D.written D.printed D.target D.ready D.counts D.openings desk.old)
@@ -193,9 +193,9 @@ pub fn run_naming<D: Desk, F: Finder>(
     ensures settings { sim.new.settings ≡ sim.old.settings }
     ensures names { names_of (part_of part.new) ≡ names_of (part_of part.old) }
     ensures junctions { part.new.junctions ≡ part.old.junctions }
-    ensures room { sweeper.new ≡ sweeper.old }
+    ensures room { search.new ≡ search.old }
 {
-    match put_run(sim, finder, sweeper, part, certificate, report, desk) {
+    match put_run(sim, finder, search, part, certificate, report, desk) {
         Ok(end) => finish(end, certificate, report, desk),
         Err(fault) => Err(fault),
     }

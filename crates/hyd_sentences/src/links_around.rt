@@ -2,7 +2,7 @@
 
 ghost use Rattle.std.specs.Prelude.{◌≡◌, length};
 
-use crate::sentences::{Barrier, Place, place_of_links};
+use crate::sentences::{Barrier, Place, place_of_links, write_dead_end};
 use crate::shown::Name;
 use crate::stopped::link_id;
 use hyd_net::{Action, Link, LinkKind, LinkState, Project};
@@ -17,6 +17,16 @@ const KINDS: u8 = 5;
 /// The links at a junction, or where none of them is a barrier those beside them.
 #[derive(Clone, Copy)]
 pub(crate) struct Around<'a> {
+    /// The network.
+    pub project: &'a Project,
+    /// The junction.
+    pub node: u32,
+    pub ghost links: { length project.now.link_ids ≡ length project.now.links.list },
+}
+
+/// A junction behind a check valve, where no water is drawn.
+#[derive(Clone, Copy)]
+pub(crate) struct DeadEnd<'a> {
     /// The network.
     pub project: &'a Project,
     /// The junction.
@@ -244,5 +254,46 @@ impl Display for Around<'_> {
         let place = place_of(self.project, self.node);
         f.write_str(place_of_links(place))?;
         write_links(self, place, f)
+    }
+}
+
+// Whether no water is drawn at a junction at any time.
+fn draws_nothing(project: &Project, junction: u32) -> bool {
+    let Some(found) = project.junctions.as_slice().get(junction as usize) else {
+        return false;
+    };
+    if found.emitter.is_some() {
+        return false;
+    }
+    for demand in found.demands.as_slice() {
+        if demand.base != 0 {
+            return false;
+        }
+    }
+    true
+}
+
+// The first pipe with a check valve at a junction or beside it.
+fn valve_at(project: &Project, junction: u32, place: Place) -> Option<u32> {
+    for (number, link) in (0..u32::MAX).zip(project.links.as_slice()) {
+        if matches!(link.kind, LinkKind::CheckPipe(_))
+            && is_in_place(project, link, junction, place)
+        {
+            return Some(number);
+        }
+    }
+    None
+}
+
+impl Display for DeadEnd<'_> {
+    fn fmt<W: fmt::Write>(&self, f: &mut Formatter<W>) -> fmt::Result {
+        let DeadEnd { project, node, .. } = *self;
+        if !draws_nothing(project, node) {
+            return Ok(());
+        }
+        match valve_at(project, node, Place::At) {
+            Some(valve) => write_dead_end(Name(link_id(project, valve)), f),
+            None => Ok(()),
+        }
     }
 }

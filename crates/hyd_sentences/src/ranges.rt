@@ -57,11 +57,14 @@ fn roughness_fault<'a>(text: &[u8], word: &'a [u8]) -> Option<WrongRange<'a>> {
     Some(WrongRange::Roughness(word, ROUGHNESS, formula_of(text)))
 }
 
-// A time of day in hour 0, which has no AM or PM.
+// A time of day in hour 0 or behind hour 12, which has no AM or PM.
 fn hour_fault<'a>(moment: &'a [u8], half: &'a [u8]) -> Option<WrongRange<'a>> {
-    let hours = before(moment, moment.iter().position(|byte| *byte == b':'));
-    if nano_of(hours)? < BILLION {
+    let hours = nano_of(before(moment, moment.iter().position(|byte| *byte == b':')))?;
+    if hours < BILLION {
         return Some(WrongRange::HourZero(moment, half));
+    }
+    if 13 * BILLION <= hours {
+        return Some(WrongRange::LateHour(moment, half));
     }
     None
 }

@@ -3,7 +3,7 @@
 ghost use Rattle.std.specs.Prelude.{◌≡◌, length};
 ghost use Rattle.hyd_net.specs.ControlsAndRules.{node_count};
 
-use crate::sentences::{Unbounded, Untrue, line_fault};
+use crate::sentences::{FaultyLine, Unbounded, Untrue};
 use crate::stopped::{bounded_by, link_id, node_id};
 use hyd_net::Project;
 use hyd_spec_certificates::CertRefused;
@@ -119,10 +119,11 @@ impl Display for RefusedFlow<'_> {
 impl Display for RefusedLine {
     fn fmt<W: fmt::Write>(&self, f: &mut Formatter<W>) -> fmt::Result {
         let line = self.line;
+        let fault = self.fault;
         write!(
             f,
             "the certificate isn't right in line {line}: {}",
-            line_fault(self.fault)
+            FaultyLine { line, fault }
         )
     }
 }

@@ -5,7 +5,7 @@ use crate::parts_and_limits::{wrong_part, wrong_size};
 use crate::ranges::wrong_range;
 use crate::remedies::{remedy_of, remedy_of_whole};
 use crate::rows::{Row, row_at};
-use crate::sentences::{RemedyFor, Said, whole};
+use crate::sentences::{NO_BYTES, RemedyFor, Said, whole};
 use crate::shown::Shown;
 use crate::syntax::syntax_fault;
 use crate::unknown_names::{earlier_owner, wrong_name};
@@ -49,6 +49,29 @@ fn said_of<'a>(text: &'a [u8], row: &Row<'a>, cause: Cause) -> Said<'a> {
     }
 }
 
+// Whether a text was read that has no byte. One that is too long is handed in as none.
+fn is_without_bytes(text: &[u8], cause: Cause) -> bool {
+    text.is_empty() && !matches!(cause, Cause::Limit(_))
+}
+
+// Says what a cause means of a file as a whole.
+fn write_whole<W: fmt::Write>(refused: &RefusedText<'_>, f: &mut Formatter<W>) -> fmt::Result {
+    let RefusedText {
+        file,
+        text,
+        cause,
+        ..
+    } = *refused;
+    if is_without_bytes(text, cause) {
+        return write!(f, "{file}: {NO_BYTES}");
+    }
+    let remedy = RemedyFor {
+        remedy: remedy_of_whole(cause),
+        file,
+    };
+    write!(f, "{file}: {}{remedy}", whole(cause))
+}
+
 impl Display for RefusedText<'_> {
     fn fmt<W: fmt::Write>(&self, f: &mut Formatter<W>) -> fmt::Result {
         let RefusedText {
@@ -58,11 +81,7 @@ impl Display for RefusedText<'_> {
             cause,
         } = *self;
         if line == 0 {
-            let remedy = RemedyFor {
-                remedy: remedy_of_whole(cause),
-                file,
-            };
-            return write!(f, "{file}: {}{remedy}", whole(cause));
+            return write_whole(self, f);
         }
         match row_at(text, line) {
             Some(row) => {

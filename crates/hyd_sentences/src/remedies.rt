@@ -4,7 +4,7 @@ use crate::forms::{Form, PIPE};
 use crate::forms_of_rows::form_of;
 use crate::formulas::Formula;
 use crate::parts_and_limits::begins_at_flow_0;
-use crate::rows::{Row, body_of, is_one_of, words_of};
+use crate::rows::{Row, body_of, is_one_of, rows_of, words_of};
 use crate::sentences::{
     Remedy, Said, Wrong, WrongLine, WrongName, WrongNumber, WrongPart, WrongRange, WrongSize,
 };
@@ -15,6 +15,9 @@ use hyd_spec_lines::Section;
 
 // The most bytes of a line.
 const LONGEST_LINE: usize = 1_024;
+
+// The greatest roughness, in billionths.
+const GREATEST_ROUGHNESS: i128 = 10_000_000_000;
 
 // The first byte of a byte order mark.
 const BYTE_ORDER_MARK: u8 = 0xEF;
@@ -47,12 +50,19 @@ fn is_rule_word_mended(word: &[u8], keywords: &'static str) -> bool {
         || (is_one_of(b"OPEN", keywords) && read_decimal(word).is_ok())
 }
 
-// Whether the script writes a word as one of some keywords. In TIMES it puts TIMESTEP or CLOCKTIME before a number.
+// Whether the script writes a word of TIMES as one of some keywords: it puts TIMESTEP or CLOCKTIME before a number or in
+// the place of another word, where no START is possible.
+fn is_time_word_mended(word: &[u8], keywords: &'static str) -> bool {
+    word.first()
+        .is_some_and(|byte| byte.is_ascii_alphanumeric())
+        && (is_one_of(b"TIMESTEP", keywords) || is_one_of(b"CLOCKTIME", keywords))
+        && !is_one_of(b"START", keywords)
+}
+
+// Whether the script writes a word as one of some keywords.
 fn is_word_mended(row: &Row<'_>, word: &[u8], keywords: &'static str) -> bool {
     match row.section() {
-        Some(Section::Times) => {
-            word.first().is_some_and(|byte| byte.is_ascii_digit()) && !is_one_of(b"START", keywords)
-        }
+        Some(Section::Times) => is_time_word_mended(word, keywords),
         Some(Section::Rules) => is_rule_word_mended(word, keywords),
         _ => begins_with_one_of(word, keywords) || is_one_of(word, OTHER_WORDS),
     }
@@ -80,12 +90,18 @@ fn is_form_mended(row: &Row<'_>, wrong: Wrong<'_>) -> bool {
         Wrong::ShortHeading(..) | Wrong::BehindHeading(_) | Wrong::UnitBehindMoment(..) => true,
         Wrong::Heading(word) => is_keyword(word, b"[ROUGHNESS]"),
         Wrong::NotAscii(byte, column) => is_byte_mended(row, byte, column),
+        Wrong::TwoBytes => true,
         Wrong::TooFew(..) => is_default_mended(row),
         Wrong::Word(word, keywords) => is_word_mended(row, word, keywords),
         Wrong::ShortWord(word, _) => begins_with_one_of(word, BEGINNINGS),
         Wrong::Moment(word) => is_clock(word),
-        Wrong::Unit(word) => begins_with_one_of(word, "SEC MIN HOU DAY"),
-        Wrong::NoSection | Wrong::TooMany(..) => false,
+        Wrong::Unit(word) => begins_with_one_of(word, "SEC MIN HOU HR DAY"),
+        Wrong::NearHeading(..)
+        | Wrong::NoSection
+        | Wrong::Certificate
+        | Wrong::Report
+        | Wrong::CommentWithin(..)
+        | Wrong::TooMany(..) => false,
     }
 }
 
@@ -166,9 +182,40 @@ fn counted(text: &[u8], row: &Row<'_>) -> Remedy {
     Remedy::None
 }
 
+// Whether a word is above the range of a roughness, as a C of Hazen-Williams is.
+fn is_large_roughness(word: &[u8]) -> bool {
+    matches!(read_decimal(word), Ok(number) if GREATEST_ROUGHNESS < number.nano)
+}
+
+// Whether a row says the units.
+fn says_units(row: &Row<'_>) -> bool {
+    matches!(row.section(), Some(Section::Options)) && row.has(0, "UNITS")
+}
+
+// What helps where numbers of a section are out of a range that is given in other units than the file's.
+fn remedy_of_section(text: &[u8], section: Section) -> Remedy {
+    let has_units = matches!(
+        section,
+        Section::Junctions
+            | Section::Demands
+            | Section::Reservoirs
+            | Section::Tanks
+            | Section::Pumps
+            | Section::Valves
+    );
+    if has_units && !rows_of(text).any(|row| says_units(&row)) {
+        return Remedy::NoUnits;
+    }
+    Remedy::None
+}
+
 // What helps with a value out of its range.
 fn remedy_of_range(text: &[u8], row: &Row<'_>, wrong: WrongRange<'_>) -> Remedy {
     match wrong {
+        WrongRange::Roughness(word, _, Formula::Manning) if is_large_roughness(word) => {
+            Remedy::ManningOfOther
+        }
+        WrongRange::Section(section) => remedy_of_section(text, section),
         WrongRange::Roughness(_, _, Formula::HazenWilliams(_) | Formula::Untold) => Remedy::Manning,
         WrongRange::Roughness(_, _, Formula::DarcyWeisbach(_)) => Remedy::None,
         WrongRange::Number(..)

@@ -1,5 +1,5 @@
-//! The texts of all sentences: what is wrong with a row of a text, by its cause, what mends it, what a stop means, what of a
-//! certificate isn't so, and how far work has come. Names, words, lines and numbers are filled in.
+//! The texts of all sentences: what is wrong with a row of a text, by its cause, what mends it, what a stop means, what
+//! of a certificate isn't so, and how far work has come. Names, words, lines and numbers are filled in.
 
 use crate::forms::Bound;
 use crate::formulas::Formula;
@@ -7,7 +7,9 @@ use crate::progress::{PipesDone, Progress};
 use crate::quantities::{Billionths, Clock, Hours, Quantity};
 use crate::refused_certificates::LineFault;
 use crate::shown::{Name, OneOf};
+use crate::undecided_end::Aim;
 use hyd_net::Cause;
+use hyd_num::FlowUnit;
 use hyd_spec_certificates::Side;
 use hyd_spec_lines::Section;
 use std::fmt::{self, Display, Formatter};
@@ -219,6 +221,10 @@ pub(crate) fn general_limit(limit: u8) -> &'static str {
     }
 }
 
+/// What is said of a file without a byte.
+pub(crate) const NO_BYTES: &str =
+    "the file is empty: the network is an EPANET input file, with a reservoir or a tank at least";
+
 /// What a cause means of a file as a whole.
 pub(crate) fn whole(cause: Cause) -> &'static str {
     match cause {
@@ -237,14 +243,24 @@ pub(crate) enum Wrong<'a> {
     Heading(&'a [u8]),
     /// The beginning of a heading.
     ShortHeading(&'a [u8], &'static str),
+    /// A heading but for a letter.
+    NearHeading(&'a [u8], &'static str),
     /// Words behind a heading.
     BehindHeading(&'a [u8]),
     /// A byte that isn't printing ASCII, and its column.
     NotAscii(u8, usize),
+    /// A text of two bytes for each letter.
+    TwoBytes,
     /// A row before the first heading.
     NoSection,
+    /// A certificate in the place of the network.
+    Certificate,
+    /// A report in the place of the network.
+    Report,
     /// Words are missing: how many there are, how many are needed, what the row should be.
     TooFew(usize, usize, &'static str),
+    /// The same where a semicolon stands within a word.
+    CommentWithin(usize, usize, &'static str),
     /// A word too many; what the row should be.
     TooMany(&'a [u8], &'static str),
     /// A word that isn't one of some keywords.
@@ -274,6 +290,13 @@ impl Display for Wrong<'_> {
             Wrong::ShortHeading(word, heading) => {
                 write!(f, "{} is no section's heading: write {heading}", Name(word))
             }
+            Wrong::NearHeading(word, heading) => {
+                write!(
+                    f,
+                    "{} is no section's heading: did you mean {heading}?",
+                    Name(word)
+                )
+            }
             Wrong::BehindHeading(word) => {
                 write_around(
                     "",
@@ -285,15 +308,31 @@ impl Display for Wrong<'_> {
             Wrong::NotAscii(byte, column) => {
                 write!(
                     f,
-                    "byte {byte} in column {column} isn't printing ASCII, and so may stand in comments alone"
+                    "byte {byte} in column {column} isn't printing ASCII: it may stand in comments and in sections that are skipped, as [TITLE] and [TAGS], but in no name and no keyword"
                 )
             }
+            Wrong::TwoBytes => f.write_str(
+                "the file seems to be in UTF-16, with two bytes for each letter: save it as plain text in ASCII or UTF-8",
+            ),
             Wrong::NoSection => f.write_str("a row before the first heading, as [JUNCTIONS]"),
+            Wrong::Certificate => f.write_str(
+                "this is a certificate and no network: in the command NET stands before CERT",
+            ),
+            Wrong::Report => f.write_str(
+                "this is a report and no network: NET is the EPANET input file that was run",
+            ),
             Wrong::TooFew(count, needed, form) => {
                 let words = words_word(count);
                 write!(
                     f,
                     "the row has {count} {words}, and needs {needed} at least: {form}"
+                )
+            }
+            Wrong::CommentWithin(count, needed, form) => {
+                let words = words_word(count);
+                write!(
+                    f,
+                    "; begins a comment, and before it the row has {count} {words}, and needs {needed} at least, parted by spaces: {form}"
                 )
             }
             Wrong::TooMany(word, form) => write!(f, "{} is a word too many for {form}", Name(word)),
@@ -339,6 +378,8 @@ impl Display for Wrong<'_> {
 pub(crate) enum WrongLine<'a> {
     /// No option.
     Option(&'a [u8]),
+    /// The option UNITS with a word before it; the unit.
+    FlowUnits(&'a [u8]),
     /// No time.
     Time(&'a [u8]),
     /// A first word of no line of a rule.
@@ -372,6 +413,12 @@ impl Display for WrongLine<'_> {
                 "",
                 word,
                 " is no option that this program knows",
+                f,
+            ),
+            WrongLine::FlowUnits(unit) => write_around(
+                "the option is the one word UNITS: write UNITS ",
+                unit,
+                "",
                 f,
             ),
             WrongLine::Time(word) => {
@@ -529,6 +576,8 @@ pub(crate) enum WrongRange<'a> {
     Roughness(&'a [u8], Bound, Formula),
     /// A time of day in hour 0, and AM or PM behind it.
     HourZero(&'a [u8], &'a [u8]),
+    /// A time of day behind hour 12, and AM or PM behind it.
+    LateHour(&'a [u8], &'a [u8]),
     /// Something of a row of a section.
     Section(Section),
 }
@@ -571,6 +620,12 @@ impl Display for WrongRange<'_> {
             WrongRange::HourZero(moment, half) => write!(
                 f,
                 "{} {} is in hour 0: with AM or PM hours are 1 to 12, and midnight is 12:00 AM",
+                Name(moment),
+                Name(half)
+            ),
+            WrongRange::LateHour(moment, half) => write!(
+                f,
+                "{} {} is behind hour 12: with AM or PM hours are 1 to 12, and without they go on to 23",
                 Name(moment),
                 Name(half)
             ),
@@ -678,6 +733,8 @@ pub(crate) enum WrongName<'a> {
     OtherKind(&'a [u8], &'a [u8], Section),
     /// The pressure of a reservoir.
     ReservoirPressure(&'a [u8]),
+    /// A name in quotes, and the same without, which is one.
+    Quoted(&'a [u8], &'a [u8]),
 }
 
 impl Display for WrongName<'_> {
@@ -712,6 +769,12 @@ impl Display for WrongName<'_> {
                     f,
                 )
             }
+            WrongName::Quoted(name, bare) => write!(
+                f,
+                "{} is read with its quotes, and nothing is called so: write {}",
+                Name(name),
+                Name(bare)
+            ),
         }
     }
 }
@@ -898,6 +961,10 @@ pub(crate) enum Remedy {
     FourthPoint,
     /// `scripts/manning.py` gives pipes their Manning roughness.
     Manning,
+    /// The same, of a file that says that its roughness is Manning's already.
+    ManningOfOther,
+    /// The units that are taken where no line says them.
+    NoUnits,
 }
 
 /// The same, for a file.
@@ -929,11 +996,33 @@ impl Display for RemedyFor<'_> {
                 f,
                 ". scripts/prepare.py {file} -o NEW.inp says which point on EPANET's own curve could be the fourth"
             ),
-            Remedy::Manning => write!(
+            Remedy::Manning => write!(f, ". {}", ManningBySpeed { file }),
+            Remedy::ManningOfOther => write!(
                 f,
-                ". scripts/manning.py {file} -o NEW.inp --speed 0.5 gives each pipe the Manning roughness of equal loss at 0.5 m/s (docs/HAZEN_WILLIAMS.md)"
+                ". If these are C of Hazen-Williams, write HEADLOSS H-W; then {}",
+                ManningBySpeed { file }
+            ),
+            Remedy::NoUnits => f.write_str(
+                ". There is no UNITS line in [OPTIONS], so GPM, feet and psi are taken",
             ),
         }
+    }
+}
+
+// What gives pipes their Manning roughness.
+#[derive(Clone, Copy)]
+struct ManningBySpeed<'a> {
+    // The file's name.
+    file: &'a str,
+}
+
+impl Display for ManningBySpeed<'_> {
+    fn fmt<W: fmt::Write>(&self, f: &mut Formatter<W>) -> fmt::Result {
+        let file = self.file;
+        write!(
+            f,
+            "scripts/manning.py {file} -o NEW.inp --speed 0.5 gives each pipe the Manning roughness of equal loss at 0.5 m/s (docs/HAZEN_WILLIAMS.md)"
+        )
     }
 }
 
@@ -1005,6 +1094,19 @@ pub(crate) struct Compared {
     pub hi: Quantity,
 }
 
+/// The level of a tank where it isn't decided whether it has come to where a period ends.
+#[derive(Clone, Copy)]
+pub(crate) struct Reached<'a> {
+    /// The tank.
+    pub tank: &'a [u8],
+    /// Its level.
+    pub level: Compared,
+    /// What the period ends by.
+    pub aim: Aim,
+    /// The level at which it does.
+    pub target: Quantity,
+}
+
 /// What a clause of a rule speaks of.
 #[derive(Clone, Copy)]
 pub(crate) enum Watched<'a> {
@@ -1050,10 +1152,12 @@ pub(crate) enum Meaning<'a> {
         level: Compared,
         bound: Quantity,
     },
-    /// The end of the period.
+    /// The end of the period, and which level may bring it, where that is known.
     Event {
         earliest: Clock,
         latest: Clock,
+        reached: Option<Reached<'a>>,
+        unit: FlowUnit,
     },
     /// Rounds that are spent.
     Rounds {
@@ -1103,6 +1207,53 @@ impl Display for Watched<'_> {
             Watched::Flow(link) => write_around("the flow of ", link, "", f),
             Watched::Other => f.write_str("what it measures"),
         }
+    }
+}
+
+impl Display for Aim {
+    fn fmt<W: fmt::Write>(&self, f: &mut Formatter<W>) -> fmt::Result {
+        match *self {
+            Aim::Maximum => f.write_str("its maximum"),
+            Aim::Minimum => f.write_str("its minimum"),
+            Aim::Control(number) => write!(f, "the level of control {number}"),
+        }
+    }
+}
+
+impl Display for Reached<'_> {
+    fn fmt<W: fmt::Write>(&self, f: &mut Formatter<W>) -> fmt::Result {
+        let Reached {
+            tank,
+            level,
+            aim,
+            target,
+        } = *self;
+        write!(
+            f,
+            "the level of the tank {} is {level}, and {aim} {target}",
+            Name(tank)
+        )
+    }
+}
+
+// The level that may bring the end of a period at a time, where it is known.
+fn write_reached<W: fmt::Write>(
+    time: Clock,
+    reached: Option<Reached<'_>>,
+    f: &mut Formatter<W>,
+) -> fmt::Result {
+    match reached {
+        Some(reached) => write!(f, ". At {time} {reached}"),
+        None => Ok(()),
+    }
+}
+
+// What is said of units that may have been meant otherwise.
+fn units_word(unit: FlowUnit) -> &'static str {
+    match unit {
+        FlowUnit::Gpm =>
+            ". The unit is GPM and levels are in feet, as they are too where the file has no UNITS line",
+        _ => "",
     }
 }
 
@@ -1165,16 +1316,23 @@ impl Display for Meaning<'_> {
                     Name(tank)
                 )
             }
-            Meaning::Event { earliest, latest } => {
+            Meaning::Event {
+                earliest,
+                latest,
+                reached,
+                unit,
+            } => {
                 write!(
                     f,
-                    "it isn't decided in which second the period ends, between {earliest} and {latest}: another level of a control or a tank, --tight, a smaller --width or a shorter hydraulic time step may decide it"
-                )
+                    "it isn't decided in which second the period ends, between {earliest} and {latest}"
+                )?;
+                write_reached(earliest, reached, f)?;
+                write!(f, "{END_ADVICE}{}", units_word(unit))
             }
             Meaning::Rounds { bounded, rounds } => {
                 write!(
                     f,
-                    "{rounds} rounds didn't find heads that bound the solutions {bounded}: give a greater --sweeps; with --tight, try it without. So it looks too where a demand is more than the links carry, or a tank has just become empty"
+                    "{rounds} rounds didn't find heads that bound the solutions {bounded}: give a greater --sweeps; with --tight, try it without. So it looks too where two junctions or more are cut off together, where a demand is more than the links carry, or where a tank has just become empty"
                 )
             }
             Meaning::Demand { junction, demand } => {
@@ -1189,6 +1347,39 @@ impl Display for Meaning<'_> {
             ),
         }
     }
+}
+
+// What helps where it isn't decided when a period ends.
+const END_ADVICE: &str =
+    ": start from another level, or at another clock time; another level of a control does it too, by a millimetre. Where a pump stands before junctions without a demand, a small demand there (0.001) makes intervals narrower; --tight or a smaller --width may do so, and may not";
+
+/// What is said of a tank that lets no water out, or takes none.
+pub(crate) fn tank_at_bound(full: bool) -> &'static str {
+    if full {
+        " is full from then on, and takes no water"
+    } else {
+        " is empty from then on, and gives no water"
+    }
+}
+
+/// Writes that two junctions are cut off together.
+pub(crate) fn write_pair<W: fmt::Write>(
+    first: Name<'_>,
+    second: Name<'_>,
+    f: &mut Formatter<W>,
+) -> fmt::Result {
+    write!(
+        f,
+        ". The junctions {first} and {second} are joined to each other alone: join one of them to a source, or leave them out"
+    )
+}
+
+/// Writes that no water is drawn behind a check valve.
+pub(crate) fn write_dead_end<W: fmt::Write>(pipe: Name<'_>, f: &mut Formatter<W>) -> fmt::Result {
+    write!(
+        f,
+        ". No water is drawn behind the check valve of pipe {pipe}: a demand of 0.001 there, or an open pipe in its place, mends it"
+    )
 }
 
 /// Where links are that may let no water pass.
@@ -1330,15 +1521,42 @@ impl Display for Unbounded<'_> {
     }
 }
 
-/// What is wrong with a line of a certificate.
-pub(crate) fn line_fault(fault: LineFault) -> &'static str {
-    match fault {
-        LineFault::Grammar =>
-            "if that is the last line of the file or the one behind it, the certificate seems to be cut off, since it has no whole END line: the run that wrote it didn't finish, or the file was truncated. Else the line can't stand there: it has another word, a number that is too large or has a zero in front, a head too few or too many, or more than 64 bytes, or it stands behind the END line (docs/CERTIFICATES.md, \"Its lines\")",
-        LineFault::Counts =>
-            "it is of another network: another version, or other numbers of junctions or tanks",
-        LineFault::End =>
-            "the END line isn't true: it counts other records than stand above it, or says FINISHED before the duration or STOPPED at it",
+/// A line of a certificate, and what is wrong with it.
+#[derive(Clone, Copy)]
+pub(crate) struct FaultyLine {
+    /// The line, counted from 1.
+    pub line: u64,
+    /// What is wrong with it.
+    pub fault: LineFault,
+}
+
+// What is said of a line that can't stand where it does.
+fn write_grammar<W: fmt::Write>(line: u64, f: &mut Formatter<W>) -> fmt::Result {
+    if line <= 1 {
+        return f.write_str(NO_CERTIFICATE);
+    }
+    let last = line.saturating_sub(1);
+    write!(
+        f,
+        "if the file ends at line {last} or within line {line}, it seems to be cut off, since it has no whole END line: the run that wrote it didn't finish, or the file was truncated. Else the line can't stand there: it has another word, a number that is too large or has a zero in front, a head too few or too many, or more than 64 bytes, or it stands behind the END line (docs/CERTIFICATES.md, \"Its lines\")"
+    )
+}
+
+// What is said of a file that doesn't begin as a certificate.
+const NO_CERTIFICATE: &str =
+    "a certificate begins with a line HYDCERT and its counts, and this file doesn't. Either it is empty; or it is a report, which begins with HYD 1, or a network, where CERT should stand; or its lines end by a carriage return and a line feed, where a certificate has line feeds alone; or it is cut off there";
+
+impl Display for FaultyLine {
+    fn fmt<W: fmt::Write>(&self, f: &mut Formatter<W>) -> fmt::Result {
+        match self.fault {
+            LineFault::Grammar => write_grammar(self.line, f),
+            LineFault::Counts => f.write_str(
+                "it is of another network: another version, or other numbers of junctions or tanks",
+            ),
+            LineFault::End => f.write_str(
+                "the END line isn't true: it counts other records than stand above it, or says FINISHED before the duration or STOPPED at it",
+            ),
+        }
     }
 }
 

@@ -3,13 +3,39 @@
 ghost use Rattle.std.specs.Prelude.{◌≡◌, length};
 ghost use Rattle.hyd_net.specs.ControlsAndRules.{node_count};
 
-use crate::links_around::Around;
+use crate::cut_off_together::CutOffTogether;
+use crate::links_around::{Around, DeadEnd};
 use crate::quantities::{Clock, Measure, Quantity};
-use crate::sentences::{Bounded, Compared, Meaning, Pinned, Watched};
-use hyd_net::{Clause, Control, Project, Tank, Value, What, When};
-use hyd_spec_certificates::{Problem, Side, StopCause};
+use crate::sentences::{Bounded, Compared, Meaning, Pinned, Reached, Watched};
+use crate::tanks_at_bounds::TanksAtBounds;
+use crate::undecided_end::{UndecidedEnd, undecided_end};
+use hyd_net::{Clause, Control, LinkState, Project, Tank, Value, What, When};
+use hyd_num::Span;
+use hyd_spec_certificates::{LevelSpan, Problem, Side, StopCause};
 use hyd_units::Way;
 use std::fmt::{self, Display, Formatter};
+
+/// What is known of the period in which a run stops. Each list may be empty, where that isn't known.
+#[derive(Clone, Copy)]
+pub struct DuePeriod<'a> {
+    /// The levels of tanks at its start, in head ticks above their bottoms.
+    pub levels: &'a [LevelSpan],
+    /// What flows into tanks in it, in flow ticks.
+    pub inflows: &'a [Span],
+    /// The states of links in it.
+    pub links: &'a [LinkState],
+}
+
+impl DuePeriod<'_> {
+    /// A period of which nothing is known.
+    pub fn unknown() -> DuePeriod<'static> {
+        DuePeriod {
+            levels: &[],
+            inflows: &[],
+            links: &[],
+        }
+    }
+}
 
 /// What a stop of a run means: the period's start, what isn't decided there, and what to try.
 #[derive(Clone, Copy)]
@@ -20,6 +46,8 @@ pub struct Stopped<'a> {
     pub time: u32,
     /// Why the run stops.
     pub cause: StopCause,
+    /// What is known of that period.
+    pub due: DuePeriod<'a>,
     pub ghost nodes: { length project.now.node_ids ≡ node_count project.now },
     pub ghost links: { length project.now.link_ids ≡ length project.now.links.list },
 }
@@ -144,6 +172,34 @@ fn control_meaning(project: &Project, number: u32, lo: i128, hi: i128) -> Meanin
     }
 }
 
+// The level by which a period may end, or not.
+fn reached_by(project: &Project, end: UndecidedEnd) -> Reached<'_>
+    requires { length project.now.node_ids ≡ node_count project.now }
+{
+    Reached {
+        tank: tank_id(project, end.tank),
+        level: interval(project, Measure::Head, end.lo, end.hi),
+        aim: end.aim,
+        target: measured(project, Measure::Head, end.target, Way::Down),
+    }
+}
+
+// A period of which it is open in which second it ends.
+fn event_meaning(stopped: Stopped<'_>, earliest: u32, latest: u32) -> Meaning<'_> {
+    let project = stopped.project;
+    let start = u64::from(stopped.time);
+    let reached = match undecided_end(project, stopped.due, earliest) {
+        Some(end) => Some(reached_by(project, end)),
+        None => None,
+    };
+    Meaning::Event {
+        earliest: Clock(start.saturating_add(u64::from(earliest))),
+        latest: Clock(start.saturating_add(u64::from(latest))),
+        reached,
+        unit: project.options.unit,
+    }
+}
+
 // What a clause of a rule speaks of, and how that is measured.
 fn watched_by(project: &Project, what: What) -> (Watched<'_>, Option<Measure>)
     requires nodes { length project.now.node_ids ≡ node_count project.now }
@@ -219,10 +275,7 @@ fn meaning_of(stopped: Stopped<'_>) -> Meaning<'_> {
             earliest,
             latest,
             ..
-        } => Meaning::Event {
-            earliest: Clock(u64::from(stopped.time).saturating_add(u64::from(earliest))),
-            latest: Clock(u64::from(stopped.time).saturating_add(u64::from(latest))),
-        },
+        } => event_meaning(stopped, earliest, latest),
         StopCause::RoundsSpent {
             problem,
             side,
@@ -243,19 +296,39 @@ fn meaning_of(stopped: Stopped<'_>) -> Meaning<'_> {
     }
 }
 
+// Writes what may cut a junction off in a period.
+fn write_cut_off<W: fmt::Write>(
+    stopped: Stopped<'_>,
+    node: u32,
+    f: &mut Formatter<W>,
+) -> fmt::Result {
+    let project = stopped.project;
+    let levels = stopped.due.levels;
+    let around = Around { project, node };
+    let dead_end = DeadEnd { project, node };
+    let tanks = TanksAtBounds { project, levels };
+    write!(f, "{around}{dead_end}{tanks}")
+}
+
+// Writes what may have spent the rounds of a period.
+fn write_spent<W: fmt::Write>(stopped: Stopped<'_>, f: &mut Formatter<W>) -> fmt::Result {
+    let Stopped { project, due, .. } = stopped;
+    let pair = CutOffTogether { project, due };
+    let tanks = TanksAtBounds {
+        project,
+        levels: due.levels,
+    };
+    write!(f, "{pair}{tanks}")
+}
+
 impl Display for Stopped<'_> {
     fn fmt<W: fmt::Write>(&self, f: &mut Formatter<W>) -> fmt::Result {
         let time = Clock(u64::from(self.time));
         let meaning = meaning_of(*self);
         write!(f, "stopped in the period that begins at {time}: {meaning}")?;
         match self.cause {
-            StopCause::NoCertificate { junction, .. } => {
-                let around = Around {
-                    project: self.project,
-                    node: junction,
-                };
-                write!(f, "{around}")
-            }
+            StopCause::NoCertificate { junction, .. } => write_cut_off(*self, junction, f),
+            StopCause::RoundsSpent { .. } => write_spent(*self, f),
             _ => Ok(()),
         }
     }

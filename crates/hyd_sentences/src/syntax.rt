@@ -16,6 +16,11 @@ use hyd_spec_lines::{Region, Section};
 // The fewest letters of a beginning that is taken for a whole word.
 const FEWEST: usize = 3;
 
+// How a text of two bytes for each letter begins.
+const LOW_BYTE_FIRST: &[u8] = &[0xFF, 0xFE];
+
+const HIGH_BYTE_FIRST: &[u8] = &[0xFE, 0xFF];
+
 const UNITS: &str = "SEC SECONDS MIN MINUTES HOUR HOURS DAY DAYS";
 
 const RULE_WORDS: &str = "RULE IF AND OR THEN ELSE PRIORITY";
@@ -58,6 +63,9 @@ fn odd_byte<'a>(line: &[u8]) -> Option<Wrong<'a>> {
     let body = body_of(line);
     let place = body.iter().position(|byte| !is_plain(*byte))?;
     let byte = *body.get(place)?;
+    if byte == 0 || line.starts_with(LOW_BYTE_FIRST) || line.starts_with(HIGH_BYTE_FIRST) {
+        return Some(Wrong::TwoBytes);
+    }
     Some(Wrong::NotAscii(byte, place.saturating_add(1)))
 }
 
@@ -74,6 +82,55 @@ fn whole_heading(word: &[u8]) -> Option<&'static str> {
         .iter()
         .find(|heading| is_beginning(front, heading.text.as_bytes()))?;
     Some(heading.text)
+}
+
+// How many bytes two texts have alike at their fronts, in any letter case.
+fn alike_in_front(first: &[u8], second: &[u8]) -> usize {
+    let mut count = 0_usize;
+    for (one, other) in first.iter().zip(second) {
+        if !one.eq_ignore_ascii_case(other) {
+            return count;
+        }
+        count = count.saturating_add(1);
+    }
+    count
+}
+
+// What stands behind so many bytes.
+fn bytes_behind(bytes: &[u8], count: usize) -> &[u8] {
+    match bytes.get(count..) {
+        Some(rest) => rest,
+        None => b"",
+    }
+}
+
+// Whether a word is another one but for a letter that is missing, too many or wrong.
+fn is_near(word: &[u8], other: &[u8]) -> bool {
+    let alike = alike_in_front(word, other);
+    let behind = alike.saturating_add(1);
+    let left = bytes_behind(word, alike);
+    let rest = bytes_behind(word, behind);
+    let wanted = bytes_behind(other, alike);
+    let wanted_rest = bytes_behind(other, behind);
+    left.eq_ignore_ascii_case(wanted_rest)
+        || rest.eq_ignore_ascii_case(wanted)
+        || rest.eq_ignore_ascii_case(wanted_rest)
+}
+
+// The heading that a word is but for a letter.
+fn near_heading(word: &[u8]) -> Option<&'static str> {
+    let heading = HEADINGS
+        .iter()
+        .find(|heading| is_near(word, heading.text.as_bytes()))?;
+    Some(heading.text)
+}
+
+// A heading of no section.
+fn no_heading(word: &[u8]) -> Wrong<'_> {
+    match near_heading(word) {
+        Some(heading) => Wrong::NearHeading(word, heading),
+        None => Wrong::Heading(word),
+    }
 }
 
 // What is wrong with a heading.
@@ -94,7 +151,7 @@ fn heading_fault<'a>(row: &Row<'a>) -> Option<Wrong<'a>> {
     }
     match whole_heading(word) {
         Some(heading) => Some(Wrong::ShortHeading(word, heading)),
-        None => Some(Wrong::Heading(word)),
+        None => Some(no_heading(word)),
     }
 }
 
@@ -155,10 +212,27 @@ fn slot_fault<'a>(filled: &Filled<'a>) -> Option<Wrong<'a>> {
     }
 }
 
+// Whether a byte can't be seen.
+fn is_space(byte: u8) -> bool {
+    byte == b' ' || byte == b'\t'
+}
+
+// Whether the comment of a line begins within a word.
+fn has_comment_within(line: &[u8]) -> bool {
+    let body = body_of(line);
+    match (body.last(), line.get(body.len().saturating_add(1))) {
+        (Some(last), Some(next)) => !is_space(*last) && !is_space(*next),
+        _ => false,
+    }
+}
+
 // Too few words, or too many.
 fn count_fault<'a>(row: &Row<'a>, form: &Form) -> Option<Wrong<'a>> {
     let count = row.count();
     if count < form.needed {
+        if has_comment_within(row.line) {
+            return Some(Wrong::CommentWithin(count, form.needed, form.text));
+        }
         return Some(Wrong::TooFew(count, form.needed, form.text));
     }
     if form.slots.len() < count && !form.more {
@@ -230,6 +304,14 @@ fn first_word_fault<'a>(
     }
 }
 
+// A first word that is no option.
+fn option_fault<'a>(row: &Row<'a>) -> Option<Said<'a>> {
+    if row.has(0, "FLOW") && row.has(1, "UNITS") {
+        return Some(Said::WrongLine(WrongLine::FlowUnits(row.word(2))));
+    }
+    first_word_fault(row, OPTIONS, WrongLine::Option(row.word(0)))
+}
+
 // A line of a rule in a wrong place.
 fn rule_order_fault<'a>(text: &[u8], row: &Row<'a>) -> Option<Said<'a>> {
     let first = row.word(0);
@@ -247,7 +329,7 @@ fn rule_order_fault<'a>(text: &[u8], row: &Row<'a>) -> Option<Said<'a>> {
 fn early_fault<'a>(text: &[u8], row: &Row<'a>, section: Section) -> Option<Said<'a>> {
     let first = row.word(0);
     match section {
-        Section::Options => first_word_fault(row, OPTIONS, WrongLine::Option(first)),
+        Section::Options => option_fault(row),
         Section::Times => first_word_fault(row, TIMES, WrongLine::Time(first)),
         Section::Rules => rule_order_fault(text, row),
         Section::Tanks if row.count() == 2 || row.count() == 3 => {
@@ -314,6 +396,21 @@ fn row_fault<'a>(text: &[u8], row: &Row<'a>, section: Section) -> Option<Said<'a
     }
 }
 
+// What is wrong with a row before the first heading.
+fn front_fault<'a>(row: &Row<'a>) -> Wrong<'a> {
+    if let Some(odd) = odd_byte(row.line) {
+        return odd;
+    }
+    let first = row.word(0);
+    if first == b"HYDCERT".as_slice() {
+        return Wrong::Certificate;
+    }
+    if first == b"HYD".as_slice() {
+        return Wrong::Report;
+    }
+    Wrong::NoSection
+}
+
 /// What is wrong with the form of a line, where that is found.
 pub(crate) fn syntax_fault<'a>(text: &[u8], row: &Row<'a>) -> Option<Said<'a>> {
     if row.is_heading() {
@@ -323,10 +420,7 @@ pub(crate) fn syntax_fault<'a>(text: &[u8], row: &Row<'a>) -> Option<Said<'a>> {
         return None;
     }
     match row.region {
-        Region::BeforeHeadings => match odd_byte(row.line) {
-            Some(odd) => Some(Said::Wrong(odd)),
-            None => Some(Said::Wrong(Wrong::NoSection)),
-        },
+        Region::BeforeHeadings => Some(Said::Wrong(front_fault(row))),
         Region::Read(section) => row_fault(text, row, section),
         Region::PassedOver | Region::Ended => None,
     }

@@ -24,10 +24,40 @@ pub(crate) fn earlier_owner<'a>(text: &'a [u8], row: &Row<'a>) -> Option<Duplica
     })
 }
 
+// A name without the quotes around it.
+fn without_quotes(name: &[u8]) -> Option<&[u8]> {
+    match name {
+        [b'"', bare @ .., b'"'] => Some(bare),
+        _ => None,
+    }
+}
+
+// A name in quotes that names something without them.
+fn quoted<'a>(text: &[u8], table: Table, name: &'a [u8]) -> Option<WrongName<'a>> {
+    let bare = without_quotes(name)?;
+    match owner(text, table, bare) {
+        Some(_) => Some(WrongName::Quoted(name, bare)),
+        None => None,
+    }
+}
+
+// What is wrong with a name that nothing of a table has.
+fn none_called<'a>(
+    text: &[u8],
+    table: Table,
+    name: &'a [u8],
+    wrong: WrongName<'a>,
+) -> Option<WrongName<'a>> {
+    match quoted(text, table, name) {
+        Some(quoted) => Some(quoted),
+        None => Some(wrong),
+    }
+}
+
 // A name that no node has, or one of another kind than the word before it says.
 fn node_fault<'a>(text: &[u8], said: &'a [u8], name: &'a [u8]) -> Option<WrongName<'a>> {
     let Some(node) = owner(text, Table::Nodes, name) else {
-        return Some(WrongName::NoNode(name));
+        return none_called(text, Table::Nodes, name, WrongName::NoNode(name));
     };
     let section = node.section()?;
     if allows(said, section) {
@@ -39,7 +69,7 @@ fn node_fault<'a>(text: &[u8], said: &'a [u8], name: &'a [u8]) -> Option<WrongNa
 // The same of a link.
 fn link_fault<'a>(text: &[u8], said: &'a [u8], name: &'a [u8]) -> Option<WrongName<'a>> {
     let Some(link) = owner(text, Table::Links, name) else {
-        return Some(WrongName::NoLink(name));
+        return none_called(text, Table::Links, name, WrongName::NoLink(name));
     };
     let section = link.section()?;
     if allows(said, section) {
@@ -51,7 +81,7 @@ fn link_fault<'a>(text: &[u8], said: &'a [u8], name: &'a [u8]) -> Option<WrongNa
 // A name that no junction has.
 fn junction_fault<'a>(text: &[u8], name: &'a [u8]) -> Option<WrongName<'a>> {
     let Some(node) = owner(text, Table::Nodes, name) else {
-        return Some(WrongName::NoNode(name));
+        return none_called(text, Table::Nodes, name, WrongName::NoNode(name));
     };
     match node.section()? {
         Section::Junctions => None,
@@ -63,7 +93,7 @@ fn junction_fault<'a>(text: &[u8], name: &'a [u8]) -> Option<WrongName<'a>> {
 fn pattern_fault<'a>(text: &[u8], name: &'a [u8]) -> Option<WrongName<'a>> {
     match owner(text, Table::Patterns, name) {
         Some(_) => None,
-        None => Some(WrongName::NoPattern(name)),
+        None => none_called(text, Table::Patterns, name, WrongName::NoPattern(name)),
     }
 }
 
@@ -74,7 +104,7 @@ fn curve_fault<'a>(text: &[u8], name: &'a [u8]) -> Option<WrongName<'a>> {
     }
     match owner(text, Table::Curves, name) {
         Some(_) => None,
-        None => Some(WrongName::NoCurve(name)),
+        None => none_called(text, Table::Curves, name, WrongName::NoCurve(name)),
     }
 }
 

@@ -4,10 +4,9 @@ ghost use Rattle.std.specs.Prelude.{◌≡◌, length, IfOk};
 use crate::numeric_factorization::eliminate;
 use crate::pattern::Pattern;
 use crate::pattern_from_links::make_pattern;
-use crate::solution::solve;
+use crate::solution::{solve, solve_reals};
 use std::alloc::{AllocError as OutOfMemory, Global};
 use std::marker::Model;
-use std::num::nearest_i64_to_f64;
 
 /// The number that stands for 1 in the matrix: its numbers are whole multiples of 2^-29.
 pub const UNIT: i64 = 536870912;
@@ -86,12 +85,34 @@ impl Factor {
         requires { length b.old ≡ self.now.nodes }
         ensures { length b.new ≡ length b.old }
     {
-        solve(
-            &self.pattern,
-            &self.pivots,
-            &self.values,
-            nearest_i64_to_f64(UNIT),
-            b,
-        );
+        solve(&self.pattern, &self.pivots, &self.values, b);
+    }
+
+    /// Factors the matrix with these numbers in floating point: `diagonal` has one for each node, `off`
+    /// one for each row that the factor was opened with; lists of other lengths are passed over. Pivots
+    /// are 2^-30 at least.
+    pub fn factor_reals(&mut self, diagonal: &[f64], off: &[f64])
+        ensures { self.new ≡ self.old }
+    {
+        if diagonal.len() == self.pattern.columns.len() && off.len() == self.pattern.links {
+            eliminate(
+                &self.pattern,
+                diagonal,
+                off,
+                &mut self.pivots,
+                &mut self.values,
+                &mut self.sums,
+            );
+        }
+    }
+
+    /// Puts in place of b, which has a number for each node, the solution x of A x = b for the matrix
+    /// A, in floating point. A list of another length is left as it is.
+    pub fn solve_reals(&self, b: &mut [f64])
+        ensures { length b.new ≡ length b.old }
+    {
+        if b.len() == self.pattern.columns.len() {
+            solve_reals(&self.pattern, &self.pivots, &self.values, b);
+        }
     }
 }

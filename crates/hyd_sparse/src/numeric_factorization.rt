@@ -7,22 +7,45 @@ use crate::pattern::Pattern;
 use crate::tables::{Span, Term, Update};
 use std::num::nearest_i64_to_f64;
 
-/// Half a unit of the matrix. A pivot below it, or one that is no number, is put to it, so that
-/// each column has a pivot to divide by.
-const LEAST_PIVOT: f64 = 0.5;
+/// Half a unit of the matrix, 2^-30. A pivot below it, or one that is no number, is put to it, so
+/// that each column has a pivot to divide by.
+const LEAST_PIVOT: f64 = 0.000000000931322574615478515625;
+
+/// One unit, 2^-29.
+const ONE_UNIT: f64 = 0.00000000186264514923095703125;
+
+/// A number of a matrix.
+pub(crate) trait Entry: Copy {
+    /// The number itself.
+    fn value(self) -> f64;
+}
+
+/// A number in floating point.
+impl Entry for f64 {
+    fn value(self) -> f64 {
+        self
+    }
+}
+
+/// A number in units of 1 / `UNIT`.
+impl Entry for i64 {
+    fn value(self) -> f64 {
+        nearest_i64_to_f64(self) * ONE_UNIT
+    }
+}
 
 /// Adds a column's numbers off the diagonal to the sums of their rows.
-fn add_terms(sums: &mut [f64], terms: &[Term], off: &[i64])
+fn add_terms<E: Entry>(sums: &mut [f64], terms: &[Term], off: &[E])
     requires { All (IsTerm (length sums.old) (length off.now)) terms.now }
     ensures { length sums.new ≡ length sums.old }
 {
     for term in terms {
-        sums[term.row as usize] += nearest_i64_to_f64(off[term.link as usize]);
+        sums[term.row as usize] += off[term.link as usize].value();
     }
 }
 
 /// Takes a multiple of some entries from the sums of their rows.
-fn subtract(sums: &mut [f64], rows: &[u32], values: &[f64], multiple: f64)
+pub(crate) fn subtract(sums: &mut [f64], rows: &[u32], values: &[f64], multiple: f64)
     requires { All (λ row. row < length sums.old) rows.now }
     ensures { length sums.new ≡ length sums.old }
 {
@@ -69,11 +92,11 @@ fn pivot_for(number: f64) -> f64 {
 }
 
 /// Puts the pivot and the entries of one column.
-fn eliminate_column(
+fn eliminate_column<E: Entry>(
     pattern: &Pattern,
     place: usize,
-    diagonal: &[i64],
-    off: &[i64],
+    diagonal: &[E],
+    off: &[E],
     pivots: &mut [f64],
     values: &mut [f64],
     sums: &mut [f64],
@@ -89,7 +112,7 @@ fn eliminate_column(
     ensures sums { length sums.new ≡ length sums.old }
 {
     let column = pattern.column(place);
-    sums[place] = nearest_i64_to_f64(diagonal[column.node as usize]);
+    sums[place] = diagonal[column.node as usize].value();
     add_terms(sums, pattern.terms_of(column.terms), off);
     update(
         sums,
@@ -111,10 +134,10 @@ fn eliminate_column(
 }
 
 /// Puts all pivots and entries. The sums are zeros before and after.
-pub(crate) fn eliminate(
+pub(crate) fn eliminate<E: Entry>(
     pattern: &Pattern,
-    diagonal: &[i64],
-    off: &[i64],
+    diagonal: &[E],
+    off: &[E],
     pivots: &mut [f64],
     values: &mut [f64],
     sums: &mut [f64],

@@ -62,7 +62,7 @@ pub(crate) fn make_swaps(
 }
 
 /// Brings the nodes' numbers into the order of elimination.
-pub(crate) fn reorder(b: &mut [i64], swaps: &[u32])
+pub(crate) fn reorder<T>(b: &mut [T], swaps: &[u32])
     requires { All (λ place. place < length b.old) swaps.now }
     ensures { length b.new ≡ length b.old }
 {
@@ -74,7 +74,7 @@ pub(crate) fn reorder(b: &mut [i64], swaps: &[u32])
 }
 
 /// Brings them back.
-pub(crate) fn restore(b: &mut [i64], swaps: &[u32])
+pub(crate) fn restore<T>(b: &mut [T], swaps: &[u32])
     requires { All (λ place. place < length b.old) swaps.now }
     ensures { length b.new ≡ length b.old }
 {

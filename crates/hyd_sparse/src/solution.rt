@@ -4,6 +4,7 @@ ghost use Rattle.std.specs.Prelude.{◌≡◌, ◌<◌, length};
 ghost use Rattle.std.specs.List.{All};
 ghost use Rattle.hyd_sparse.specs.Tables.{IsUpdate};
 
+use crate::numeric_factorization::subtract;
 use crate::pattern::Pattern;
 use crate::permutation::{reorder, restore};
 use crate::tables::Update;
@@ -104,8 +105,8 @@ fn backward(pattern: &Pattern, values: &[f64], b: &mut [i64])
     }
 }
 
-/// Puts in place of the loads b the solution x of A x = unit b.
-pub(crate) fn solve(pattern: &Pattern, pivots: &[f64], values: &[f64], unit: f64, b: &mut [i64])
+/// Puts in place of the loads b the solution x of A x = b.
+pub(crate) fn solve(pattern: &Pattern, pivots: &[f64], values: &[f64], b: &mut [i64])
     requires values { length values.now ≡ length pattern.now.rows.items }
     requires b { length b.old ≡ length pattern.now.columns.items }
     ensures { length b.new ≡ length b.old }
@@ -118,5 +119,74 @@ pub(crate) fn solve(pattern: &Pattern, pivots: &[f64], values: &[f64], unit: f64
     divide(b, pivots, second);
     backward(pattern, values, b);
     restore(b, &pattern.swaps);
-    multiply(b, unit / (first * second));
+    multiply(b, 1.0 / (first * second));
+}
+
+/// Takes from the numbers in each column's rows, the first column first, what the column's number
+/// amounts to there.
+fn forward_reals(pattern: &Pattern, values: &[f64], b: &mut [f64])
+    requires values { length values.now ≡ length pattern.now.rows.items }
+    requires b { length b.old ≡ length pattern.now.columns.items }
+    ensures { length b.new ≡ length b.old }
+{
+    for place in 0..b.len() {
+        let entries = pattern.column(place).entries;
+        let number = b[place];
+        subtract(
+            b,
+            pattern.rows_of(entries),
+            &values[entries.from..entries.to],
+            number,
+        );
+    }
+}
+
+/// Divides each number by its pivot.
+fn divide_reals(b: &mut [f64], pivots: &[f64])
+    ensures { length b.new ≡ length b.old }
+{
+    for (number, pivot) in b.iter_mut().zip(pivots) {
+        *number = *number / *pivot;
+    }
+}
+
+/// The sum over a column's entries of the entry times its row's number.
+fn column_sum_of_reals(b: &[f64], rows: &[u32], values: &[f64]) -> f64
+    requires { All (λ row. row < length b.now) rows.now }
+{
+    let mut sum = 0.0;
+    for (row, value) in rows.iter().zip(values) {
+        sum += *value * b[*row as usize];
+    }
+    sum
+}
+
+/// Takes from each number, the last one first, what those after it amount to in its column.
+fn backward_reals(pattern: &Pattern, values: &[f64], b: &mut [f64])
+    requires values { length values.now ≡ length pattern.now.rows.items }
+    requires b { length b.old ≡ length pattern.now.columns.items }
+    ensures { length b.new ≡ length b.old }
+{
+    for place in (0..b.len()).rev() {
+        let entries = pattern.column(place).entries;
+        let sum = column_sum_of_reals(
+            b,
+            pattern.rows_of(entries),
+            &values[entries.from..entries.to],
+        );
+        b[place] -= sum;
+    }
+}
+
+/// The same in floating point all along.
+pub(crate) fn solve_reals(pattern: &Pattern, pivots: &[f64], values: &[f64], b: &mut [f64])
+    requires values { length values.now ≡ length pattern.now.rows.items }
+    requires b { length b.old ≡ length pattern.now.columns.items }
+    ensures { length b.new ≡ length b.old }
+{
+    reorder(b, &pattern.swaps);
+    forward_reals(pattern, values, b);
+    divide_reals(b, pivots);
+    backward_reals(pattern, values, b);
+    restore(b, &pattern.swaps);
 }

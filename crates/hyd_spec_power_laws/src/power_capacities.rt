@@ -1,6 +1,10 @@
 //! Capacities of pipes with Hazen-Williams losses.
 #![tactic(auto)]
 
+ghost use Rattle.std.specs.Prelude.{◌+◌, ◌^◌, ◌≤◌, IfSome};
+ghost use Rattle.std.proofs.Props.{props};
+ghost use Rattle.hyd_num.specs.BinaryNumbers.{reach};
+ghost use Rattle.hyd_num.specs.Pairs.{pair_reach};
 ghost use Rattle.hyd_spec_power_laws.specs.WholeFlows.{Covers};
 
 use hyd_num::{Decimal, Pair, Scaled};
@@ -20,7 +24,7 @@ pub struct HazenWilliamsPipe {
 
 /// In ticks, the power 1852 of a flow is between `low` and `high` times the power 1000 of the head that its friction
 /// loses; both leave room for roundings. A squared flow loses between the two ends of `minor` to fittings, and nothing
-/// where it is none.
+/// where it is none. All exponents lie far within 32 bits.
 #[derive(Clone, Copy, Drop)]
 pub struct PowerCapacity {
     pub low: Scaled,
@@ -28,4 +32,6 @@ pub struct PowerCapacity {
     pub minor: Option<Pair>,
     pub pipe: HazenWilliamsPipe,
     pub ghost covers: { Covers high minor },
+    pub ghost near: { reach low + reach high ≤ 2 ^ 26 },
+    pub ghost minor_near: { IfSome minor (λ m. pair_reach m ≤ 2 ^ 26) } by { Prim.hlevel props },
 }

@@ -45,8 +45,13 @@ const PARTS: &[FlowFails] = &[
     },
 ];
 
-/// Refusals of lines, each once.
-const LINES: &[LineFault] = &[LineFault::Grammar, LineFault::Counts, LineFault::End];
+/// Refusals of lines, each with a line.
+const LINES: &[(u64, LineFault)] = &[
+    (1, LineFault::Grammar),
+    (12, LineFault::Grammar),
+    (1, LineFault::Counts),
+    (12, LineFault::End),
+];
 
 /// The number of a way to refuse a record.
 fn number_of_record(cause: &CertRefused) -> u8 {
@@ -80,7 +85,10 @@ fn tell_lacking(rt: &HostRuntime) -> io::Result<()> {
         }
     }
     for number in 0..3_u8 {
-        if !LINES.iter().any(|fault| number_of_line(fault) == number) {
+        if !LINES
+            .iter()
+            .any(|(_, fault)| number_of_line(fault) == number)
+        {
             println!(rt; "refused line {number} HAS NO CASE")?;
         }
     }
@@ -118,11 +126,11 @@ pub(crate) fn say_all(rt: &HostRuntime, project: &Project) -> io::Result<()>
         )?;
     }
     say_parts(rt, project)?;
-    for fault in LINES {
+    for (line, fault) in LINES {
         println!(rt;
             "{}",
             RefusedLine {
-                line: 12,
+                line: *line,
                 fault: *fault
             }
         )?;

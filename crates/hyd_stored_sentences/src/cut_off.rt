@@ -4,7 +4,7 @@ ghost use Rattle.hyd_net.specs.Sound.{IsSound};
 
 use hyd_inp::read_project;
 use hyd_net::Project;
-use hyd_sentences::Stopped;
+use hyd_sentences::{DuePeriod, Stopped};
 use hyd_spec_certificates::{Problem, Side, StopCause};
 use std::{fs, io};
 
@@ -26,18 +26,42 @@ fn say_of_each(rt: &HostRuntime, project: &Project) -> io::Result<()>
                     problem: Problem::Main,
                     side: Side::Upper,
                     junction
-                }
+                },
+                due: DuePeriod::unknown()
             }
         )?;
     }
     Ok(())
 }
 
-/// Says of each junction of `cut_off.inp` what a stop there without a certificate means.
+/// Says what it means that the rounds of a period of this network are spent.
+fn say_spent(rt: &HostRuntime, project: &Project) -> io::Result<()>
+    requires { IsSound project.now }
+{
+    println!(rt;
+        "{}",
+        Stopped {
+            project,
+            time: 0,
+            cause: StopCause::RoundsSpent {
+                period: 0,
+                problem: Problem::Main,
+                side: Side::Upper,
+                rounds: 200
+            },
+            due: DuePeriod::unknown()
+        }
+    )
+}
+
+/// Says of each junction of `cut_off.inp` what a stop there without a certificate means, and what spent rounds do.
 pub(crate) fn say_all(rt: &HostRuntime) -> io::Result<()> {
     let text = fs::read(rt, "cut_off.inp")?;
     match read_project(rt.alloc(), &text) {
-        Ok(project) => say_of_each(rt, &project),
+        Ok(project) => {
+            say_of_each(rt, &project)?;
+            say_spent(rt, &project)
+        }
         Err(_) => println!(rt; "the network isn't read"),
     }
 }

@@ -82,6 +82,22 @@ fn say_case(rt: &HostRuntime, front: &str, case: &Case<'_>) -> io::Result<()> {
     say(rt, case, text.as_str())
 }
 
+/// A text of two bytes for each letter, of which the list has none.
+const TWO_BYTES: &[u8] = &[0xFF, 0xFE, b'[', 0, b'J', 0, b'\n', 0];
+
+/// Says why a text of two bytes for each letter is refused.
+pub(crate) fn say_two_bytes(rt: &HostRuntime) -> io::Result<()> {
+    println!(rt;
+        "{}",
+        RefusedText {
+            file: "n.inp",
+            text: TWO_BYTES,
+            line: 1,
+            cause: Cause::Syntax
+        }
+    )
+}
+
 /// Says of each case of a list why its text is refused.
 pub(crate) fn say_all(rt: &HostRuntime, list: &str) -> io::Result<()> {
     let (front, _) = list.split_once(MARK).unwrap_or((list, ""));

@@ -17,7 +17,7 @@ use hyd_io::{Channel, Desk, OutFault, Pen};
 use hyd_net::Project;
 use hyd_period_network::PeriodDemand;
 use hyd_report::put_stop;
-use hyd_sentences::Stopped;
+use hyd_sentences::{DuePeriod, Stopped};
 use hyd_spec_certificates::StopCause;
 
 // The stop at the first period, whose demand is out of range.
@@ -65,6 +65,7 @@ fn say_demand<D: Desk>(project: &Project, demand: PeriodDemand, desk: &D)
         project,
         time: 0,
         cause: demand_cause(demand),
+        due: DuePeriod::unknown(),
     });
 }
 

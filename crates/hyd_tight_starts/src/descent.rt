@@ -83,8 +83,8 @@ fn pass_all(net: &Net, side: Side, held: u32, heads: &[i64]) -> bool {
     true
 }
 
-// Puts the heads of reservoirs and tanks.
-fn put_fixed(net: &Net, side: Side, heads: &mut [i64])
+/// Puts the heads of reservoirs and tanks.
+pub(crate) fn put_fixed(net: &Net, side: Side, heads: &mut [i64])
     ensures { length heads.new ≡ length heads.old }
 {
     let _nodes = net.nodes();

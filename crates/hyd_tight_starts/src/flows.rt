@@ -129,11 +129,15 @@ pub(crate) fn turned(tie: Tie, junction: u32) -> Tie {
 
 /// By how much a junction passes with all nodes at given heads: less than 0 where it falls short.
 pub(crate) fn over(net: &Net, side: Side, heads: &[i64], junction: u32) -> i64 {
+    over_with(net, side, heads, junction, number_at(heads, junction))
+}
+
+/// By how much it passes with a head in place of its own.
+pub(crate) fn over_with(net: &Net, side: Side, heads: &[i64], junction: u32, head: i64) -> i64 {
     if junction >= net.junctions() {
         return 0;
     }
     let _nodes = net.nodes();
-    let head = number_at(heads, junction);
     let mut sum = own_part(net, side, junction, head);
     for tie in net.row(junction) {
         sum = sum.saturating_add(part(net, side, *tie, head, number_at(heads, tie.other)));

@@ -52,8 +52,8 @@ pub(crate) struct HeldBalance {
     ghost steps: { length step.items ≡ factor.nodes },
 }
 
-// The two nodes of each link.
-fn ends_of_links(alloc: Global, net: &Net) -> Result<Vec<(u32, u32)>, OutOfMemory> {
+/// The two nodes of each link.
+pub(crate) fn ends_of_links(alloc: Global, net: &Net) -> Result<Vec<(u32, u32)>, OutOfMemory> {
     let mut rows = Vec::new(alloc);
     for link in 0..net.links() {
         let ends = net.ends(link);

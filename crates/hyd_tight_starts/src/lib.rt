@@ -4,10 +4,15 @@
 
 mod descent;
 mod flows;
+mod gain_bounds;
 mod held_balance;
 mod held_slopes;
+mod near_starts;
+mod near_vectors;
 mod places;
+mod responses;
 mod steps;
 mod strides;
 
 pub use descent::Descent;
+pub use responses::Response;

@@ -16,5 +16,5 @@ invariant-loop-i l = record {
   near : IsSharpPart l.rounds (grid_of l.net) (row_of l.row) (links_in (take l.i l.links));
   names : numbers l.links ≡ numbers l.fn.links;
   junctions : All (λ (one : NamedVectors). one.junctions ≡ l.row.junctions) l.links;
-  room : l.sweeper ≡ l.fn.sweeper;
+  room : l.search ≡ l.fn.search;
 }

@@ -11,9 +11,9 @@ returns-then-not-covers-clause-refused c = record {
   made = record {
     constant = c.constant-constant.result;
     constant_is = c.constant-constant.ensures.value;
-    low_is = c.lessened-low.ensures;
-    high_is = c.raised-high.ensures;
-    minor_is = c.minor-minor.ensures;
+    low_is = c.lessened-low.ensures.value;
+    high_is = c.raised-high.ensures.value;
+    minor_is = c.minor-minor.ensures.value;
   };
   short = λ covers. both_ways c.covers.result c.if-not-covers.true (c.covers.ensures ∙ covers);
 }
@@ -23,8 +23,8 @@ returns-clause-accepted c = not_refused c.args.pipe c.lessened-low.result c.rais
     (record {
       constant = c.constant-constant.result;
       constant_is = c.constant-constant.ensures.value;
-      low_is = c.lessened-low.ensures;
-      high_is = c.raised-high.ensures;
-      minor_is = c.minor-minor.ensures;
+      low_is = c.lessened-low.ensures.value;
+      high_is = c.raised-high.ensures.value;
+      minor_is = c.minor-minor.ensures.value;
     })
     (sym c.covers.ensures ∙ c.if-not-covers.false)

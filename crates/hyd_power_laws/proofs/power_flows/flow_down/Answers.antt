@@ -2,12 +2,12 @@ use Rattle.hyd_power_laws.proofs.FoundFlows.{found_down, none_down}
 use Rattle.hyd_power_laws.proofs.power_flows.flow_down.Goals as goal
 
 pub returns-then-head-eq0-clause-value : goal.returns-then-head-eq0-clause-value
-returns-then-head-eq0-clause-value c = none_down c.args.capacity.now.low c.args.capacity.now.minor c.args.head
+returns-then-head-eq0-clause-value c = none_down c.args.low c.args.minor c.args.head
     c.if-head-eq0.true
 
 pub returns-clause-value : goal.returns-clause-value
 returns-clause-value c =
-    found_down c.flow_test-test.result c.args.capacity.now.low c.args.capacity.now.minor c.args.head
+    found_down c.flow_test-test.result c.args.low c.args.minor c.args.head
     c.greatest_within.result
     (record {
       end_is = c.flow_test-test.ensures.end;

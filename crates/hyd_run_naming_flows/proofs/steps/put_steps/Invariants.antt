@@ -16,7 +16,7 @@ invariant-loop-end g l =
       settings : l.sim.settings ≡ l.fn.sim.settings;
       names : names_of (part_of l.part) ≡ names_of (part_of l.fn.part);
       junctions : l.part.junctions ≡ l.fn.part.junctions;
-      room : l.sweeper ≡ l.fn.sweeper;
+      room : l.search ≡ l.fn.search;
       unbroken : AreOpen (moment l.certificate l.report
           (told D.files D.rest D.written D.printed D.target D.ready D.counts D.openings l.desk));
       so_far : (start : RunMoment)

@@ -1,0 +1,6 @@
+pub mod Tests
+pub mod NearFlows
+pub mod LinksOfSetNets
+pub mod FlowsOverTies
+pub mod HeadsOfNodes
+pub mod TanksRead

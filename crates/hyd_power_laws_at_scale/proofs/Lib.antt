@@ -1,0 +1,2 @@
+pub mod ShiftedNumbers
+pub mod TestsInParts

@@ -1,0 +1,9 @@
+//! Flows of pipes with Hazen-Williams losses at a scale of parts of ticks.
+//!
+//! Outside the program as yet.
+#![tactic(auto)]
+
+mod ends_in_parts;
+mod flows_in_parts;
+
+pub use flows_in_parts::{is_in_range, power_high_at, power_low_at};

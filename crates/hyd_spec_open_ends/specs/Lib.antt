@@ -1,0 +1,12 @@
+pub mod InstantsOfClock
+pub mod KeptLevels
+pub mod OpenStandings
+pub mod StocksOverLengths
+pub mod RulesOverLengths
+pub mod OpenEnds
+pub mod Arrivals
+pub mod OpenRecords
+pub mod OpenRuns
+pub mod OpenStops
+pub mod OpenCertificateText
+pub mod PromisesOfOpenRuns

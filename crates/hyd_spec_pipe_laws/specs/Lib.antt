@@ -1,0 +1,3 @@
+pub mod PipeLaws
+pub mod SharpEnds
+pub mod FlowsAtScale

@@ -1,0 +1,262 @@
+-- Where levels of one tank and one direction alone may end a period, each history has reached the nearest of them at
+-- its end, and not a second before.
+use Rattle.std.proofs.Common.{◌≡◌, ◌≢◌, ℕ, suc, ◌+◌, ◌-◌, ◌*◌, ◌^◌, ◌<◌, ◌≤◌, ℤ, pos, ◌+ℤ◌, ◌*ℤ◌, ◌≤ℤ◌, refl, sym}
+use Rattle.std.proofs.Common.{ap}
+use Rattle.std.proofs.Common.{subst, ◌∙◌, arith, Bool, true, false, ◌==◌, ◌⊎◌, inl, inr, nat_le}
+use Rattle.std.specs.Prelude.{Option, Some, None, slice_get}
+use Rattle.std.proofs.lemmas.Int.{ints}
+use Rattle.std.proofs.lemmas.Bool.{cases_Bool, cond_both, eqb-true, leb-true}
+use Rattle.hyd_num.proofs.Integers.{times_rises, one_times}
+use Rattle.hyd_net.specs.Sound.{IsSound}
+use Rattle.hyd_spec.specs.ProgramTypes.{Project, Tank}
+use Rattle.hyd_spec.specs.Tank.{Walls, Cylinder, Curve, Stock, walls_of, exact_content, has_reached, tank_inflow}
+use Rattle.hyd_spec.specs.PeriodLength.{Period, EndsByLevel, HasItsLength, by_level, stock_at_start}
+use Rattle.hyd_spec.specs.PeriodLength.{reached_after}
+use Rattle.hyd_spec_certificates.specs.Interval.{Interval}
+use Rattle.hyd_spec_certificates.specs.PeriodNetwork.{Grid}
+use Rattle.hyd_spec_certificates.specs.RecordAndStanding.{Record}
+use Rattle.hyd_spec_certificates.specs.Decided.{Watch, inflow_of_tank}
+use Rattle.hyd_spec_open_ends.specs.OpenStandings.{OpenStanding}
+use Rattle.hyd_spec_open_ends.specs.StocksOverLengths.{Arrival, content_of_level, content_a_second_later}
+use Rattle.hyd_spec_open_ends.specs.RulesOverLengths.{NoRuleMattersUpTo}
+use Rattle.hyd_spec_open_ends.specs.OpenEnds.{AreSeconds, Way, EndsIn}
+use Rattle.hyd_spec_open_ends.specs.OpenEnds.{by_rules as in_by_rules, by_instant as in_by_instant}
+use Rattle.hyd_spec_open_ends.specs.OpenEnds.{by_watched as in_by_watched}
+use Rattle.hyd_spec_open_ends.specs.Arrivals.{MayComeBy, IsNoFarther, IsArrival, Arrives, one, competing, arrival_of}
+use Rattle.hyd_spec_open_ends.specs.Arrivals.{by_rules as none_by_rules, by_instant as none_by_instant}
+use Rattle.hyd_theorems_on_definitions.specs.LyingInIntervals.{LiesIn}
+use Rattle.hyd_lemmas.proofs.Integers.{exchanged}
+use Rattle.hyd_lemmas.proofs.ListsOptionsAndResults.{same_item, same_some}
+use Rattle.hyd_theorems_on_definitions.proofs.ValuesAtTwoScales.{Leads}
+use Rattle.hyd_theorems_on_definitions.proofs.ValuesByContent.{above-yes, above-no, below-yes, below-no}
+use Rattle.hyd_theorems_on_histories.proofs.RuleReadingsBetweenEnds.{inflow_within}
+use Rattle.hyd_theorems_on_open_ends.specs.AgreementOverStarts.{begun_at, IsUnderOpenly}
+use Rattle.hyd_theorems_on_open_ends.proofs.ContentsOverLengths.{cut-above, cut-below}
+use Rattle.hyd_theorems_on_open_ends.proofs.StocksOverLengths.{HasCome, from_below, from_above, AllHaveCome}
+use Rattle.hyd_theorems_on_open_ends.proofs.WatchesOfStandings.{HasReached, level_reached, reached_ends, reached_may_be}
+use Rattle.hyd_theorems_on_open_ends.proofs.LengthsOverStarts.{goes, itself, watched_most}
+
+-- ---- a content against a level
+
+-- the content at a level, and a second later, as whole numbers over the same breadth
+at-level : (B : ℕ) (t : ℤ) → (pos B *ℤ t) +ℤ (pos (0 * 10 ^ 15) *ℤ pos 0) ≡ pos B *ℤ t
+at-level B t = let n = nothing (0 * 10 ^ 15) in omega (arith, ints, n)
+  where
+    nothing : (n : ℕ) → pos n *ℤ pos 0 ≡ pos 0
+    nothing n = omega (arith, ints)
+
+has-come-up : (S area : ℕ) (t x : ℤ) → (pos (86400 * area) *ℤ (pos S *ℤ t)) ≤ℤ x
+    → Leads 1 S (content_of_level area t) (record { num = x; den = 86400 * area })
+has-come-up S area t x le = record {
+  crossed =
+      let B = 86400 * area in
+      let e : pos S *ℤ ((pos B *ℤ t) +ℤ (pos (0 * 10 ^ 15) *ℤ pos 0)) ≡ pos S *ℤ (pos B *ℤ t) =
+      ap (λ z. pos S *ℤ z) (at-level B t) in
+      times_rises B (pos S *ℤ ((pos B *ℤ t) +ℤ (pos (0 * 10 ^ 15) *ℤ pos 0))) (pos 1 *ℤ x)
+      (omega (arith, ints, e, le, exchanged B S t, one_times x));
+}
+
+is-short-of : (S area : ℕ) (t x : ℤ) → x ≤ℤ (pos (86400 * area) *ℤ (pos S *ℤ t))
+    → Leads S 1 (record { num = x; den = 86400 * area }) (content_of_level area t)
+is-short-of S area t x le = record {
+  crossed =
+      let B = 86400 * area in
+      let e : pos S *ℤ ((pos B *ℤ t) +ℤ (pos (0 * 10 ^ 15) *ℤ pos 0)) ≡ pos S *ℤ (pos B *ℤ t) =
+      ap (λ z. pos S *ℤ z) (at-level B t) in
+      times_rises B (pos 1 *ℤ x) (pos S *ℤ ((pos B *ℤ t) +ℤ (pos (0 * 10 ^ 15) *ℤ pos 0)))
+      (omega (arith, ints, e, le, exchanged B S t, one_times x));
+}
+
+-- a level that has been reached, with a farther one, and not a second before
+module _ (S : ℕ) (tank : Tank) (inflow : Interval) (stock : Stock) (q : ℤ) (length : ℕ) (flow : LiesIn S inflow q)
+    (target farther : ℤ) (not_before : Bool) (two : not_before ≡ true → 2 ≤ length) where
+  come-by : (walls : Walls) (rising : Bool) → IsNoFarther rising target farther
+      → has_reached S walls tank stock q rising farther length ≡ true
+      → ((before : ℕ) → 1 ≤ before → before < length → has_reached S walls tank stock q rising target before ≡ false)
+      → AllHaveCome S walls inflow stock q length
+      (Some (record { target = target; rising = rising; not_before = not_before }))
+  come-by (Cylinder area) true near reached unreached = λ other e. subst (HasCome S area inflow _)
+      (same_item Arrival _ other e) (from_below target not_before now passed)
+    where
+      now : Leads 1 S (content_of_level area target) (exact_content (Cylinder area) stock q length)
+      now = has-come-up S area target (exact_content (Cylinder area) stock q length).num
+          (let a = above-yes S farther (exact_content (Cylinder area) stock q length) reached in
+          let b = times_rises (86400 * area) (pos S *ℤ target) (pos S *ℤ farther) (times_rises S target farther near) in
+          omega (arith, ints, a, b))
+
+      passed : not_before ≡ true
+          → Leads S 1 (exact_content (Cylinder area) stock q length) (content_a_second_later area target inflow.hi)
+      passed e =
+          let l = two e in
+          let n : suc (length - 1) ≡ length = omega (arith, l) in
+          subst (λ m. Leads S 1 (exact_content (Cylinder area) stock q m)
+          (content_a_second_later area target inflow.hi)) n
+          (cut-above S (Cylinder area) (record { level = target; volume = pos 0 }) inflow stock q (length - 1) flow
+          (is-short-of S area target (exact_content (Cylinder area) stock q (length - 1)).num
+          (let a = above-no S target (exact_content (Cylinder area) stock q (length - 1))
+          (unreached (length - 1) (omega (arith, l)) (omega (arith, l))) in omega (arith, ints, a))))
+  come-by (Cylinder area) false near reached unreached = λ other e. subst (HasCome S area inflow _)
+      (same_item Arrival _ other e) (from_above target not_before now passed)
+    where
+      now : Leads S 1 (exact_content (Cylinder area) stock q length) (content_of_level area target)
+      now = is-short-of S area target (exact_content (Cylinder area) stock q length).num
+          (let a = below-yes S farther (exact_content (Cylinder area) stock q length) reached in
+          let b = times_rises (86400 * area) (pos S *ℤ farther) (pos S *ℤ target) (times_rises S farther target near) in
+          omega (arith, ints, a, b))
+
+      passed : not_before ≡ true
+          → Leads 1 S (content_a_second_later area target inflow.lo) (exact_content (Cylinder area) stock q length)
+      passed e =
+          let l = two e in
+          let n : suc (length - 1) ≡ length = omega (arith, l) in
+          subst (λ m. Leads 1 S (content_a_second_later area target inflow.lo)
+          (exact_content (Cylinder area) stock q m)) n
+          (cut-below S (Cylinder area) (record { level = target; volume = pos 0 }) inflow stock q (length - 1) flow
+          (has-come-up S area target (exact_content (Cylinder area) stock q (length - 1)).num
+          (let a = below-no S target (exact_content (Cylinder area) stock q (length - 1))
+          (unreached (length - 1) (omega (arith, l)) (omega (arith, l))) in omega (arith, ints, a))))
+  come-by (Curve points) rising near reached unreached = tt
+
+pub none_come : (S : ℕ) (walls : Walls) (inflow : Interval) (stock : Stock) (q : ℤ) (length : ℕ)
+    → AllHaveCome S walls inflow stock q length None
+none_come S (Cylinder area) inflow stock q length = λ other e. absurd (cc)
+none_come S (Curve points) inflow stock q length = tt
+
+-- ---- in a period
+
+module _ (project : Project) (sound : IsSound project) (S : ℕ) (period : Period) (grid : Grid)
+    (standing : OpenStanding) (row : Record) (under : IsUnderOpenly project S period grid standing row)
+    (not_last : standing.known.time ≢ project.times.duration) (has : HasItsLength project S period) where
+  module _ (cap earliest latest : ℕ) (seconds : AreSeconds project grid standing.known row cap earliest latest)
+      (before : standing.late + latest < cap)
+      (none : NoRuleMattersUpTo project grid standing row (standing.late + latest)) (watch : Watch)
+      (arrival : IsArrival project grid standing.known row latest watch) where
+    most : period.length ≤ latest
+    most = watched_most project sound S period grid standing row under not_last has cap earliest latest seconds before
+
+    -- what was reached at the end may have come by then
+    comes-by : (other : Watch) → 1 ≤ period.length
+        → (reached : HasReached project S period (begun_at standing.known period.time) period.length other)
+        → MayComeBy project grid standing.known row other latest
+    comes-by other some reached = record {
+      is_watched = reached.is_watched;
+      second = period.length;
+      some = some;
+      in_time = most;
+      tank = reached.tank;
+      is_tank = reached.is_tank;
+      reached = reached_may_be project S period grid (begun_at standing.known period.time) row under.own
+          period.length other reached;
+    }
+
+    -- A watched level that has been reached at the end: one of the same tank and direction, met no earlier.
+    record Reached (tank : Tank) : Type 0 where
+      farther : ℤ
+      no_nearer : IsNoFarther watch.rising watch.target farther
+      reached : reached_after project S period watch.tank tank watch.rising farther period.length ≡ true
+
+    at-the-end : (tank : Tank) → slice_get project.tanks.list watch.tank ≡ Some tank → Reached tank
+    at-the-end tank at = by-case (itself project sound S period grid standing row under not_last has cap earliest latest
+        seconds before none)
+      where
+        by-level' : 1 ≤ period.length → (other : Watch)
+            → HasReached project S period (begun_at standing.known period.time) period.length other → Reached tank
+        by-level' some other reached =
+            let comes = comes-by other some reached in
+            let same = arrival.same_tank other comes in
+            let way = arrival.same_way other comes in
+            let own : reached.tank ≡ tank = same_some (slice_get project.tanks.list watch.tank) reached.tank tank
+            (subst (λ k. slice_get project.tanks.list k ≡ Some reached.tank) same reached.is_tank) at in
+            record {
+              farther = other.target;
+              no_nearer = arrival.nearest other comes;
+              reached =
+                  (λ i. reached_after project S period (sym same i) (sym own i) (sym way i) other.target period.length)
+                  ∙ reached.reached;
+            }
+
+        by-case : (period.length ≡ project.times.hydraulic)
+            ⊎ ((1 ≤ period.length) × EndsByLevel project S period period.length) → Reached tank
+        by-case (inl is) = absurd (let m = most in let l = arrival.step_later in omega (arith, is, m, l))
+        by-case (inr level) =
+            let found = level_reached project S period grid (begun_at standing.known period.time) row under.own
+            period.length level.1 in
+            by-level' level.0 found.0 found.1
+
+    not-before : (tank : Tank) → slice_get project.tanks.list watch.tank ≡ Some tank → (second : ℕ) → 1 ≤ second
+        → second < period.length
+        → reached_after project S period watch.tank tank watch.rising watch.target second ≡ false
+    not-before tank at second some short =
+        elim (cases_Bool (reached_after project S period watch.tank tank watch.rising watch.target second)) [
+          | inl held ↦ absurd (
+              let ends = reached_ends project S period grid (begun_at standing.known period.time) row under.own second
+              watch (record {
+                is_watched = arrival.comes.is_watched;
+                tank = tank;
+                is_tank = at;
+                reached = held;
+              }) in
+              let l = (goes project sound S period grid standing row under not_last has).least.least
+              (period.time + second) (by_level second some refl ends) in
+              omega (arith, l, short))
+          | inr fails ↦ fails
+        ]
+
+    -- what has just been reached has come, of each tank
+    one-comes : (shortest : ℕ) → shortest ≤ period.length → (k : ℕ) (tank : Tank)
+        → slice_get project.tanks.list k ≡ Some tank
+        → AllHaveCome S (walls_of project tank) (inflow_of_tank project grid row k) (stock_at_start period k)
+        (tank_inflow project k period.assignment.flows) period.length (arrival_of shortest (Some watch) k)
+    one-comes shortest from k tank at =
+        cond_both (watch.tank == k) (Some (record {
+          target = watch.target;
+          rising = watch.rising;
+          not_before = nat_le 2 shortest;
+        })) None
+        (AllHaveCome S (walls_of project tank) (inflow_of_tank project grid row k) (stock_at_start period k)
+        (tank_inflow project k period.assignment.flows) period.length)
+        (λ e. here (eqb-true watch.tank k e))
+        (λ e. none_come S (walls_of project tank) (inflow_of_tank project grid row k) (stock_at_start period k)
+        (tank_inflow project k period.assignment.flows) period.length)
+      where
+        here : watch.tank ≡ k
+            → AllHaveCome S (walls_of project tank) (inflow_of_tank project grid row k) (stock_at_start period k)
+            (tank_inflow project k period.assignment.flows) period.length (Some (record {
+              target = watch.target;
+              rising = watch.rising;
+              not_before = nat_le 2 shortest;
+            }))
+        here same =
+            let there : slice_get project.tanks.list watch.tank ≡ Some tank =
+            subst (λ n. slice_get project.tanks.list n ≡ Some tank) (sym same) at in
+            let found = at-the-end tank there in
+            come-by S tank (inflow_of_tank project grid row k) (stock_at_start period k)
+            (tank_inflow project k period.assignment.flows) period.length
+            (inflow_within project S period grid (begun_at standing.known period.time) row under.own k tank at)
+            watch.target found.farther (nat_le 2 shortest)
+            (λ e. let two = leb-true 2 shortest e in omega (arith, two, from))
+            (walls_of project tank) watch.rising found.no_nearer
+            (ap (λ n. reached_after project S period n tank watch.rising found.farther period.length) (sym same)
+            ∙ found.reached)
+            (λ second some short.
+            ap (λ n. reached_after project S period n tank watch.rising watch.target second) (sym same)
+            ∙ not-before tank there second some short)
+
+  -- whatever the way
+  pub all_come : (way : Way) (reached : Option Watch) → EndsIn project grid standing row way
+      → Arrives project grid standing.known row way reached → (shortest : ℕ) → shortest ≤ period.length
+      → (k : ℕ) (tank : Tank) → slice_get project.tanks.list k ≡ Some tank
+      → AllHaveCome S (walls_of project tank) (inflow_of_tank project grid row k) (stock_at_start period k)
+      (tank_inflow project k period.assignment.flows) period.length (arrival_of shortest reached k)
+  all_come _ _ (in_by_watched {cap = cap} {earliest = earliest} {latest = latest} seconds before none)
+      (one {watch = watch} arrival) shortest from k tank at =
+      one-comes cap earliest latest seconds before none watch arrival shortest from k tank at
+  all_come _ _ (in_by_watched seconds before none) (competing other) shortest from k tank at =
+      none_come S (walls_of project tank) (inflow_of_tank project grid row k) (stock_at_start period k)
+      (tank_inflow project k period.assignment.flows) period.length
+  all_come _ _ (in_by_rules seconds first after in_time none_open) none_by_rules shortest from k tank at =
+      none_come S (walls_of project tank) (inflow_of_tank project grid row k) (stock_at_start period k)
+      (tank_inflow project k period.assignment.flows) period.length
+  all_come _ _ (in_by_instant seconds same none) none_by_instant shortest from k tank at =
+      none_come S (walls_of project tank) (inflow_of_tank project grid row k) (stock_at_start period k)
+      (tank_inflow project k period.assignment.flows) period.length

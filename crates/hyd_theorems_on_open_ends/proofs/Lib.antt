@@ -1,0 +1,17 @@
+pub mod ContentsOverLengths
+pub mod StocksOverLengths
+pub mod WatchesOfStandings
+pub mod QuietStarts
+pub mod RulesOverStarts
+pub mod LengthsOverStarts
+pub mod LevelsThatArrive
+pub mod AgreementOverEnds
+pub mod HistoriesOverOpenEnds
+pub mod OneOpenEnd
+pub mod NestedWays
+pub mod SecondsExist
+pub mod EveryOpenPeriodEnds
+pub mod StopsAtTightVectors
+pub mod KnownToTheSecond
+pub mod NarrowerStocks
+pub mod AcceptedOpenRuns

@@ -1,0 +1,2 @@
+pub mod AgreementOverStarts
+pub mod WaysInside
