@@ -3,9 +3,11 @@ import collections
 
 
 def printed_by(done):
-    """What a command printed. Behind it stands what it said on standard error, where that isn't as it should be: nothing where
-    all was done, else lines that begin by `hyd: `."""
-    fits = done.stderr.startswith(b'hyd: ') if done.returncode else not done.stderr
+    """What a command printed. Behind it stands what it said on standard error, where that isn't as it should be: where all was
+    done nothing, or one line on pressures below 0, else lines that begin by `hyd: `."""
+    said = done.stderr
+    is_of_pressures = said.startswith(b'hyd: pressures may be below 0: ') and said.count(b'\n') == 1
+    fits = said.startswith(b'hyd: ') if done.returncode else not said or is_of_pressures
     return done.stdout if fits else done.stdout + done.stderr
 
 
