@@ -3,14 +3,16 @@
 
     scripts/compare_flows.py OTHER [RUNS [CHECKS [SEED]]]
 
-OTHER is the folder of an independent program in Python: its module `fuzz` makes texts and changes certificates, its module
-`cli` answers. Each of RUNS random networks (2,000 where it isn't given), over some hours or of a single instant, is run with
-`--tight`, 100,000 rounds or fewer and `--flows` with one to sixteen of its links between junctions; now and then one of the names is no link, a link at
-a reservoir or tank, a repeated one or one of a form that no file has. Status, printed bytes and certificate must be the same,
-but where rounds were spent in one of the two. The vectors of a link may differ where so many plain rounds lead to none: that is
-tried by making them. Then this repository's must be vectors with that node held, as the other program checks them, nowhere but at it farther
-out than the record's, and its FLOW lines those of its vectors; all else must be the same. Each certificate with flows is then checked by both, and up to CHECKS changed ones (2,000): heads of the
-vectors moved, numbers of links changed, repeated or put out of range, parts left out, doubled or put elsewhere, and what
+OTHER is the folder of an independent program in Python: its module `fuzz` makes texts and changes certificates, its
+module `cli` answers. Each of RUNS random networks (2,000 where it isn't given), over some hours or of a single instant,
+is run with `--tight`, 100,000 rounds or fewer and `--flows` with one to sixteen of its links between junctions; now and
+then one of the names is no link, a link at a reservoir or tank, a repeated one or one of a form that no file has.
+Status, printed bytes and certificate must be the same, but where rounds were spent in one of the two. The vectors of a
+link may differ where so many plain rounds lead to none: that is tried by making them. Then this repository's must be
+vectors with that node held, as the other program checks them, nowhere but at it farther out than the record's, and its
+FLOW lines those of its vectors; all else must be the same. Each certificate with flows is then checked by both, and up
+to CHECKS changed ones (2,000): heads of the vectors moved, numbers of links changed, repeated or put out of range,
+parts left out, doubled or put elsewhere, and what
 `fuzz` changes in any certificate. It says how many runs and checks came to each last line.
 
 The program of this repository is built as compare_runs.py builds it; PROGRAM, KEEP and JOBS in the environment are those of
