@@ -16,7 +16,7 @@ parts left out, doubled or put elsewhere, and what
 `fuzz` changes in any certificate. It says how many runs and checks came to each last line.
 
 The program of this repository is built as compare_runs.py builds it; PROGRAM, KEEP and JOBS in the environment are those of
-that script. It stands outside the gate.
+that script, and OTHER_SECONDS is after how many seconds of the other program a network is left out (20). It stands outside the gate.
 """
 import collections
 import multiprocessing
@@ -33,9 +33,10 @@ from compare_checks import kind, tell
 from compare_runs import SECONDS, build, give_up, steady
 from differences import printed_by
 
-# Longer runs are left out, and those on which the other program spends more seconds.
+# Longer runs are left out, and those on which the other program spends more seconds (three of four take it a tenth of a
+# second, most others over twenty).
 MOST_PERIODS = 12
-OTHER_SECONDS = 20
+OTHER_SECONDS = float(os.environ.get('OTHER_SECONDS', '20'))
 SPENT = b' ROUNDS '
 SWEEPS = ['100000', '100000', '200', '20', '3']
 ODD_NAMES = ['nobody', 'a;b', '\u00e9', 'x' * 31]

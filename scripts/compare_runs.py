@@ -18,7 +18,8 @@ stops and statuses of each kind came.
 The program of this repository is built without proofs, as `rt try` builds it, its checks at run time left in, but
 optimized and without a sanitizer, by a folder of links to the kit whose linker keeps the program. PROGRAM=FILE in the
 environment names one that is built; where there is none yet, it is built and kept there. KEEP=FOLDER keeps the texts
-that differ, and both answers. JOBS=N runs so many at once (2). It stands outside the gate.
+that differ, and both answers. JOBS=N runs so many at once (2), and OTHER_SECONDS=N leaves a network out after so many
+seconds of the other program (60). It stands outside the gate.
 """
 import collections
 import copy
@@ -43,7 +44,7 @@ MOST_PERIODS = 200
 HEAD_TICKS = 10 ** 13
 # The most seconds of the clock for this program, and of the processor for the other one.
 SECONDS = 120
-OTHER_SECONDS = 60
+OTHER_SECONDS = float(os.environ.get('OTHER_SECONDS', '60'))
 CLANG = '''#!/bin/bash
 words=()
 for word in "$@"; do

@@ -1,7 +1,7 @@
 -- Command lines as they are typed, and what they ask for.
 use Rattle.std.specs.Prelude.{ℕ, ◌==◌, Bool, false, List, [], Option, Some, is_none, ℤ, pos, codes}
 use Rattle.std.specs.List.{slice_split, list_all}
-use Rattle.hyd_command_words.specs.CommandGrammar.{Order, run, check, gen, fire, closures}
+use Rattle.hyd_command_words.specs.CommandGrammar.{Order, run, check, gen, fire, closures, meet}
 
 -- the words of a line, parted by single spaces
 abbrev pub typed : List ℕ → List (List ℕ)
@@ -42,6 +42,9 @@ asks_fire net junction pressure rounds =
 
 abbrev pub asks_closures : (net : List ℕ) (pressure : ℤ) (rounds : ℕ) → Option Order
 asks_closures net pressure rounds = Some (closures (record { net = net; pressure = pressure; rounds = rounds }))
+
+abbrev pub asks_meet : (net witness : List ℕ) → Option Order
+asks_meet net witness = Some (meet (record { net = net; witness = witness }))
 
 -- none of them is a command
 abbrev pub are_none : List (Option Order) → Bool

@@ -4,7 +4,7 @@
 ghost use Rattle.std.specs.Prelude.{◌≡◌, pos, neg_ℤ, true, false, [], ◌∷◌, map, codes};
 ghost use Rattle.hyd_command_words.specs.CommandGrammar.{order_of};
 ghost use Rattle.hyd_cases_of_definitions.specs.Commands.{typed, asks_run, asks_check, asks_gen, are_none};
-ghost use Rattle.hyd_cases_of_definitions.specs.Commands.{asks_fire, asks_closures, asks_flows};
+ghost use Rattle.hyd_cases_of_definitions.specs.Commands.{asks_fire, asks_closures, asks_flows, asks_meet};
 
 /// The words of `run`: its options in each form, and where they stand.
 pub fn runs()
@@ -99,6 +99,15 @@ pub fn targets()
         asks_closures (codes "a") (neg_ℤ (pos 500000000)) 200 ∷ [] }
 {}
 
+/// The words of `meet`.
+pub fn witnesses()
+    ensures meets { map order_of (map typed (
+        codes "meet a b" ∷ codes "meet -- a b" ∷ codes "meet - b" ∷ codes "meet a -- -b" ∷ []))
+        ≡
+        asks_meet (codes "a") (codes "b") ∷ asks_meet (codes "a") (codes "b") ∷ asks_meet (codes "-") (codes "b") ∷
+        asks_meet (codes "a") (codes "-b") ∷ [] }
+{}
+
 /// Words that are no command.
 pub fn refused()
     ensures names { are_none (map order_of (map typed (
@@ -140,4 +149,8 @@ pub fn refused()
         codes "fire a J -- -10000.000000001" ∷ codes "fire a J -" ∷ codes "Fire a J 1" ∷ codes "closures a" ∷
         codes "closures a 1 2" ∷ codes "closures a -1" ∷ codes "closures a 1 --tight" ∷
         codes "closures a 1 --width=1" ∷ codes "closures a 10001" ∷ codes "closures a 1 --sweeps -1" ∷ []))) ≡ true }
+    ensures witnesses { are_none (map order_of (map typed (
+        codes "meet" ∷ codes "meet a" ∷ codes "meet a a" ∷ codes "meet a b c" ∷ codes "Meet a b" ∷
+        codes "meet a -b" ∷ codes "meet a b --tight" ∷ codes "meet a b --sweeps 5" ∷ codes "meet a b --width=1" ∷
+        codes "meet a b --flows V" ∷ codes "meets a b" ∷ []))) ≡ true }
 {}

@@ -2,7 +2,7 @@
 -- refused, and what is left whatever the text was.
 -- Source: this program's.
 use Rattle.std.specs.Prelude.{ℕ, List, [], ◌∷◌, Option, Some, None, IsTrue, Bool, ⊤}
-use Rattle.hyd_command_words.specs.CommandGrammar.{Order, run, check, gen, fire, closures}
+use Rattle.hyd_command_words.specs.CommandGrammar.{Order, run, check, gen, fire, closures, meet}
 use Rattle.hyd_cli.specs.WordsAndUsageLine.{usage_line}
 use Rattle.hyd_command_answers.specs.declared.status.Status.{Status}
 use Rattle.hyd_command_answers.specs.declared.status.Status.TheVariants.{OutOfMemory, Usage, ReadFault, WriteFault}
@@ -14,8 +14,8 @@ use Rattle.hyd_naming_command.specs.NamingAnswers.{LeavesNaming}
 
 -- ---- names
 
--- What a command asks of the desk: `run` opens NET and creates CERT, `check` opens both, `gen` creates both, and `fire`
--- and `closures` open NET. Words that aren't a command ask for nothing.
+-- What a command asks of the desk: `run` opens NET and creates CERT, `check` opens both, `gen` creates both, `fire` and
+-- `closures` open NET, and `meet` opens NET and FILE. Words that aren't a command ask for nothing.
 abbrev pub MayUse : (may_open may_create : List ℕ → Bool) → Option Order → Type 0
 MayUse may_open may_create None = ⊤
 MayUse may_open may_create (Some (run order)) = IsTrue (may_open order.files.net) × IsTrue (may_create order.files.cert)
@@ -24,6 +24,7 @@ MayUse may_open may_create (Some (gen order)) = IsTrue (may_create order.files.n
     order.files.cert)
 MayUse may_open may_create (Some (fire order)) = IsTrue (may_open order.net)
 MayUse may_open may_create (Some (closures order)) = IsTrue (may_open order.net)
+MayUse may_open may_create (Some (meet order)) = IsTrue (may_open order.net) × IsTrue (may_open order.witness)
 
 -- ---- words that aren't a command
 
@@ -68,3 +69,4 @@ Leaves (Some (check files)) status before now = LeavesCheck status before now
 Leaves (Some (gen order)) status before now = LeavesRun status before now
 Leaves (Some (fire order)) status before now = LeavesNet status before now
 Leaves (Some (closures order)) status before now = LeavesNet status before now
+Leaves (Some (meet order)) status before now = LeavesNet status before now

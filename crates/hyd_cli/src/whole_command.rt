@@ -2,7 +2,7 @@
 
 ghost use Rattle.std.specs.Prelude.{◌≡◌, ◌≢◌, Option, Some, None, map, option_map, string_bytes};
 ghost use Rattle.hyd_command_words.specs.CommandGrammar.{Order, RunOrder, GenOrder, TwoFiles, order_of, run, check};
-ghost use Rattle.hyd_command_words.specs.CommandGrammar.{gen, FireOrder, ClosuresOrder, fire, closures};
+ghost use Rattle.hyd_command_words.specs.CommandGrammar.{gen, FireOrder, ClosuresOrder, MeetOrder, fire, closures, meet};
 ghost use Rattle.hyd_command_words.specs.CommandView.{order_seen};
 ghost use Rattle.hyd_command_answers.specs.DeskContents.{seen};
 ghost use Rattle.hyd_cli.specs.Answers.{MayUse, Leaves};
@@ -10,6 +10,7 @@ ghost use Rattle.hyd_command_answers.specs.FaultsAndRefusals.{HasCause};
 ghost use Rattle.hyd_cli.specs.Answers.{AnswersUsage};
 ghost use Rattle.hyd_cli.specs.Commands.{DoesRun, DoesCheck, DoesGen};
 ghost use Rattle.hyd_target_commands.specs.CommandsOnTargets.{DoesFire, DoesClosures};
+ghost use Rattle.hyd_witness_commands.specs.CommandMeet.{DoesMeet};
 ghost use Rattle.hyd_command_answers.specs.declared.status.Status.TheVariants.{Usage};
 
 use crate::command_check::check_files;
@@ -21,6 +22,7 @@ use hyd_command_answers::{Status, fault_status};
 use hyd_command_words::Command;
 use hyd_io::Desk;
 use hyd_target_commands::{close_pipes, find_bracket};
+use hyd_witness_commands::meet_file;
 use std::alloc::Global;
 
 /// Runs the command of the words after the program's name.
@@ -34,17 +36,21 @@ use std::alloc::Global;
 ///   pressure P there.
 /// - `closures NET P [--sweeps N]` reads the network of NET, and prints which junctions keep the pressure P while each
 ///   pipe is shut alone.
+/// - `meet NET FILE` reads both, and prints whether each period of the witness in FILE is met, or the first that isn't.
 ///
-/// NET and CERT are each opened or created once at most. What is created, and CERT of a check, waits until all memory
-/// is taken that the command needs. `gen` replaces NET before CERT is created, and leaves CERT as it was unless NET
+/// NET, CERT and FILE are each opened or created once at most. What is created, CERT of a check, and FILE, wait until all
+/// memory is taken that the command needs. `gen` replaces NET before CERT is created, and leaves CERT as it was unless NET
 /// holds the whole text.
 ///
 /// - `Usage`: the words aren't a command.
 /// - `InputRefused`: the text of the network has a fault (one of more than 64 MiB among them), J is no junction of it, or
 ///   a name of `--flows` is no link between two junctions.
-/// - `Done`: the run finished, the certificate was accepted, or the lines of `fire` or `closures` were printed.
-/// - `Undecided`, `RoundsSpent`, `Demand`: how a run was stopped; `Demand` of `fire` and `closures` too.
-/// - `CertificateRefused`: the certificate's lines, a record, the part behind one or its END line aren't right.
+/// - `Done`: the run finished, the certificate was accepted, the lines of `fire` or `closures` were printed, or all
+///   periods of a witness are met.
+/// - `Undecided`, `RoundsSpent`, `Demand`: how a run was stopped; `Demand` of `fire` and `closures` too; `Undecided` of
+///   `meet` where a period isn't met.
+/// - `CertificateRefused`: the certificate's lines, a record, the part behind one or its END line aren't right, or a line
+///   of a witness.
 /// - `OutOfMemory`: nothing was created, written or printed.
 /// - `ReadFault`, `WriteFault`, `Stalled`: a call on the desk failed or took nothing. Nothing more was called then.
 pub fn tool<D: Desk>(alloc: Global, words: &[String], desk: &mut D) -> Status
@@ -70,6 +76,9 @@ pub fn tool<D: Desk>(alloc: Global, words: &[String], desk: &mut D) -> Status
         (D.openings desk.old) (D.openings desk.new) }
     ensures closes { (order : ClosuresOrder) → order_of (map string_bytes words.now) ≡ Some (closures order) → DoesClosures order
         result (seen D.files D.written D.printed desk.old) (seen D.files D.written D.printed desk.new)
+        (D.openings desk.old) (D.openings desk.new) }
+    ensures meets { (order : MeetOrder) → order_of (map string_bytes words.now) ≡ Some (meet order) → DoesMeet order result
+        (seen D.files D.written D.printed desk.old) (seen D.files D.written D.printed desk.new)
         (D.openings desk.old) (D.openings desk.new) }
 {
     match read_command(alloc, words, desk) {
@@ -105,6 +114,9 @@ fn carry_out<D: Desk>(alloc: Global, found: Option<Command<'_>>, desk: &mut D) -
     ensures closes { (order : ClosuresOrder) → option_map order_seen found.entry ≡ Some (closures order) → DoesClosures order
         result (seen D.files D.written D.printed desk.old) (seen D.files D.written D.printed desk.new)
         (D.openings desk.old) (D.openings desk.new) }
+    ensures meets { (order : MeetOrder) → option_map order_seen found.entry ≡ Some (meet order) → DoesMeet order result
+        (seen D.files D.written D.printed desk.old) (seen D.files D.written D.printed desk.new)
+        (D.openings desk.old) (D.openings desk.new) }
 {
     match found {
         Some(Command::Run(words)) => run_words(alloc, &words, desk),
@@ -112,6 +124,7 @@ fn carry_out<D: Desk>(alloc: Global, found: Option<Command<'_>>, desk: &mut D) -
         Some(Command::Gen(words)) => generate_network(alloc, &words, desk),
         Some(Command::Fire(words)) => find_bracket(alloc, &words, desk),
         Some(Command::Closures(words)) => close_pipes(alloc, &words, desk),
+        Some(Command::Meet(words)) => meet_file(alloc, &words, desk),
         None => refuse_words(desk),
     }
 }

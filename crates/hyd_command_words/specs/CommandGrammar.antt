@@ -41,6 +41,11 @@ pub record ClosuresOrder : Type 0 where
   pub pressure : ℤ
   pub rounds : ℕ
 
+-- `meet`: its file, and that of the witness
+pub record MeetOrder : Type 0 where
+  pub net : Word
+  pub witness : Word
+
 -- a command with its options and names
 pub data Order : Type 0 where
   run : RunOrder → Order
@@ -48,6 +53,7 @@ pub data Order : Type 0 where
   gen : GenOrder → Order
   fire : FireOrder → Order
   closures : ClosuresOrder → Order
+  meet : MeetOrder → Order
 
 -- ---- numbers
 
@@ -140,6 +146,15 @@ closures_order rounds (net ∷ pressure ∷ []) =
     option_map (λ p. record { net = net; pressure = p; rounds = rounds }) (pressure_of pressure)
 closures_order rounds names = None
 
+-- NET and FILE, which differ
+abbrev pub meet_of : Word → Word → Option MeetOrder
+meet_of net witness = if bytes_eq net witness then None else Some (record { net = net; witness = witness })
+
+-- two of them and no more
+abbrev pub meet_order : List Word → Option MeetOrder
+meet_order (net ∷ witness ∷ []) = meet_of net witness
+meet_order names = None
+
 -- ---- commands
 
 -- nothing is wrong, and `--tight` stands once at most
@@ -195,6 +210,10 @@ closures_command s =
     then option_and_then (λ n. option_map closures (closures_order n s.names)) (rounds_of s.sweeps_values)
     else None
 
+-- `meet NET FILE`
+abbrev pub meet_command : Said → Option Order
+meet_command s = if has_names_alone s then option_map meet (meet_order s.names) else None
+
 -- the command of this name, if what is said behind it fits
 abbrev pub order_named : Word → Said → Option Order
 order_named word s =
@@ -203,7 +222,8 @@ order_named word s =
     else (if bytes_eq word (codes "gen") then gen_command s
     else (if bytes_eq word (codes "fire") then fire_command s
     else (if bytes_eq word (codes "closures") then closures_command s
-    else None))))
+    else (if bytes_eq word (codes "meet") then meet_command s
+    else None)))))
 
 -- the command of the words, if they are one
 abbrev pub order_of : List Word → Option Order

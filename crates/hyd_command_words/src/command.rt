@@ -76,6 +76,15 @@ pub struct ClosuresWords<'a> {
     pub ghost small: { unsigned_abs pressure.nano ≤ 10 ^ 13 },
 }
 
+/// What `meet NET FILE` asks for. The names differ.
+#[derive(Clone, Copy)]
+pub struct MeetWords<'a> {
+    /// NET: the network's input file, which is read.
+    pub net: &'a str,
+    /// FILE: the witness, which is read.
+    pub witness: &'a str,
+}
+
 /// A command of the program.
 #[derive(Clone, Copy)]
 pub enum Command<'a> {
@@ -89,4 +98,6 @@ pub enum Command<'a> {
     Fire(FireWords<'a>),
     /// `closures NET P [--sweeps N]`.
     Closures(ClosuresWords<'a>),
+    /// `meet NET FILE`: both files are read.
+    Meet(MeetWords<'a>),
 }

@@ -1,5 +1,5 @@
 //! The words of the command line of `hyd`: `run NET CERT`, `check NET CERT`, `gen SEED JUNCTIONS NET CERT`,
-//! `fire NET J P` and `closures NET P`, with their options.
+//! `fire NET J P`, `closures NET P` and `meet NET FILE`, with their options.
 //!
 //! Tested by the words of `hyd_stored_runs`.
 #![tactic(auto)]
@@ -13,7 +13,9 @@ mod names_of_links;
 mod numbers;
 mod said_words;
 
-pub use command::{ClosuresWords, Command, Files, FireWords, GenWords, LinkNames, RunWords};
+pub use command::{
+    ClosuresWords, Command, Files, FireWords, GenWords, LinkNames, MeetWords, RunWords,
+};
 pub use command_of_words::read_words;
 pub use names_of_links::MOST_NAMES;
 pub use numbers::{DEFAULT_ROUNDS, DEFAULT_WIDTH};

@@ -3,9 +3,9 @@
 ghost use Rattle.std.specs.Prelude.{◌≡◌, ◌-◌, option_map, not, ◌==◌, ◌||◌};
 ghost use Rattle.hyd_command_words.specs.CommandGrammar as orders;
 ghost use Rattle.hyd_command_words.specs.CommandView.{said_seen, texts_seen, order_seen, gen_seen};
-ghost use Rattle.hyd_command_words.specs.CommandView.{files_seen};
+ghost use Rattle.hyd_command_words.specs.CommandView.{files_seen, meet_seen};
 
-use crate::command::{Command, Files, GenWords, RunWords};
+use crate::command::{Command, Files, GenWords, MeetWords, RunWords};
 use crate::commands_on_targets::{closures_command, fire_command};
 use crate::names_of_links::flows_of;
 use crate::numbers::{number_within, rounds_of, width_of};
@@ -29,6 +29,9 @@ pub(crate) fn order_named<'a>(name: &str, said: Said<'_, 'a>) -> Option<Command<
     }
     if name == "closures" {
         return closures_command(said);
+    }
+    if name == "meet" {
+        return meet_command(said);
     }
     None
 }
@@ -72,6 +75,16 @@ fn gen_command<'a>(said: Said<'_, 'a>) -> Option<Command<'a>>
     Some(Command::Gen(order))
 }
 
+fn meet_command<'a>(said: Said<'_, 'a>) -> Option<Command<'a>>
+    ensures { option_map order_seen result ≡ orders.meet_command (said_seen said.entry) }
+{
+    if has_options(said) {
+        return None;
+    }
+    let order = meet_words(said.names)?;
+    Some(Command::Meet(order))
+}
+
 // Whether an option stands.
 fn has_options(said: Said<'_, '_>) -> bool
     ensures { result ≡ not (orders.has_names_alone (said_seen said.entry)) }
@@ -99,6 +112,25 @@ fn differing<'a>(net: &'a str, cert: &'a str) -> Option<Files<'a>>
         return None;
     }
     Some(Files { net, cert })
+}
+
+fn meet_words<'a>(names: &[&'a str]) -> Option<MeetWords<'a>>
+    ensures { option_map meet_seen result ≡ orders.meet_order (texts_seen names.now) }
+{
+    match names {
+        [net, witness] => meet_of(net, witness),
+        _ => None,
+    }
+}
+
+// NET and FILE, if their names differ.
+fn meet_of<'a>(net: &'a str, witness: &'a str) -> Option<MeetWords<'a>>
+    ensures { option_map meet_seen result ≡ orders.meet_of net.now witness.now }
+{
+    if net == witness {
+        return None;
+    }
+    Some(MeetWords { net, witness })
 }
 
 fn gen_words<'a>(names: &[&'a str]) -> Option<GenWords<'a>>

@@ -20,17 +20,22 @@ and proves the intervals that it prints.
       closes each pipe alone at the start, and prints the junctions that aren't
       shown to keep the pressure P
       hyd closures examples/net1.inp 20
+  hyd meet NET FILE
+      checks a witness: exact heads and flows, period by period
+      hyd meet examples/one-valve.inp examples/one-valve.wit
 
 N is 200 where it isn't given, W is 0.01 metres.
 hyd help COMMAND explains the words of a command.
 
 Status 0: done. 2: the words aren't a command. 5: NET is refused.
-6: something can't be decided. 7: rounds are spent. 8: a demand is out of range.
-9: CERT isn't right. 1: memory ran out. 3: a file couldn't be read. 4: one
-couldn't be written. 10: a write took nothing.
+6: something can't be decided, or a period of FILE isn't met. 7: rounds are
+spent. 8: a demand is out of range. 9: CERT or FILE isn't right. 1: memory ran
+out. 3: a file couldn't be read. 4: one couldn't be written. 10: a write took
+nothing.
 
 README.md: how to read a report. docs/ANSWERS.md: each line and status.
-docs/REFUSALS.md: what NET may have. docs/CERTIFICATES.md: what CERT is worth.";
+docs/REFUSALS.md: what NET may have. docs/CERTIFICATES.md: what CERT is worth.
+docs/WITNESSES.md: what FILE is worth.";
 
 pub(crate) const HELP_OF_RUN: &str = "run NET CERT [--sweeps N] [--width W] [--tight] [--flows IDS]
 
@@ -116,3 +121,19 @@ at most P, else UNSURE, NOCERT or ROUNDS. It writes nothing.
 
 Status 0: done. 5: NET is refused. 8: a demand is out of range. 1, 3, 4, 10:
 memory or files.";
+
+pub(crate) const HELP_OF_MEET: &str = "meet NET FILE
+
+Checks a witness period by period: whether what it says in exact numbers is a
+history of the network. It prints MEETS and the number of periods, or UNMET and
+the first period that isn't met, with the clause that fails. It writes nothing.
+
+  NET   the network
+  FILE  the witness, whoever wrote it: for each period the heads, flows, demand
+        flows and emitter flows, and the levels and volumes of tanks
+
+  hyd meet examples/one-valve.inp examples/one-valve.wit
+
+Status 0: all periods are met (MEETS). 6: one isn't (UNMET). 9: a line of FILE
+can't be so (BADWIT). 5: NET is refused. 1, 3, 4, 10: memory or files.
+docs/WITNESSES.md: what FILE has, and what it is worth.";

@@ -28,6 +28,8 @@ pub(crate) enum WrongWord<'a> {
     TooMany(&'a str, Usage),
     /// One name for the network and the certificate.
     OneFile(&'a str),
+    /// One name for the network and the witness.
+    OneWitness(&'a str),
 }
 
 /// The words of a command, each behind a space.
@@ -112,7 +114,7 @@ impl Display for WrongWord<'_> {
         match *self {
             WrongWord::NoCommand(word) => write!(
                 f,
-                "{word} is no command: the first word is run, check, gen, fire or closures. hyd --help shows all commands"
+                "{word} is no command: the first word is run, check, gen, fire, closures or meet. hyd --help shows all commands"
             ),
             WrongWord::NoOption(word, usage) => write_no_option(word, usage, f),
             WrongWord::ValueLacks(option) => write!(
@@ -134,6 +136,10 @@ impl Display for WrongWord<'_> {
             WrongWord::OneFile(name) => write!(
                 f,
                 "NET and CERT are both called {name}: the certificate is another file"
+            ),
+            WrongWord::OneWitness(name) => write!(
+                f,
+                "NET and FILE are both called {name}: the witness is another file"
             ),
         }
     }

@@ -51,6 +51,12 @@ const CLOSURES: Usage = Usage {
     options: &["--sweeps"],
 };
 
+const MEET: Usage = Usage {
+    name: "meet",
+    words: &["NET", "FILE"],
+    options: &[],
+};
+
 /// The command of a name.
 pub(crate) fn usage_of(name: &str) -> Option<Usage> {
     match name {
@@ -59,6 +65,7 @@ pub(crate) fn usage_of(name: &str) -> Option<Usage> {
         "gen" => Some(GEN),
         "fire" => Some(FIRE),
         "closures" => Some(CLOSURES),
+        "meet" => Some(MEET),
         _ => None,
     }
 }

@@ -84,10 +84,14 @@ fn count_fault<'a>(usage: Usage, words: &'a [String]) -> Option<WrongWord<'a>> {
 fn name_fault<'a>(usage: Usage, words: &'a [String]) -> Option<WrongWord<'a>> {
     let last = usage.words.len().checked_sub(1)?;
     let name = word_at(words, last)?;
-    if is_among("CERT", usage.words) && word_at(words, last.checked_sub(1)?)? == name {
-        return Some(WrongWord::OneFile(name));
+    if word_at(words, last.checked_sub(1)?)? != name {
+        return None;
     }
-    None
+    match usage.words.last() {
+        Some(&"CERT") => Some(WrongWord::OneFile(name)),
+        Some(&"FILE") => Some(WrongWord::OneWitness(name)),
+        _ => None,
+    }
 }
 
 // What is wrong with the number of words, or with the names among them.

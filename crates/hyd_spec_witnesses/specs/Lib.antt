@@ -6,4 +6,3 @@ pub mod FirstUnmetClause
 pub mod MiddleCandidate
 pub mod WitnessText
 pub mod FaultyLine
-pub mod PromisesOfWitnesses

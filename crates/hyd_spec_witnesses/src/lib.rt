@@ -1,6 +1,5 @@
 //! Definitions alone: the laws at a scale of parts of ticks, what makes a period of a witness met and which of its
-//! clauses fails first, the text of a witness, and what finding one and checking one promise. No function here has a
-//! body.
+//! clauses fails first, and the text of a witness. No function here has a body.
 #![tactic(auto)]
 
 /// What may fail of a period of a witness, in this order (this program's own).

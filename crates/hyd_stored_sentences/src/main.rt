@@ -1,8 +1,9 @@
 //! Stored sentences. `texts.txt` has texts that are refused, each with the line and the cause that the reader answers;
 //! the program prints what is said of each, of each way in which the name of a link is refused, in which a run stops,
-//! and in which a certificate is refused, of each junction of `cut_off.inp` and each line of `words.txt`, of pressures
-//! below 0, the pages of help and the lines of progress. What is expected stands in `stdout`. A cause, a detail, a stop
-//! or a refusal without a case is told, and so is a text of which the reader answers another line or cause.
+//! in which a certificate is refused and in which a witness isn't met or has a bad line, of each junction of
+//! `cut_off.inp` and each line of `words.txt`, of pressures below 0, the pages of help and the lines of progress. What is
+//! expected stands in `stdout`. A cause, a detail, a stop or a refusal without a case is told, and so is a text of which
+//! the reader answers another line or cause.
 #![tactic(auto)]
 
 mod causes;
@@ -12,6 +13,7 @@ mod names;
 mod pages;
 mod stops;
 mod texts;
+mod witnesses;
 mod words;
 
 use hyd_inp::read_project;
@@ -29,6 +31,7 @@ fn main(rt: HostRuntime) -> io::Result<()> {
         Ok(project) => {
             stops::say_all(&rt, &project)?;
             certificates::say_all(&rt, &project)?;
+            witnesses::say_all(&rt, &project)?;
         }
         Err(_) => println!(rt; "the network isn't read")?,
     }

@@ -6,7 +6,15 @@ use std::io;
 
 /// Says the pages and the lines.
 pub(crate) fn say_all(rt: &HostRuntime) -> io::Result<()> {
-    for topic in ["run", "check", "gen", "fire", "closures", "anything else"] {
+    for topic in [
+        "run",
+        "check",
+        "gen",
+        "fire",
+        "closures",
+        "meet",
+        "anything else",
+    ] {
         println!(rt; "{}", Help { topic: Some(topic) })?;
     }
     println!(rt; "{}", Help { topic: None })?;

@@ -30,3 +30,7 @@ returns-clause-flows c = refl
 pub returns-clause-flows_alone : goal.returns-clause-flows_alone
 unfolding kind_of is_numeral nano_of magnitude_of
 returns-clause-flows_alone c = refl
+
+pub returns-clause-witnesses : goal.returns-clause-witnesses
+unfolding kind_of is_numeral nano_of magnitude_of
+returns-clause-witnesses c = refl

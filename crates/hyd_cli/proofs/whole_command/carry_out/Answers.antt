@@ -1,15 +1,18 @@
 -- What a command does is what was asked for.
 use Rattle.std.proofs.Common.{◌≡◌, Option, Some, option_map, sym, ap, ◌∙◌, subst}
 use Rattle.hyd_command_words.specs.CommandGrammar.{Order, RunOrder, GenOrder, TwoFiles, run, check, gen}
-use Rattle.hyd_command_words.specs.CommandGrammar.{FireOrder, ClosuresOrder, fire, closures}
+use Rattle.hyd_command_words.specs.CommandGrammar.{FireOrder, ClosuresOrder, MeetOrder, fire, closures, meet}
 use Rattle.hyd_command_words.specs.CommandView.{order_seen, run_seen, gen_seen, files_seen, fire_seen, closures_seen}
+use Rattle.hyd_command_words.specs.CommandView.{meet_seen}
 use Rattle.hyd_command_words.specs.declared.command.Command.{Command}
-use Rattle.hyd_command_words.specs.declared.command.Command.TheVariants.{Run, Check, Gen, Fire, Closures}
+use Rattle.hyd_command_words.specs.declared.command.Command.TheVariants.{Run, Check, Gen, Fire, Closures, Meet}
 use Rattle.hyd_command_answers.specs.DeskContents.{seen}
 use Rattle.hyd_cli.specs.Answers.{Leaves}
 use Rattle.hyd_cli.specs.Commands.{DoesRun, DoesCheck, DoesGen}
 use Rattle.hyd_target_commands.specs.CommandsOnTargets.{DoesFire, DoesClosures}
+use Rattle.hyd_witness_commands.specs.CommandMeet.{DoesMeet}
 use Rattle.hyd_cli.proofs.CommandsOfWords.{same_run, same_check, same_gen_order, same_fire, same_closures}
+use Rattle.hyd_cli.proofs.CommandsOfWords.{same_meet}
 use Rattle.hyd_cli.proofs.whole_command.carry_out.Goals as goal
 
 pub returns-in-Some-Run-clause-leaves : goal.returns-in-Some-Run-clause-leaves
@@ -143,4 +146,31 @@ returns-in-Some-Closures-clause-closes g c order asked =
       closes = c.close_pipes.ensures.closes;
       only_prints = c.close_pipes.ensures.only_prints;
       once = c.close_pipes.ensures.once;
+    })
+
+pub returns-in-Some-Meet-clause-leaves : goal.returns-in-Some-Meet-clause-leaves
+returns-in-Some-Meet-clause-leaves g c =
+    let words = c.in-Some-Meet.words in
+    let kind : c.in-Some-Meet.field-0 ≡ Meet words = rw c.in-Some-Meet.is at c.in-Some-Meet.field-0-is in
+    let found : c.args.found ≡ Some (Meet words) = c.in-Some-Meet.is ∙ ap Some kind in
+    let before = seen g.D.Desk.files g.D.Desk.written g.D.Desk.printed c.args.desk.now in
+    let now = seen g.D.Desk.files g.D.Desk.written g.D.Desk.printed c.meet_file.new.desk in
+    let known : option_map order_seen c.args.found ≡ Some (meet (meet_seen words)) =
+    ap (λ (f : Option Command). option_map order_seen f) found in
+    subst (λ (o : Option Order). Leaves o c.meet_file.result before now) (sym known) c.meet_file.ensures.leaves
+
+pub returns-in-Some-Meet-clause-meets : goal.returns-in-Some-Meet-clause-meets
+returns-in-Some-Meet-clause-meets g c order asked =
+    let words = c.in-Some-Meet.words in
+    let kind : c.in-Some-Meet.field-0 ≡ Meet words = rw c.in-Some-Meet.is at c.in-Some-Meet.field-0-is in
+    let found : c.args.found ≡ Some (Meet words) = c.in-Some-Meet.is ∙ ap Some kind in
+    let before = seen g.D.Desk.files g.D.Desk.written g.D.Desk.printed c.args.desk.now in
+    let now = seen g.D.Desk.files g.D.Desk.written g.D.Desk.printed c.meet_file.new.desk in
+    subst (λ (o : MeetOrder). DoesMeet o c.meet_file.result before now (g.D.Desk.openings c.args.desk.now)
+    (g.D.Desk.openings c.meet_file.new.desk)) (sym (same_meet words c.args.found order found asked)) (record {
+      refused = c.meet_file.ensures.refused;
+      meets = c.meet_file.ensures.meets;
+      not_refused = c.meet_file.ensures.not_refused;
+      only_prints = c.meet_file.ensures.only_prints;
+      once = c.meet_file.ensures.once;
     })

@@ -1,6 +1,7 @@
 -- What finding a witness and checking one promise.
 -- Source: this program's.
-use Rattle.std.specs.Prelude.{◌≡◌, ℕ, ◌<◌, ◌^◌, List, [], ◌∷◌, ◌++◌, length, map, All, codes, decimal}
+use Rattle.std.specs.Prelude.{◌≡◌, ℕ, ◌<◌, ◌^◌, List, [], ◌∷◌, ◌++◌, ◌⊎◌, length, map, All}
+use Rattle.std.specs.Prelude.{codes, decimal}
 use Rattle.std.specs.List.{AllByRecursion}
 use Rattle.hyd_spec.specs.ProgramTypes.{Project}
 use Rattle.hyd_spec.specs.Lists.{joined}
@@ -119,26 +120,37 @@ pub data BeginsCertificateOf (project : Project) (text : List ℕ) (left : Stand
       → AllByRecursion (IsFoundNaming project) namings → BeginsWithEntries project text (entries_of namings)
       → BeginsCertificateOf project text left (founds_in namings)
 
--- A witness in halves of ticks with a period for each of those that were found. Its periods are met, and so a history
--- of the network.
-pub record WritesWitness (project : Project) (written : List ℕ) (founds : List Found) (moments : List Moment) : Type 0
-  where
-    pub one_each : length moments ≡ length founds
-    pub is_text : IsWitnessText (counts_of project) written halves moments
-    pub met : AreMet project halves moments
-    pub history : IsHistory project halves (periods_of project halves moments)
+-- The finer scale of a witness that is written.
+abbrev pub fine_parts : ℕ
+fine_parts = 1024
+
+-- A witness is written in halves of ticks, or in finer parts.
+abbrev pub IsWrittenScale : ℕ → Type 0
+IsWrittenScale scale = (scale ≡ halves) ⊎ (scale ≡ fine_parts)
+
+-- A witness at a scale with a period for each of those that were found. Its periods are met, and so a history of the
+-- network.
+pub record WritesWitness (project : Project) (scale : ℕ) (written : List ℕ) (founds : List Found)
+    (moments : List Moment) : Type 0 where
+  pub one_each : length moments ≡ length founds
+  pub is_text : IsWitnessText (counts_of project) written scale moments
+  pub met : AreMet project scale moments
+  pub history : IsHistory project scale (periods_of project scale moments)
 
 -- What was read is the certificate of a run, and what was written is a witness with a period for each of its records.
 pub record FindsWitness (project : Project) (certificate written printed : List ℕ) : Type 0 where
   pub founds : List Found
   pub left : Standing
   pub is_certificate : IsCertificateOf project certificate left founds
+  pub scale : ℕ
+  pub is_scale : IsWrittenScale scale
   pub moments : List Moment
-  pub writes : WritesWitness project written founds moments
+  pub writes : WritesWitness project scale written founds moments
   pub report : printed ≡ witness_line (length moments)
 
 -- What was read begins as the certificate of a run with one more valid record, whatever comes after that. What was
--- written is a witness with a period for each of the records before, and the middle candidate of that record isn't met.
+-- written is a witness in halves of ticks with a period for each of the records before, and the middle candidate of that
+-- record isn't met.
 pub record FindsNoWitness (project : Project) (certificate written printed : List ℕ) : Type 0 where
   pub founds : List Found
   pub found : Found
@@ -146,7 +158,7 @@ pub record FindsNoWitness (project : Project) (certificate written printed : Lis
   pub begins : BeginsCertificateOf project certificate found.standing founds
   pub begins_with_it : BeginsCertificateOf project certificate found.next (founds ++ (found ∷ []))
   pub moments : List Moment
-  pub writes : WritesWitness project written founds moments
+  pub writes : WritesWitness project halves written founds moments
   pub middle : Moment
   pub is_middle : IsMiddle project (reached_after project halves at_start moments) found.row middle
   pub not_met : IsMet project halves (reached_after project halves at_start moments) middle → ⊥

@@ -1,0 +1,15 @@
+pub mod PeriodsOfSetNets
+pub mod StartsOfMoments
+pub mod StandingsAndStarts
+pub mod OwnLinkStates
+pub mod VolumesKept
+pub mod ListsOfStates
+pub mod CommandedStates
+pub mod StandingsAfter
+pub mod InitialStocks
+pub mod SpansOfTanks
+pub mod LengthsOfPeriods
+pub mod SmallStocks
+pub mod UnmetClauses
+pub mod NextStocks
+pub mod MetPeriodsOfTrials

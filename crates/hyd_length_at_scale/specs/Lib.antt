@@ -1,0 +1,4 @@
+pub mod Instants
+pub mod MetPeriods
+pub mod LevelEnds
+pub mod ReservedMemory

@@ -1,0 +1,4 @@
+pub mod WindowsHalved
+pub mod OtherFlows
+pub mod HeadsBetween
+pub mod MiddleMoments

@@ -1,0 +1,2 @@
+pub mod HalfwayFlows
+pub mod CandidateParts

@@ -1,0 +1,3 @@
+pub mod Comparisons
+pub mod ReadingsOfInstants
+pub mod Roundings

@@ -1,0 +1,5 @@
+pub mod Spreads
+pub mod IntervalsOfData
+pub mod NetworksWithin
+pub mod HistoriesWithin
+pub mod OutermostGrids

@@ -1,0 +1,3 @@
+pub mod GridsBeyondOthers
+pub mod AssignmentsWithin
+pub mod EndsTaken

@@ -1,0 +1,2 @@
+pub mod LastPeriods
+pub mod CandidateLemmas

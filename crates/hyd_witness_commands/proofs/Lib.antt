@@ -1,0 +1,3 @@
+mod JoinedPieces
+mod StatusesOfMeet
+mod LinesPutInPieces

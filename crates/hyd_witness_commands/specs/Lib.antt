@@ -1,0 +1,3 @@
+pub mod MeetAnswers
+pub mod Statuses
+pub mod CommandMeet

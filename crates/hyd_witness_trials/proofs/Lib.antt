@@ -1,0 +1,3 @@
+mod MetMoments
+mod LinesOfWitness
+mod Findings
