@@ -28,7 +28,7 @@ from pathlib import Path
 
 import compare_runs
 from compare_runs import MOST_PERIODS, OTHER_SECONDS, SECONDS, build, give_up
-from differences import printed_by
+from differences import STAGE, losses, printed_by
 
 CHANGES = 8
 
@@ -74,7 +74,7 @@ def changed(fuzz, rng, cert, other):
 
 def wanted(cli, text, cert):
     """The independent program's answer."""
-    return cli.Tool({'n.inp': text, 'n.cert': cert}, 'f').call(['check', 'n.inp', 'n.cert'])
+    return cli.Tool({'n.inp': text, 'n.cert': cert}, STAGE).call(['check', 'n.inp', 'n.cert'])
 
 
 def got(program, text, cert):
@@ -94,7 +94,7 @@ def certificate_of(cli, rng, program, text):
     """A certificate of a network and the number of its periods: of either program, of a run that stopped too."""
     if rng.randrange(2):
         files = {'n.inp': text}
-        cli.Tool(files, 'f', None, MOST_PERIODS).call(['run', 'n.inp', 'n.cert'])
+        cli.Tool(files, STAGE, None, MOST_PERIODS).call(['run', 'n.inp', 'n.cert'])
         return files.get('n.cert')
     answer = compare_runs.found(program, text, ['--tight'] if rng.randrange(2) else [])
     return answer[2]
@@ -111,11 +111,11 @@ def compared(job):
     signal.signal(signal.SIGVTALRM, give_up)
     signal.setitimer(signal.ITIMER_VIRTUAL, OTHER_SECONDS)
     try:
-        text = fuzz.Maker(rng, True).make()
+        text = fuzz.Maker(rng, True, losses()).make()
         cert = certificate_of(cli, rng, program, text)
         if cert is None or cert.count(b'PERIOD') > MOST_PERIODS:
             return seed, text, None
-        other = certificate_of(cli, rng, program, fuzz.Maker(rng, True).make()) or cert
+        other = certificate_of(cli, rng, program, fuzz.Maker(rng, True, losses()).make()) or cert
         certs = [cert] + [changed(fuzz, rng, cert, other) for _ in range(CHANGES)]
         return seed, text, [(one, wanted(cli, text, one), got(program, text, one)) for one in certs]
     except (TimeoutError, cli.TooManyPeriods):

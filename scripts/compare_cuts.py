@@ -25,6 +25,7 @@ from pathlib import Path
 import compare_checks
 import compare_runs
 from compare_runs import OTHER_SECONDS, SPENT, build, comparison, expected, give_up
+from differences import STAGE
 
 BYTES = b'0159- \n.EMPUX;[\xff\x00'
 CHOICES = 10
@@ -59,7 +60,7 @@ def jobs_of(cli, program, folder, name):
     """All that is tried with a network."""
     text = NETWORKS[name].encode()
     files = {'n.inp': text}
-    cli.Tool(files, 'f').call(['run', 'n.inp', 'n.cert'])
+    cli.Tool(files, STAGE).call(['run', 'n.inp', 'n.cert'])
     cert = files['n.cert']
     tries = [('text cut off', one, None) for one in cuts(text)]
     tries += [('text changed', one, None) for one in changes(text)]

@@ -31,7 +31,7 @@ from pathlib import Path
 
 from compare_checks import kind, tell
 from compare_runs import SECONDS, build, give_up, steady
-from differences import printed_by
+from differences import STAGE, losses, printed_by
 
 # Longer runs are left out, and those on which the other program spends more seconds (three of four take it a tenth of a
 # second, most others over twenty).
@@ -47,14 +47,14 @@ WRONG_NAMES = ['', 'x' * 32]
 
 def network(fuzz, rng):
     """A text."""
-    maker = steady(fuzz, rng) if rng.randrange(2) else fuzz.Maker(rng, True)
+    maker = steady(fuzz, rng) if rng.randrange(2) else fuzz.Maker(rng, True, losses())
     return maker.make()
 
 
 def links_of(cli, text):
     """The names of a text's links between two junctions, and those of the others; none where it has a fault."""
     try:
-        project = cli.read_project(text, 'f')
+        project = cli.read_project(text, STAGE)
     except Exception:
         return [], []
     inner, outer = [], []
@@ -140,14 +140,14 @@ def ended(program, files, words):
 def expected(cli, files, words):
     """The independent program's answer."""
     files = dict(files)
-    status, printed = cli.Tool(files, 'f', None, MOST_PERIODS).call(words)
+    status, printed = cli.Tool(files, STAGE, None, MOST_PERIODS).call(words)
     return status, printed, files.get('n.cert')
 
 
 def records_of(cli, text, cert):
     """The periods of a certificate with flows, as the other program accepts them, each with its part; none where it refuses it."""
     records = []
-    tool = cli.Tool({'n.inp': text}, 'f')
+    tool = cli.Tool({'n.inp': text}, STAGE)
     status, _ = tool.accept_all(tool.project('n.inp'), cert, lambda period, part: records.append((period, part)))
     return records if status == 0 else []
 

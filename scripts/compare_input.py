@@ -8,7 +8,8 @@ COUNT texts (20,000 where it isn't given) some are as made, most have changes of
 dropped, doubled or moved. For each, the fault must be the same (line, cause, detail), or none. The program that answers for
 this repository is built from compare_input_main.txt in a folder of its own, by `rt try`, without proofs; it reads on
 standard input each text behind a line with its length. It stands outside the gate. With KEEP=FOLDER in the environment the
-texts and answers are kept there, and taken from there the next time.
+texts and answers are kept there, and taken from there the next time. LOSSES=hw makes texts with Hazen-Williams losses, mixed
+of both kinds (cm). PROGRAM=FILE names the program where it is built already.
 """
 import os
 import pickle
@@ -84,7 +85,7 @@ def change_numbers(rng, text):
 
 def made(fuzz, rng):
     """A text, without a fault or with one or more."""
-    maker = fuzz.Maker(rng, True)
+    maker = fuzz.Maker(rng, True, differences.losses())
     text = maker.make()
     how = rng.randrange(10)
     if how < 2:
@@ -107,7 +108,7 @@ def made(fuzz, rng):
 def expected(reader, text):
     """The independent reader's fault, or `none`."""
     try:
-        reader.read_project(text)
+        reader.read_project(text, differences.STAGE)
     except reader.Refused as fault:
         return '%d %d %d' % (fault.line, fault.cause, fault.detail)
     return 'none'
@@ -117,6 +118,10 @@ def expected(reader, text):
 
 def run(texts):
     """What this repository's program prints of each text."""
+    data = b''.join(b'%d\n%s' % (len(text), text) for text in texts)
+    if 'PROGRAM' in os.environ:
+        done = subprocess.run([os.environ['PROGRAM']], input=data, capture_output=True, check=True)
+        return done.stdout.decode().split('\n')[:len(texts)]
     crates = crates_below(USES)
     with tempfile.TemporaryDirectory() as folder:
         top = Path(folder)
@@ -129,7 +134,6 @@ def run(texts):
         shutil.copy(MAIN, main / 'main.rt')
         (top / 'crates.txt').write_text(''.join('%s: %s\n' % (name, ' '.join(uses)) for name, uses in crates.items()))
         subprocess.run(['git', 'init', '-q', folder], check=True)
-        data = b''.join(b'%d\n%s' % (len(text), text) for text in texts)
         done = subprocess.run(['rt', 'try', '--seconds', '600'], cwd=main.parent, input=data, capture_output=True)
         if done.returncode:
             sys.exit(done.stderr.decode()[-3000:] + done.stdout.decode()[-2000:])
@@ -151,7 +155,8 @@ def answers(texts, want):
 
 def prepared(folder, count, seed):
     """The texts and the independent reader's answers."""
-    kept = Path(os.environ['KEEP']) / ('input_%d_%d.pickle' % (count, seed)) if 'KEEP' in os.environ else None
+    name = 'input_%d_%d_%s.pickle' % (count, seed, differences.losses())
+    kept = Path(os.environ['KEEP']) / name if 'KEEP' in os.environ else None
     if kept and kept.exists():
         return pickle.loads(kept.read_bytes())
     sys.path.insert(0, folder)

@@ -117,7 +117,7 @@ def main():
     import reader
     count = int(sys.argv[2]) if len(sys.argv) > 2 else 5000
     rng = random.Random(int(sys.argv[3]) if len(sys.argv) > 3 else 1)
-    judge = reader.Judge('f')
+    judge = reader.Judge(differences.STAGE, None)
     texts = [mutated(rng) for _ in range(count)]
     want = [expected(reader, judge, text) for text in texts]
     got = answers(texts)

@@ -35,7 +35,7 @@ from decimal import Decimal
 from pathlib import Path
 
 from compare_input import ROOT, change_numbers
-from differences import printed_by
+from differences import STAGE, losses, printed_by
 from unproved import LINKER, crates_below, links_to_kit
 
 SPENT = 7
@@ -110,7 +110,7 @@ def steady(fuzz, rng):
         def rules(self):
             pass
 
-    return Steady(rng, True)
+    return Steady(rng, True, losses())
 
 
 def made(fuzz, rng, is_steady):
@@ -121,7 +121,7 @@ def made(fuzz, rng, is_steady):
         words += ['--width', rng.choice('0.000000001 0.0000001 0.00001 0.01 1000'.split())]
     if rng.randrange(8) == 0:
         words += ['--sweeps', rng.choice('0 1 2 5 20 1000'.split())]
-    maker = steady(fuzz, rng) if is_steady else fuzz.Maker(rng, True)
+    maker = steady(fuzz, rng) if is_steady else fuzz.Maker(rng, True, losses())
     text = maker.make()
     if how == 1:
         return maker.fault(), words
@@ -136,7 +136,7 @@ def expected(cli, text, words, audit=None):
     """The independent program's answer, with the tightest vectors; None where its run has too many periods."""
     files = {'n.inp': text}
     try:
-        status, printed = cli.Tool(files, 'f', audit, MOST_PERIODS).call(['run', 'n.inp', 'n.cert'] + words)
+        status, printed = cli.Tool(files, STAGE, audit, MOST_PERIODS).call(['run', 'n.inp', 'n.cert'] + words)
     except cli.TooManyPeriods:
         return None
     return status, printed, files.get('n.cert')
@@ -154,8 +154,8 @@ def agreed(cli, text, words, got, audit=None):
 def followed(cli, text, words, got, audit):
     """What the independent program answers along the records that were found: it accepts each, and where the run
     stopped it looks for the next one itself."""
-    options = cli.parse_words(['run', 'n.inp', 'n.cert'] + words, 'f')[2]
-    sim = cli.Sim(cli.read_project(text, 'f'), options['sweeps'], audit)
+    options = cli.parse_words(['run', 'n.inp', 'n.cert'] + words, STAGE)[2]
+    sim = cli.Sim(cli.read_project(text, STAGE), options['sweeps'], audit)
     try:
         printed, end = accepted(cli, sim, options, got[2])
     except (cli.CertFault, cli.CertRefused, Unsharp) as fault:
@@ -178,7 +178,7 @@ class Unsharp(Exception):
 
 def accepted(cli, sim, options, cert):
     """The report of the records of a certificate, and its end."""
-    reader, printed = cli.Tool({}, 'f').reader(sim.project, cert), []
+    reader, printed = cli.Tool({}, STAGE).reader(sim.project, cert), []
     while True:
         item = reader.next()
         if item[0] == 'END':

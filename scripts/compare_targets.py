@@ -26,7 +26,7 @@ from pathlib import Path
 
 from compare_input import change_numbers
 from compare_runs import OTHER_SECONDS, SECONDS, build, give_up, steady
-from differences import printed_by
+from differences import STAGE, losses, printed_by
 
 SPENT = 'ROUNDS'
 
@@ -36,7 +36,7 @@ SPENT = 'ROUNDS'
 def network(fuzz, rng):
     """A text."""
     how = rng.randrange(20)
-    maker = steady(fuzz, rng) if rng.randrange(2) else fuzz.Maker(rng, True)
+    maker = steady(fuzz, rng) if rng.randrange(2) else fuzz.Maker(rng, True, losses())
     text = maker.make()
     if how == 0:
         return maker.fault()
@@ -46,7 +46,7 @@ def network(fuzz, rng):
 def junctions_of(cli, text):
     """The names of a text's junctions; none where it has a fault."""
     try:
-        return [junction.id.decode('latin-1') for junction in cli.read_project(text, 'f').junctions]
+        return [junction.id.decode('latin-1') for junction in cli.read_project(text, STAGE).junctions]
     except Exception:
         return []
 
@@ -95,7 +95,7 @@ def ended(program, folder, words):
 
 def expected(cli, text, words):
     """The independent program's answer."""
-    return cli.Tool({'n.inp': text}, 'f').call(words)
+    return cli.Tool({'n.inp': text}, STAGE).call(words)
 
 
 def compared(job):

@@ -27,7 +27,7 @@ import tempfile
 from pathlib import Path
 
 from compare_runs import OTHER_SECONDS, SECONDS, build, give_up
-from differences import printed_by
+from differences import STAGE, losses, printed_by
 
 CHANGES = 16
 MOST_PERIODS = 60
@@ -221,7 +221,7 @@ def witnesses_of(rng, witness, other):
 
 def wanted(cli, text, witness):
     """The independent program's answer."""
-    return cli.Tool({'n.inp': text, 'n.wit': witness}, 'f').call(['meet', 'n.inp', 'n.wit'])
+    return cli.Tool({'n.inp': text, 'n.wit': witness}, STAGE).call(['meet', 'n.inp', 'n.wit'])
 
 
 def got(program, text, witness):
@@ -240,11 +240,11 @@ def got(program, text, witness):
 def witness_of(cli, text):
     """A witness of a network, as far as one is found; None where its run has none, or stops at a demand."""
     files = {'n.inp': text}
-    if cli.Tool(files, 'f', None, MOST_PERIODS).call(['run', 'n.inp', 'n.cert'])[0] == OUT_OF_RANGE:
+    if cli.Tool(files, STAGE, None, MOST_PERIODS).call(['run', 'n.inp', 'n.cert'])[0] == OUT_OF_RANGE:
         return None
     if 'n.cert' not in files:
         return None
-    cli.Tool(files, 'f', None, MOST_PERIODS).call(['witness', 'n.inp', 'n.cert', 'n.wit'])
+    cli.Tool(files, STAGE, None, MOST_PERIODS).call(['witness', 'n.inp', 'n.cert', 'n.wit'])
     return files.get('n.wit')
 
 
@@ -258,12 +258,12 @@ def compared(job):
     rng = random.Random(seed)
     signal.signal(signal.SIGVTALRM, give_up)
     signal.setitimer(signal.ITIMER_VIRTUAL, OTHER_SECONDS)
-    text = fuzz.Maker(rng, True).make()
+    text = fuzz.Maker(rng, True, losses()).make()
     try:
         witness = witness_of(cli, text)
         if witness is None:
             return seed, text, None
-        other = witness_of(cli, fuzz.Maker(rng, True).make()) or witness
+        other = witness_of(cli, fuzz.Maker(rng, True, losses()).make()) or witness
         witnesses = witnesses_of(rng, witness, other)
         return seed, text, [(one, wanted(cli, text, one), got(program, text, one)) for one in witnesses]
     except (TimeoutError, cli.TooManyPeriods):

@@ -1,5 +1,14 @@
 """What two programs answer differently, and what this repository's answered."""
 import collections
+import os
+
+# The stage of the independent program that has all that this repository's has.
+STAGE = 'h'
+
+
+def losses():
+    """Which head losses texts are made with, by LOSSES in the environment: cm (where it isn't given), hw or mixed."""
+    return os.environ.get('LOSSES', 'cm')
 
 
 def printed_by(done):

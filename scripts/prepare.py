@@ -215,8 +215,8 @@ class Preparing:
                 self.drop(line, "EPANET reads no line of this section")
         self.pump_curves()
         if self.net.headloss is None:
-            self.advise(None, "no line HEADLOSS: EPANET takes H-W then. hyd takes C-M alone, by a line of its own: "
-                              "scripts/manning.py converts it (docs/HAZEN_WILLIAMS.md)")
+            self.advise(None, "no line HEADLOSS: EPANET takes H-W then. hyd wants the line: HEADLOSS H-W where each roughness "
+                              "is a C of Hazen-Williams, HEADLOSS C-M where it is Manning's n")
 
     def any_line(self, line):
         body = line.text.split(";", 1)[0]
@@ -409,9 +409,8 @@ class Preparing:
         elif key == "UNITS":
             if last == "CMS":
                 self.advise(line, "hyd has no flows in cubic metres a second: convert them, to CMH or LPS")
-        elif key == "HEADLOSS" and last != "C-M":
-            self.advise(line, f"HEADLOSS {last}: hyd takes C-M alone" + (
-                "; scripts/manning.py converts it (docs/HAZEN_WILLIAMS.md)" if last == "H-W" else ""))
+        elif key == "HEADLOSS" and last not in ("C-M", "H-W"):
+            self.advise(line, f"HEADLOSS {last}: hyd takes C-M and H-W alone")
         elif key == "PRESSURE" and last == "KPA":
             self.advise(line, "pressures in kPa: hyd prints psi or metres, by the flow unit; where the file asks for "
                               "no pressure (PDA, rules, emitters), leave this line out")

@@ -40,7 +40,7 @@ J 0 1000
 [RESERVOIRS]
 R 100
 [PIPES]
-P R J 1000 300 110
+P R J 1000 300 10001
 [COORDINATES]
 J 1 1
 [OPTIONS]
@@ -101,7 +101,6 @@ REFUSALS = [
     ("a valve called a pipe", 5, 0, lambda: added("CONTROLS", "PIPE V CLOSED AT TIME 1")),
     ("a junction called a tank", 5, 0, lambda: added("RULES", "RULE 1", "IF TANK J LEVEL > 4",
                                                     "THEN PUMP U STATUS IS OPEN")),
-    ("Hazen-Williams", 6, 1, lambda: replaced("HEADLOSS C-M", "HEADLOSS H-W")),
     ("Darcy-Weisbach", 6, 1, lambda: replaced("HEADLOSS C-M", "HEADLOSS D-W")),
     ("no formula", 6, 1, lambda: replaced("HEADLOSS C-M", "")),
     ("a pressure reducing valve", 6, 2, lambda: added("VALVES", "W R J 300 PRV 40 0")),
@@ -134,8 +133,9 @@ REFUSALS = [
 # Rows of which the sentence has more than the cause: what it has.
 SAID = [
     ("a pipe without its length", 3, 0, lambda: added("PIPES", "Q R J 300 0.012 0 OPEN"), "the row has 7 words"),
-    ("a roughness with Hazen-Williams", 3, 0, lambda: HAZEN_WILLIAMS, "Line 10 says HEADLOSS H-W"),
-    ("a roughness without a formula", 3, 0, lambda: HAZEN_WILLIAMS.replace("HEADLOSS H-W\n", ""), "scripts/manning.py"),
+    ("a C of Hazen-Williams", 3, 0, lambda: HAZEN_WILLIAMS, "the C of Hazen-Williams is 10001"),
+    ("a roughness without a formula", 3, 0, lambda: HAZEN_WILLIAMS.replace("HEADLOSS H-W\n", ""), "write HEADLOSS H-W"),
+    ("a roughness with Darcy-Weisbach", 3, 0, lambda: HAZEN_WILLIAMS.replace("H-W", "D-W"), "Line 10 says HEADLOSS D-W"),
     ("a heading that isn't whole", 1, 0, lambda: BASE + "[COORD]\n", "scripts/prepare.py"),
     ("a state that isn't whole", 2, 0, lambda: added("STATUS", "U Opened"), "scripts/prepare.py"),
     ("an option without a value", 1, 0, lambda: added("OPTIONS", "Pattern"), "scripts/prepare.py"),

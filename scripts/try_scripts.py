@@ -93,7 +93,6 @@ REWRITTEN = [
 ]
 # What is put behind BASE, and a word of what is said of it. None of it is changed, and each is refused as it stands.
 LEFT = [
-    ("[OPTIONS]\nHEADLOSS H-W", "HAZEN_WILLIAMS"),
     ("[OPTIONS]\nHEADLOSS D-W", "HEADLOSS D-W"),
     ("[OPTIONS]\nEMITTER EXPONENT 0.6", "0.5 alone"),
     ("[OPTIONS]\nPRESSURE EXPONENT 0.6", "0.5 alone"),

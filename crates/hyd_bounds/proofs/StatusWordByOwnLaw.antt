@@ -9,8 +9,9 @@ use Rattle.hyd_net.specs.Curves.{Knot, value_at}
 use Rattle.hyd_net.specs.declared.curves.HeadPoint.{HeadPoint}
 use Rattle.hyd_spec.specs.ProgramTypes.{LinkKind, PipeLink, CheckPipe, PumpLink, CurvePump, Tcv, Fcv, Gpv, Quadratic}
 use Rattle.hyd_spec.specs.ProgramTypes.{Linear, LinkState, Open, Closed, Speed, Throttle, Limit}
+use Rattle.hyd_spec.specs.ProgramTypes.{PipeLoss, Manning, HazenWilliams}
 use Rattle.hyd_spec.specs.Law.{Law}
-use Rattle.hyd_spec.specs.LinkLaw.{own_law}
+use Rattle.hyd_spec.specs.LinkLaw.{own_law, pipe_law}
 use Rattle.hyd_spec_certificates.specs.Interval.{Interval}
 use Rattle.hyd_spec_certificates.specs.declared.StatusWord.TheVariants.{Open as WordOpen, Closed as WordClosed}
 use Rattle.hyd_spec_certificates.specs.declared.StatusWord.TheVariants.{Unsure as WordUnsure}
@@ -20,7 +21,7 @@ use Rattle.hyd_lemmas.proofs.Integers.{ceiling_high, ceiling_least}
 use Rattle.hyd_lemmas.proofs.BooleanTests.{lt-from, lt-not, le-from, le-yes, lt-no, lt-yes, le-not, le-no}
 use Rattle.hyd_theorems_on_definitions.proofs.RisingLines.{value-den}
 use Rattle.hyd_period_network.specs.ExactLaw.{is_nothing}
-use Rattle.hyd_bounds.specs.StatusWords.{word_of}
+use Rattle.hyd_bounds.specs.StatusWords.{open_word, word_of}
 
 -- ---- curves
 
@@ -74,19 +75,23 @@ some-least least most not = grind (arith, ints, not)
 
 -- ---- states
 
+pipe_word : (loss : PipeLoss) (d : Interval) → open_word (pipe_law loss) d ≡ WordOpen
+pipe_word (Manning capacity) d = refl
+pipe_word (HazenWilliams capacity) d = refl
+
 pub word-is : (us : Bool) (bends : List (ListView HeadPoint)) (kind : LinkKind) (state : LinkState) (d : Interval)
     → CanHave kind state
     → word_of state (own_law us bends kind state) d ≡ status_of us bends kind state d
-word-is us bends (PipeLink capacity) Open d can = refl
-word-is us bends (PipeLink capacity) Closed d can = refl
-word-is us bends (PipeLink capacity) (Speed speed) d can = absurd can
-word-is us bends (PipeLink capacity) (Throttle setting law) d can = absurd can
-word-is us bends (PipeLink capacity) (Limit setting ticks) d can = absurd can
-word-is us bends (CheckPipe capacity) Open d can = refl
-word-is us bends (CheckPipe capacity) Closed d can = refl
-word-is us bends (CheckPipe capacity) (Speed speed) d can = absurd can
-word-is us bends (CheckPipe capacity) (Throttle setting law) d can = absurd can
-word-is us bends (CheckPipe capacity) (Limit setting ticks) d can = absurd can
+word-is us bends (PipeLink loss) Open d can = pipe_word loss d
+word-is us bends (PipeLink loss) Closed d can = refl
+word-is us bends (PipeLink loss) (Speed speed) d can = absurd can
+word-is us bends (PipeLink loss) (Throttle setting law) d can = absurd can
+word-is us bends (PipeLink loss) (Limit setting ticks) d can = absurd can
+word-is us bends (CheckPipe loss) Open d can = refl
+word-is us bends (CheckPipe loss) Closed d can = refl
+word-is us bends (CheckPipe loss) (Speed speed) d can = absurd can
+word-is us bends (CheckPipe loss) (Throttle setting law) d can = absurd can
+word-is us bends (CheckPipe loss) (Limit setting ticks) d can = absurd can
 word-is us bends (PumpLink capacity shutoff head pattern) Open d can = absurd can
 word-is us bends (PumpLink capacity shutoff head pattern) Closed d can = refl
 word-is us bends (PumpLink capacity shutoff head pattern) (Speed speed) d can = refl

@@ -77,6 +77,7 @@ fn open(law: &LinkLaw, least: i64, greatest: i64) -> StatusWord
         LinkLaw::Pump(law) => one_way_word(law.forward, least, greatest),
         LinkLaw::LimitOneWay(law) => one_way_word(law.forward, least, greatest),
         LinkLaw::LinearLimitOneWay(law) => one_way_word(law.forward, least, greatest),
+        LinkLaw::PowerOneWay(law) => one_way_word(law.forward, least, greatest),
         _ => StatusWord::Open,
     }
 }

@@ -30,7 +30,7 @@ use Rattle.hyd_spec_input.specs.SectionsAndTables.{is_of, rows_of, words_of, wor
 use Rattle.hyd_spec_input.specs.SectionsAndTables.{allows_node}
 use Rattle.hyd_spec_input.specs.SectionsAndTables.{allows_link}
 use Rattle.hyd_spec_input.specs.FaultsWithOtherRows as others
-use Rattle.hyd_theorems_on_input.proofs.RowsWithoutFault.{or_none, all_none, unless_none, needed_none, section_is}
+use Rattle.hyd_theorems_on_input.proofs.RowsWithoutFault.{or_none, all_none, unless_none, needed_none, section_is, none_alone}
 use Rattle.hyd_theorems_on_input.proofs.RowsWithoutFault.{none_from}
 use Rattle.hyd_theorems_on_input.proofs.CurvePoints.{is_head_lies}
 use Rattle.hyd_rows_and_tables.proofs.FirstWrongRowLemmas.{filter_more, filter_same}
@@ -81,8 +81,7 @@ right_control rows k row by_itself with_others is member =
     let set = subst S found.is each.1.1.1.0 in
     record {
       by_itself = subst P section
-          (none_from (itself.row_fault rows k row)
-          (λ cause f. by_itself k cause (record { row = row; row_is = is; fault = f })));
+          (none_alone rows k row by_itself is);
       link = found.row;
       named = found.is;
       node = each.1.1.0;

@@ -1,7 +1,10 @@
 -- What a pipe is made of.
-use Rattle.std.proofs.Common.{◌≡◌, ℕ, Bool, true, false, List, sym, ◌∙◌, inl, inr, if◌then◌else◌}
+use Rattle.std.proofs.Common.{◌≡◌, ℕ, Bool, true, false, List, sym, ap, ◌∙◌, inl, inr, if◌then◌else◌}
 use Rattle.std.proofs.lemmas.Bool.{cases_Bool}
 use Rattle.hyd_num.specs.CapacityPairs.{IsMade}
+use Rattle.hyd_spec_power_laws.specs.PowerCapacities.{IsMade as IsPowerMade}
+use Rattle.hyd_spec_power_laws.specs.declared.power_capacities.HazenWilliamsPipe.{HazenWilliamsPipe}
+use Rattle.hyd_spec_power_laws.specs.declared.power_capacities.PowerCapacity.{PowerCapacity}
 use Rattle.hyd_num.specs.declared.link_capacities.Capacity.{Capacity}
 use Rattle.hyd_num.specs.declared.link_capacities.Origin.TheVariants.{Pipe}
 use Rattle.hyd_spec_lines.specs.Lines.{Row}
@@ -11,7 +14,7 @@ use Rattle.hyd_network_rows.specs.declared.pipes.PipeStatus.{PipeStatus}
 use Rattle.hyd_network_rows.specs.declared.pipes.PipeStatus.TheVariants.{Open, Closed, CheckValve}
 use Rattle.hyd_spec_input.specs.Columns.{amount}
 use Rattle.hyd_spec_input.specs.NodeAndLinkRows.{has_check_valve, is_closed_pipe, pipe_minor}
-use Rattle.hyd_spec_input.specs.Project.{IsPipeOf}
+use Rattle.hyd_spec_input.specs.Project.{IsPipeOf, IsPowerPipeOf}
 use Rattle.hyd_spec_input.specs.FaultsWithOtherRows as others
 
 pub pipe_made : (rows : List Row) (row : Row) (us : Bool) (pipe : PipeRow) (cap : Capacity) → us ≡ others.us rows
@@ -30,6 +33,29 @@ pipe_made rows row us pipe cap u is made origin = record {
   k = pipe.minor;
   k_is = is.minor;
   origin = rw (← u) origin;
+}
+
+-- the numbers of a row, for losses by Hazen-Williams
+abbrev pub numbers_of : PipeRow → Bool → HazenWilliamsPipe
+numbers_of pipe us = record {
+  length = pipe.length;
+  diameter = pipe.diameter;
+  coefficient = pipe.roughness;
+  minor = pipe.minor;
+  us = us;
+}
+
+pub power_pipe_made : (rows : List Row) (row : Row) (us : Bool) (pipe : PipeRow) (cap : PowerCapacity)
+    → us ≡ others.us rows → IsPipeRow row.words pipe → IsPowerMade cap → cap.pipe ≡ numbers_of pipe us
+    → IsPowerPipeOf (others.us rows) (amount 3 row.words) (amount 4 row.words) (amount 5 row.words)
+    (pipe_minor row.words) cap
+power_pipe_made rows row us pipe cap u is made same = record {
+  made = made;
+  length_is = ap (λ (p : HazenWilliamsPipe). p.length.nano) same ∙ is.length;
+  diameter_is = ap (λ (p : HazenWilliamsPipe). p.diameter.nano) same ∙ is.diameter;
+  coefficient_is = ap (λ (p : HazenWilliamsPipe). p.coefficient.nano) same ∙ is.roughness;
+  minor_is = ap (λ (p : HazenWilliamsPipe). p.minor.nano) same ∙ is.minor;
+  us_is = ap (λ (p : HazenWilliamsPipe). p.us) same ∙ u;
 }
 
 -- ---- statuses

@@ -1,7 +1,7 @@
 -- What right rows to build links from say of their pipes, pumps and valves.
 use Rattle.std.proofs.Common.{◌≡◌, ◌^◌, ◌<◌, ℕ, Bool, true, false, List, length, Option, Some, None, sym, ap, ◌∙◌}
 use Rattle.std.proofs.Common.{subst, arith, inl, inr}
-use Rattle.std.specs.Prelude.{nat_le}
+use Rattle.std.specs.Prelude.{nat_le, pos}
 use Rattle.std.proofs.lemmas.Bool.{cases_Bool, leb-true}
 use Rattle.std.proofs.lemmas.List.{length-map}
 use Rattle.hyd_num.specs.FileQuantity.{is_us_unit}
@@ -9,21 +9,22 @@ use Rattle.hyd_num.specs.declared.decimals.Decimal.{Decimal}
 use Rattle.hyd_spec_lines.specs.Lines.{row_of}
 use Rattle.hyd_spec_lines.specs.declared.line.Line.{Line}
 use Rattle.hyd_spec_lines.specs.declared.section.Section.TheVariants.{Pipes, Pumps, Valves}
-use Rattle.hyd_net.specs.NumberRanges.{IsUpTo}
+use Rattle.hyd_net.specs.NumberRanges.{Lies, IsUpTo}
 use Rattle.hyd_net.specs.declared.refusal_cause.Cause.{Cause}
 use Rattle.hyd_network_rows.specs.Rows.{IsPipeRow, IsValveRow}
 use Rattle.hyd_network_rows.specs.declared.pipes.PipeRow.{PipeRow}
 use Rattle.hyd_network_rows.specs.declared.valves.ValveRow.{ValveRow}
-use Rattle.hyd_spec_input.specs.CapacitiesOutOfRange.{IsRefusedPipe, IsRefusedValve}
-use Rattle.hyd_spec_input.specs.Columns.{or_empty, amount}
+use Rattle.hyd_spec_input.specs.CapacitiesOutOfRange.{IsRefusedPipeBy, IsRefusedValve}
+use Rattle.hyd_spec_input.specs.Columns.{or_empty, amount, units}
 use Rattle.hyd_spec_input.specs.Curves.{is_bent}
 use Rattle.hyd_spec_input.specs.NodeAndLinkRows as alone
 use Rattle.hyd_spec_input.specs.SectionsAndTables.{Point, is_of, curve_named}
 use Rattle.hyd_spec_input.specs.FaultsWithOtherRows as others
-use Rattle.hyd_theorems_on_input.proofs.RowsWithoutFault.{right_alone}
+use Rattle.hyd_theorems_on_input.proofs.RowsWithoutFault.{right_alone, right_among, pipe_right, or_none}
 use Rattle.hyd_theorems_on_input.proofs.LinkKinds.{PipeNumbers, pipe_numbers, ValveNumbers, valve_numbers, CurveRight}
-use Rattle.hyd_theorems_on_input.proofs.LinkKinds.{straight_range, pump_right}
-use Rattle.hyd_judge_links_controls_and_rules.proofs.RangeLemmas.{throttle_alone, coefficient_right}
+use Rattle.hyd_theorems_on_input.proofs.LinkKinds.{straight_range, pump_right, coefficient_right}
+use Rattle.hyd_judge_links_controls_and_rules.proofs.RangeLemmas.{throttle_alone}
+use Rattle.hyd_judge_links_controls_and_rules.proofs.RangeLemmas as range
 use Rattle.hyd_build_links_controls_and_rules.specs.Pumps.{ArePumpPoints}
 use Rattle.hyd_build_links_controls_and_rules.specs.RowsToBuildLinksFrom.{IsRowOf, rows_from}
 use Rattle.hyd_curves.specs.Points.{points_in}
@@ -39,24 +40,29 @@ no_fault fault cause none some = let x : ⊥ = cc in x
 
 pub record PipeFacts (text : List ℕ) (from : RowsForLinks) (line : Line) : Type 0 where
   pub own : alone.pipe (row_of text line).words ≡ None
-  pub numbers : PipeNumbers (row_of text line).words
+  pub numbers : PipeNumbers from.by_power (row_of text line).words
+  pub coefficient : from.by_power ≡ true → Lies (pos 1) (units (10 ^ 4)) (amount 5 (row_of text line).words)
   pub free : (pipe : PipeRow) (us : Bool) → IsPipeRow (row_of text line).words pipe → us ≡ is_us_unit from.unit
-      → IsRefusedPipe pipe.length.nano pipe.diameter.nano pipe.roughness.nano pipe.minor.nano us → ⊥
+      → IsRefusedPipeBy from.by_power pipe.length.nano pipe.diameter.nano pipe.roughness.nano pipe.minor.nano us → ⊥
 
 pub pipe_facts : (text : List ℕ) (from : RowsForLinks) (line : Line) → IsRowOf (is_of Pipes) text from line
     → PipeFacts text from line
 pipe_facts text from line at =
     let rows = rows_from text from in
     let row = row_of text line in
-    let own = right_alone rows Pipes at.among.place row (rows_for_links_are_right text from at.right) at.among.is
-    at.of in
+    let right = rows_for_links_are_right text from at.right in
+    let formula = at.right.by_power_is in
+    let by_formula = pipe_right rows at.among.place row (right.by_itself at.among.place row at.among.is) at.of in
+    let among = right_among rows Pipes at.among.place row right at.among.is at.of in
     record {
-      own = own;
-      numbers = pipe_numbers row.words own;
+      own = right_alone rows Pipes at.among.place row right at.among.is at.of;
+      numbers = rw formula (pipe_numbers _ row.words by_formula);
+      coefficient = rw formula (coefficient_right _ (amount 5 row.words)
+          (or_none (others.ends rows at.among.place row) _ among).1);
       free = λ pipe us is u refused.
           free_row text from at.among.place row Pipes at.right at.among.is at.of
           (let e : us ≡ others.us rows = u ∙ ap is_us_unit at.right.unit_is in
-          rw (← is.length, ← is.diameter, ← is.roughness, ← is.minor, ← e) refused);
+          rw (← is.length, ← is.diameter, ← is.roughness, ← is.minor, ← e, ← formula) refused);
     }
 
 -- ---- valves
@@ -84,7 +90,7 @@ valve_facts text from line at =
     record {
       own = own;
       numbers = valve_numbers row.words own;
-      coefficient = coefficient_right row.words own;
+      coefficient = range.coefficient_right row.words own;
       fully = λ valve us is u g refused.
           free (
             g,

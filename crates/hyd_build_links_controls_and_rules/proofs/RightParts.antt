@@ -27,7 +27,7 @@ use Rattle.hyd_spec_input.specs.declared.RuleWord.{RuleWord}
 use Rattle.hyd_spec_input.specs.declared.RuleWord.TheVariants.{Rule, If, And, Or, Then, Else, Priority}
 use Rattle.hyd_spec_input.specs.declared.Stage.{Stage}
 use Rattle.hyd_spec_input.specs.declared.Stage.TheVariants.{Outside, Named, Asking, Acting, Otherwise, Closed}
-use Rattle.hyd_theorems_on_input.proofs.RowsWithoutFault.{or_none, all_none, unless_none, needed_none, section_is}
+use Rattle.hyd_theorems_on_input.proofs.RowsWithoutFault.{or_none, all_none, unless_none, needed_none, section_is, none_alone}
 use Rattle.hyd_theorems_on_input.proofs.RowsWithoutFault.{none_from}
 use Rattle.hyd_theorems_on_input.proofs.RuleLines.{not_rule}
 use Rattle.hyd_build_links_controls_and_rules.specs.Clauses.{HasNumber}
@@ -52,8 +52,7 @@ alone rows k row right is member =
     let P : Section → Type 0 = λ s. itself.section_fault s earlier row.words later ≡ None in
     let all : form.rule_line earlier row.words later ≡ None =
     subst P (section_is Rules row member)
-    (none_from (itself.row_fault rows k row)
-    (λ cause f. right k cause (record { row = row; row_is = is; fault = f }))) in
+    (none_alone rows k row right is) in
     let each = all_none (in_order (stage_at rows k) (begins_with row.words)
     ∷ words_of_rule_line (is_acting (stage_at rows k)) row.words ∷ unless (gets_then row.words later) Syntax ∷ []) all
     in

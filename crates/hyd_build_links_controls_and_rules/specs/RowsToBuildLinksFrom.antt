@@ -28,6 +28,7 @@ pub record AreRightRowsForLinks (text : List ℕ) (given : RowsForLinks) : Type 
   pub points : ArePoints (rows_from text given) given.curves.now.names given.points.now
   pub bends : given.bends.now ≡ bend_names (rows_from text given)
   pub unit_is : given.unit ≡ force.unit (rows_from text given)
+  pub by_power_is : given.by_power ≡ force.has_hazen_williams (rows_from text given)
 
 -- a row stands among others
 pub record IsAmong (rows : List Row) (row : Row) : Type 0 where

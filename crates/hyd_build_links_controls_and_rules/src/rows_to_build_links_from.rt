@@ -22,4 +22,6 @@ pub struct RowsForLinks<'a> {
     pub bends: &'a NumberedIds,
     /// The unit of flows in force.
     pub unit: FlowUnit,
+    /// Whether losses are by Hazen-Williams.
+    pub by_power: bool,
 }

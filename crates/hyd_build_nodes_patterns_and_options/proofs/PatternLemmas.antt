@@ -22,7 +22,7 @@ use Rattle.hyd_spec_input.specs.MeaningsAcrossRows.{is_among, new_names, number_
 use Rattle.hyd_spec_input.specs.Project.{Match, IsPattern}
 use Rattle.hyd_spec_input.specs.SectionsAndTables.{is_of, own_id, rows_of, rows_with, row_multipliers, pattern_named}
 use Rattle.hyd_spec_input.specs.SectionsAndTables.{words_of}
-use Rattle.hyd_theorems_on_input.proofs.RowsWithoutFault.{section_is}
+use Rattle.hyd_theorems_on_input.proofs.RowsWithoutFault.{section_is, none_alone}
 use Rattle.hyd_rows_and_tables.proofs.FirstWrongRowLemmas.{filter_more, filter_same}
 use Rattle.hyd_theorems_on_input.proofs.OccurrencesOfNames.{same_name, itself, other_name, when, occurs, Once}
 use Rattle.hyd_theorems_on_input.proofs.OccurrencesOfNames.{occurs_at}
@@ -347,13 +347,17 @@ numbered rows ids row id found e is v =
     let same : own_id row ≡ id = ap or_empty is in
     rw (same, ← e) (sym v)
 
+never_both : (o : Option Cause) (cause : Cause) → o ≡ Some cause → o ≡ None → ⊥
+never_both o cause e none = cc
+
 -- its row is right by itself
 pub right_row : (rows : List Row) (k : ℕ) (row : Row) (cause : Cause) → NoneIs (IsWrongByItself rows)
     → slice_get rows k ≡ Some row → is_of Patterns row ≡ true → pattern row.words ≡ Some cause → ⊥
 right_row rows k row cause none is member e =
     let P : Section → Type 0 = λ s. section_fault s (words_of Rules (take k rows)) row.words
-    (words_of Rules (drop (k + 1) rows)) ≡ Some cause in
-    none k cause (record { row = row; row_is = is; fault = subst P (sym (section_is Patterns row member)) e })
+    (words_of Rules (drop (k + 1) rows)) ≡ None in
+    never_both (pattern row.words) cause e
+    (subst P (section_is Patterns row member) (none_alone rows k row none is))
 
 -- ---- the end
 

@@ -14,7 +14,7 @@ use Rattle.hyd_spec_input.specs.Faults.{NoneIs, IsWrongWithOthers}
 use Rattle.hyd_spec_input.specs.SectionsAndTables.{is_of, rows_of, words_of}
 use Rattle.hyd_spec_input.specs.FaultsWithOtherRows as others
 use Rattle.hyd_spec_input.specs.Project.{Match}
-use Rattle.hyd_theorems_on_input.proofs.RowsWithoutFault.{section_is, none_from}
+use Rattle.hyd_theorems_on_input.proofs.RowsWithoutFault.{section_is, none_from, none_alone}
 use Rattle.hyd_rows_and_tables.specs.RowsOfLines.{rows_at}
 use Rattle.hyd_rows_and_tables.proofs.FirstWrongRowLemmas.{filter_more, filter_same}
 use Rattle.hyd_rows_and_tables.proofs.WrongInSectionLemmas.{all_rows}
@@ -29,7 +29,7 @@ alone section rows k row right is of =
     let P : Section → Type 0 = λ s. itself.section_fault s (words_of Rules (take k rows)) row.words
     (words_of Rules (drop (k + 1) rows)) ≡ None in
     subst P (section_is section row of)
-    (none_from (itself.row_fault rows k row) (λ cause f. right k cause (record { row = row; row_is = is; fault = f })))
+    (none_alone rows k row right is)
 
 pub among : (section : Section) (rows : List Row) (k : ℕ) (row : Row) → NoneIs (IsWrongWithOthers rows)
     → slice_get rows k ≡ Some row → is_of section row ≡ true → others.section_fault section rows k row ≡ None

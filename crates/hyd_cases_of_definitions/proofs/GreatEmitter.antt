@@ -10,7 +10,7 @@ use Rattle.hyd_num.specs.Numeral.{is_numeral, magnitude_of, nano_of}
 use Rattle.hyd_num.specs.CapacityRange.{IsRefused}
 use Rattle.hyd_spec_lines.specs.WordsOfLines.{words_in, is_keyword}
 use Rattle.hyd_spec_lines.specs.Headings.{read_section, is_passed_over, heading_kind}
-use Rattle.hyd_spec_lines.specs.Lines.{Row, items_of, rows_in, fault_in, kind_of}
+use Rattle.hyd_spec_lines.specs.Lines.{Row, items_of, rows_in, all_rows_in, fault_in, kind_of}
 use Rattle.hyd_spec_lines.specs.declared.section.Section.TheVariants.{Junctions, Emitters, Options}
 use Rattle.hyd_net.specs.declared.refusal_cause.Cause.{Cause}
 use Rattle.hyd_net.specs.declared.refusal_cause.Cause.TheVariants.{Limit}
@@ -18,7 +18,8 @@ use Rattle.hyd_spec_input.specs.Keywords.{flow_unit, option_word, time_word, lin
 use Rattle.hyd_spec_input.specs.Keywords.{attribute_word, relation_word, rule_word}
 use Rattle.hyd_spec_input.specs.TimesAndClockTimes.{unit_seconds}
 use Rattle.hyd_spec_input.specs.SingleRows as itself
-use Rattle.hyd_spec_input.specs.SingleRows.{IsWrongByItself}
+use Rattle.hyd_spec_input.specs.OptionsAndTimesInForce.{has_hazen_williams}
+use Rattle.hyd_spec_input.specs.SingleRows.{IsWrongBy, IsWrongByItself}
 use Rattle.hyd_spec_input.specs.FaultsWithOtherRows as others
 use Rattle.hyd_spec_input.specs.CapacitiesOutOfRange.{IsRefusedEmitter, IsRefusedRow}
 use Rattle.hyd_spec_input.specs.Faults.{IsWrongWithOthers, NoneIs, IsFirst, IsFault}
@@ -112,6 +113,12 @@ unfolding rows unit losses junction emitter items_of kind_of read_section is_pas
     is_numeral magnitude_of nano_of
 rows_are = refl
 
+all_are : all_rows_in (items_of great_emitter) ≡ rows
+unfolding rows unit losses junction emitter items_of kind_of read_section is_passed_over heading_kind words_in
+    is_keyword
+    is_numeral magnitude_of nano_of
+all_are = refl
+
 -- ---- no row is wrong by itself, nor one before the emitter's with the others
 
 clash : (fault : Row → Option Cause) (a b : Row) (cause : Cause) → Some a ≡ Some b → fault a ≡ None
@@ -179,7 +186,9 @@ pub its_fault : IsFault great_emitter 7 (Limit 13)
 its_fault = inr (
   lit≤ tt,
   inr (
-    subst (λ (rs : List Row). NoneIs (IsWrongByItself rs)) (sym rows_are) right_alone,
+    subst (λ (all : List Row). NoneIs (IsWrongBy (has_hazen_williams all) (rows_in (items_of great_emitter))))
+        (sym all_are)
+        (subst (λ (rs : List Row). NoneIs (IsWrongBy (has_hazen_williams rows) rs)) (sym rows_are) right_alone),
     inr (
       no_line_fault,
       inl (subst (λ (rs : List Row). IsFirst rs (IsWrongWithOthers rs) 7 (Limit 13)) (sym rows_are) first),

@@ -1,10 +1,11 @@
 -- The fault of a text as a value that computes, capacities out of range left out, and texts that many examples begin
 -- with.
-use Rattle.std.specs.Prelude.{ℕ, ◌+◌, List, [], ◌∷◌, ◌++◌, codes, Option, Some, None}
+use Rattle.std.specs.Prelude.{ℕ, ◌+◌, Bool, List, [], ◌∷◌, ◌++◌, codes, Option, Some, None}
 use Rattle.std.specs.List.{flat_map}
-use Rattle.hyd_spec_lines.specs.Lines.{Row, items_of, rows_in, fault_in}
+use Rattle.hyd_spec_lines.specs.Lines.{Row, items_of, rows_in, all_rows_in, fault_in}
 use Rattle.hyd_spec_lines.specs.declared.fault.LexFault.{LexFault}
 use Rattle.hyd_spec_lines.specs.Headings.{either}
+use Rattle.hyd_spec_input.specs.OptionsAndTimesInForce.{has_hazen_williams}
 use Rattle.hyd_spec_input.specs.SingleRows as itself
 use Rattle.hyd_spec_input.specs.FaultsWithOtherRows as others
 use Rattle.hyd_spec_input.specs.Faults.{line_cause, lack}
@@ -24,13 +25,14 @@ abbrev pub of_lines : Option LexFault → Option (ℕ × Cause)
 of_lines None = None
 of_lines (Some fault) = Some (fault.line, line_cause fault.cause)
 
-abbrev pub of_rows : List Row → Option LexFault → Option (ℕ × Cause)
-of_rows rows lines =
-    either (first_of itself.row_fault rows 0 rows)
+abbrev pub of_rows : Bool → List Row → Option LexFault → Option (ℕ × Cause)
+of_rows by_power rows lines =
+    either (first_of (itself.row_fault_by by_power) rows 0 rows)
     (either (of_lines lines) (either (first_of others.row_fault rows 0 rows) (at_line 0 (lack rows))))
 
 abbrev pub fault_of : List ℕ → Option (ℕ × Cause)
-fault_of text = of_rows (rows_in (items_of text)) (fault_in (items_of text))
+fault_of text =
+    of_rows (has_hazen_williams (all_rows_in (items_of text))) (rows_in (items_of text)) (fault_in (items_of text))
 
 -- ---- texts
 

@@ -5,7 +5,7 @@ ghost use Rattle.std.specs.Prelude.{◌≡◌, ℕ, pos, neg_ℤ, [], ◌∷◌,
 ghost use Rattle.hyd_num.specs.declared.spans.Span.{Span};
 ghost use Rattle.hyd_spec.specs.ProgramTypes.{Project, Decimal, Tank, Origin, Cmd};
 ghost use Rattle.hyd_spec.specs.ProgramTypes.{PipeLink, CheckPipe, PumpLink, Tcv, Fcv, Quadratic, Linear, FourThirds};
-ghost use Rattle.hyd_spec.specs.ProgramTypes.{Open};
+ghost use Rattle.hyd_spec.specs.ProgramTypes.{Manning, Open};
 ghost use Rattle.hyd_spec.specs.ProgramTypes.{Speed, Throttle, Limit};
 ghost use Rattle.hyd_spec.specs.declared.TankState.TheVariants.{Empty, Between, Full};
 ghost use Rattle.hyd_spec_certificates.specs.declared.Problem.TheVariants.{Main, Pinned};
@@ -24,8 +24,9 @@ pub fn laws()
     ensures between { (project : Project) (parts : CityParts) (shutoff : Span) (head : Decimal) (pattern : Option ℕ)
         → project.options.unit ≡ Cmd → length project.junctions.list ≡ 2 → length project.reservoirs.list ≡ 1
         → head.nano ≡ pos 40000000000
-        → grid_links project (Between ∷ []) (record { from = 2; to = 0; kind = PipeLink parts.pipe; start = Open }
-        ∷ record { from = 0; to = 1; kind = CheckPipe parts.check; start = Open }
+        → grid_links project (Between ∷ [])
+        (record { from = 2; to = 0; kind = PipeLink (Manning parts.pipe); start = Open }
+        ∷ record { from = 0; to = 1; kind = CheckPipe (Manning parts.check); start = Open }
         ∷ record { from = 2; to = 1; kind = PumpLink parts.pump shutoff (FourThirds head) pattern; start = Open }
         ∷ record { from = 0; to = 3; kind = Tcv Linear; start = Open }
         ∷ record {
@@ -41,8 +42,9 @@ pub fn laws()
         → project.options.unit ≡ Cmd → length project.junctions.list ≡ 2 → length project.reservoirs.list ≡ 1
         → head.nano ≡ pos 40000000000
         → project.tanks.list ≡ tank ∷ [] → tank.overflow ≡ false
-        → grid_links project (Full ∷ []) (record { from = 2; to = 0; kind = PipeLink parts.pipe; start = Open }
-        ∷ record { from = 0; to = 1; kind = CheckPipe parts.check; start = Open }
+        → grid_links project (Full ∷ [])
+        (record { from = 2; to = 0; kind = PipeLink (Manning parts.pipe); start = Open }
+        ∷ record { from = 0; to = 1; kind = CheckPipe (Manning parts.check); start = Open }
         ∷ record { from = 2; to = 1; kind = PumpLink parts.pump shutoff (FourThirds head) pattern; start = Open }
         ∷ record { from = 0; to = 3; kind = Tcv Linear; start = Open }
         ∷ record {
@@ -63,8 +65,9 @@ pub fn laws()
         → project.options.unit ≡ Cmd → length project.junctions.list ≡ 2 → length project.reservoirs.list ≡ 1
         → head.nano ≡ pos 40000000000
         → project.tanks.list ≡ tank ∷ [] → tank.overflow ≡ true
-        → grid_links project (Full ∷ []) (record { from = 2; to = 0; kind = PipeLink parts.pipe; start = Open }
-        ∷ record { from = 0; to = 1; kind = CheckPipe parts.check; start = Open }
+        → grid_links project (Full ∷ [])
+        (record { from = 2; to = 0; kind = PipeLink (Manning parts.pipe); start = Open }
+        ∷ record { from = 0; to = 1; kind = CheckPipe (Manning parts.check); start = Open }
         ∷ record { from = 2; to = 1; kind = PumpLink parts.pump shutoff (FourThirds head) pattern; start = Open }
         ∷ record { from = 0; to = 3; kind = Tcv Linear; start = Open }
         ∷ record {
@@ -78,8 +81,9 @@ pub fn laws()
     ensures empty { (project : Project) (parts : CityParts) (shutoff : Span) (head : Decimal) (pattern : Option ℕ)
         → project.options.unit ≡ Cmd → length project.junctions.list ≡ 2 → length project.reservoirs.list ≡ 1
         → head.nano ≡ pos 40000000000
-        → grid_links project (Empty ∷ []) (record { from = 2; to = 0; kind = PipeLink parts.pipe; start = Open }
-        ∷ record { from = 0; to = 1; kind = CheckPipe parts.check; start = Open }
+        → grid_links project (Empty ∷ [])
+        (record { from = 2; to = 0; kind = PipeLink (Manning parts.pipe); start = Open }
+        ∷ record { from = 0; to = 1; kind = CheckPipe (Manning parts.check); start = Open }
         ∷ record { from = 2; to = 1; kind = PumpLink parts.pump shutoff (FourThirds head) pattern; start = Open }
         ∷ record { from = 0; to = 3; kind = Tcv Linear; start = Open }
         ∷ record {

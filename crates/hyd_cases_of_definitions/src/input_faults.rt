@@ -59,6 +59,19 @@ pub fn links()
     ensures setting { fault_of (codes "[VALVES]\nV A B 300 TCV -1") ≡ Some (2, Range) }
 {}
 
+/// The roughness of a pipe, by the last line of HEADLOSS, wherever it stands in the text: a Hazen-Williams coefficient
+/// is judged with the other rows.
+pub fn roughness()
+    ensures manning { fault_of (codes "[PIPES]\nP A B 1 1 100\n[OPTIONS]\nHEADLOSS C-M") ≡ Some (2, Range) }
+    ensures last { fault_of (codes "[PIPES]\nP A B 1 1 100\n[OPTIONS]\nHEADLOSS H-W\nHEADLOSS C-M") ≡ Some (2, Range) }
+    ensures behind_a_fault { fault_of (codes "[PIPES]\nP A B 1 1 100\n[X]\n[OPTIONS]\nHEADLOSS H-W") ≡ Some (3, Syntax) }
+    ensures no_section { fault_of (codes "[PIPES]\nP A B 1 1 100\n[X]\nHEADLOSS H-W") ≡ Some (2, Range) }
+    ensures great { fault_of (codes "[RESERVOIRS]\nA 1\nB 2\n[PIPES]\nP A B 1 1 10001\n[OPTIONS]\nHEADLOSS H-W")
+        ≡ Some (5, Range) }
+    ensures greatest { fault_of (codes "[RESERVOIRS]\nA 1\nB 2\n[PIPES]\nP A B 1 1 10000\n[OPTIONS]\nHEADLOSS H-W")
+        ≡ None }
+{}
+
 /// Rows of demands, emitters, curves, patterns and states that are wrong by themselves.
 pub fn belongings()
     ensures demand { fault_of (codes "[DEMANDS]\nJ 1 P c x") ≡ Some (2, Syntax) }
@@ -73,7 +86,7 @@ pub fn belongings()
 pub fn options()
     ensures no_option { fault_of (codes "[OPTIONS]\nSEGMENTS 1") ≡ Some (2, Syntax) }
     ensures unit { fault_of (codes "[OPTIONS]\nUNITS CMS") ≡ Some (2, Syntax) }
-    ensures head_loss { fault_of (codes "[OPTIONS]\nHEADLOSS H-W") ≡ Some (2, Unsupported 1) }
+    ensures head_loss { fault_of (codes "[OPTIONS]\nHEADLOSS D-W") ≡ Some (2, Unsupported 1) }
     ensures multiplier { fault_of (codes "[OPTIONS]\nDEMAND MULTIPLIER -1") ≡ Some (2, Range) }
     ensures model { fault_of (codes "[OPTIONS]\nDEMAND MODEL PDD") ≡ Some (2, Syntax) }
     ensures pressure_exponent { fault_of (codes "[OPTIONS]\nPRESSURE EXPONENT 0.6") ≡ Some (2, Unsupported 6) }

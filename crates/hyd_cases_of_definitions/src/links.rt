@@ -5,6 +5,7 @@
 ghost use Rattle.std.specs.Prelude.{◌≡◌, ℕ, pos, neg_ℤ, true, false, [], ◌∷◌, map, length, Option};
 ghost use Rattle.hyd_num.specs.declared.spans.Span.{Span};
 ghost use Rattle.hyd_spec.specs.ProgramTypes.{Project, Decimal, Capacity, PipeLink, CheckPipe, PumpLink, Tcv, Fcv};
+ghost use Rattle.hyd_spec.specs.ProgramTypes.{PipeLoss, Manning};
 ghost use Rattle.hyd_spec.specs.ProgramTypes.{Quadratic};
 ghost use Rattle.hyd_spec.specs.ProgramTypes.{Linear};
 ghost use Rattle.hyd_spec.specs.ProgramTypes.{FourThirds, Given, Open, Closed, Speed, Throttle, Limit, Cmd};
@@ -16,21 +17,23 @@ ghost use Rattle.hyd_cases_of_definitions.specs.LinksBetweenTanks.{between_tanks
 /// A pipe that is open, and one that is closed.
 pub fn pipes()
     ensures open_low { (capacity : Capacity) → IsPipe capacity
-        → map (low (own_law false [] (PipeLink capacity) Open)) differences ≡ pos 0 ∷ pos 9876 ∷ neg_ℤ (pos 9877)
+        → map (low (own_law false [] (PipeLink (Manning capacity)) Open)) differences
+        ≡ pos 0 ∷ pos 9876 ∷ neg_ℤ (pos 9877)
         ∷ pos 9876473 ∷ neg_ℤ (pos 9876474)
         ∷ pos 31232104945 ∷ neg_ℤ (pos 31232104946) ∷ pos 109738430338 ∷ neg_ℤ (pos 109738430339) ∷ pos 312321049455
         ∷ neg_ℤ (pos 312321049456) ∷ [] }
     ensures open_high { (capacity : Capacity) → IsPipe capacity
-        → map (high (own_law false [] (PipeLink capacity) Open)) differences ≡ pos 0 ∷ pos 9877 ∷ neg_ℤ (pos 9876)
+        → map (high (own_law false [] (PipeLink (Manning capacity)) Open)) differences
+        ≡ pos 0 ∷ pos 9877 ∷ neg_ℤ (pos 9876)
         ∷ pos 9876474 ∷ neg_ℤ (pos 9876473)
         ∷ pos 31232104946 ∷ neg_ℤ (pos 31232104945) ∷ pos 109738430339 ∷ neg_ℤ (pos 109738430338) ∷ pos 312321049456
         ∷ neg_ℤ (pos 312321049455) ∷ [] }
-    ensures closed_low { (capacity : Capacity)
-        → map (low (own_law false [] (PipeLink capacity) Closed)) differences ≡ pos 0 ∷ pos 0 ∷ pos 0 ∷ pos 0 ∷ pos 0
+    ensures closed_low { (loss : PipeLoss)
+        → map (low (own_law false [] (PipeLink loss) Closed)) differences ≡ pos 0 ∷ pos 0 ∷ pos 0 ∷ pos 0 ∷ pos 0
         ∷ pos 0 ∷ pos 0 ∷ pos 0 ∷ pos 0
         ∷ pos 0 ∷ pos 0 ∷ [] }
-    ensures closed_high { (capacity : Capacity)
-        → map (high (own_law false [] (PipeLink capacity) Closed)) differences ≡ pos 0 ∷ pos 0 ∷ pos 0 ∷ pos 0 ∷ pos 0
+    ensures closed_high { (loss : PipeLoss)
+        → map (high (own_law false [] (PipeLink loss) Closed)) differences ≡ pos 0 ∷ pos 0 ∷ pos 0 ∷ pos 0 ∷ pos 0
         ∷ pos 0 ∷ pos 0 ∷ pos 0 ∷ pos 0
         ∷ pos 0 ∷ pos 0 ∷ [] }
 {}
@@ -38,19 +41,21 @@ pub fn pipes()
 /// A pipe with a check valve.
 pub fn check_pipes()
     ensures open_low { (capacity : Capacity) → IsPipe capacity
-        → map (low (own_law false [] (CheckPipe capacity) Open)) differences ≡ pos 0 ∷ pos 9876 ∷ pos 0 ∷ pos 9876473
+        → map (low (own_law false [] (CheckPipe (Manning capacity)) Open)) differences
+        ≡ pos 0 ∷ pos 9876 ∷ pos 0 ∷ pos 9876473
         ∷ pos 0 ∷ pos 31232104945 ∷ pos 0
         ∷ pos 109738430338 ∷ pos 0 ∷ pos 312321049455 ∷ pos 0 ∷ [] }
     ensures open_high { (capacity : Capacity) → IsPipe capacity
-        → map (high (own_law false [] (CheckPipe capacity) Open)) differences ≡ pos 0 ∷ pos 9877 ∷ pos 0 ∷ pos 9876474
+        → map (high (own_law false [] (CheckPipe (Manning capacity)) Open)) differences
+        ≡ pos 0 ∷ pos 9877 ∷ pos 0 ∷ pos 9876474
         ∷ pos 0 ∷ pos 31232104946 ∷ pos 0
         ∷ pos 109738430339 ∷ pos 0 ∷ pos 312321049456 ∷ pos 0 ∷ [] }
-    ensures closed_low { (capacity : Capacity)
-        → map (low (own_law false [] (CheckPipe capacity) Closed)) differences ≡ pos 0 ∷ pos 0 ∷ pos 0 ∷ pos 0 ∷ pos 0
+    ensures closed_low { (loss : PipeLoss)
+        → map (low (own_law false [] (CheckPipe loss) Closed)) differences ≡ pos 0 ∷ pos 0 ∷ pos 0 ∷ pos 0 ∷ pos 0
         ∷ pos 0 ∷ pos 0 ∷ pos 0 ∷ pos 0
         ∷ pos 0 ∷ pos 0 ∷ [] }
-    ensures closed_high { (capacity : Capacity)
-        → map (high (own_law false [] (CheckPipe capacity) Closed)) differences ≡ pos 0 ∷ pos 0 ∷ pos 0 ∷ pos 0
+    ensures closed_high { (loss : PipeLoss)
+        → map (high (own_law false [] (CheckPipe loss) Closed)) differences ≡ pos 0 ∷ pos 0 ∷ pos 0 ∷ pos 0
         ∷ pos 0 ∷ pos 0 ∷ pos 0 ∷ pos 0 ∷ pos 0
         ∷ pos 0 ∷ pos 0 ∷ [] }
 {}
@@ -220,7 +225,7 @@ pub fn pipes_at_tanks()
         → length project.junctions.list ≡ 1
         → length project.reservoirs.list ≡ 0 → HasTanks project false false
         → IsPipe capacity
-        → map (λ tanks. map (low (law_of project tanks (between_tanks (PipeLink capacity)) Open))
+        → map (λ tanks. map (low (law_of project tanks (between_tanks (PipeLink (Manning capacity))) Open))
         (pos 1000000000000000 ∷ neg_ℤ (pos 1000000000000000)
         ∷ [])) pairs
         ≡ (pos 0 ∷ pos 0 ∷ []) ∷ (pos 312321049455 ∷ pos 0 ∷ []) ∷ (pos 312321049455 ∷ pos 0 ∷ [])
@@ -232,7 +237,8 @@ pub fn pipes_at_tanks()
         → length project.junctions.list ≡ 1
         → length project.reservoirs.list ≡ 0 → HasTanks project false false
         → IsPipe capacity
-        → map (λ tanks. map (high (law_of project tanks (between_tanks (PipeLink capacity)) Open)) (pos 1000000000000000
+        → map (λ tanks. map (high (law_of project tanks (between_tanks (PipeLink (Manning capacity))) Open))
+        (pos 1000000000000000
         ∷ neg_ℤ (pos 1000000000000000) ∷ [])) pairs
         ≡ (pos 0 ∷ pos 0 ∷ []) ∷ (pos 312321049456 ∷ pos 0 ∷ []) ∷ (pos 312321049456 ∷ pos 0 ∷ [])
         ∷ (pos 0 ∷ neg_ℤ (pos 312321049455) ∷ [])
@@ -247,7 +253,8 @@ pub fn check_pipes_at_tanks()
         → length project.junctions.list ≡ 1
         → length project.reservoirs.list ≡ 0 → HasTanks project false false
         → IsPipe capacity
-        → map (λ tanks. map (low (law_of project tanks (between_tanks (CheckPipe capacity)) Open)) (pos 1000000000000000
+        → map (λ tanks. map (low (law_of project tanks (between_tanks (CheckPipe (Manning capacity))) Open))
+        (pos 1000000000000000
         ∷ neg_ℤ (pos 1000000000000000) ∷ [])) pairs
         ≡ (pos 0 ∷ pos 0 ∷ []) ∷ (pos 312321049455 ∷ pos 0 ∷ []) ∷ (pos 312321049455 ∷ pos 0 ∷ [])
         ∷ (pos 0 ∷ pos 0 ∷ []) ∷ (pos 312321049455 ∷ pos 0
@@ -257,7 +264,7 @@ pub fn check_pipes_at_tanks()
         → length project.junctions.list ≡ 1
         → length project.reservoirs.list ≡ 0 → HasTanks project false false
         → IsPipe capacity
-        → map (λ tanks. map (high (law_of project tanks (between_tanks (CheckPipe capacity)) Open))
+        → map (λ tanks. map (high (law_of project tanks (between_tanks (CheckPipe (Manning capacity))) Open))
         (pos 1000000000000000
         ∷ neg_ℤ (pos 1000000000000000) ∷ [])) pairs
         ≡ (pos 0 ∷ pos 0 ∷ []) ∷ (pos 312321049456 ∷ pos 0 ∷ []) ∷ (pos 312321049456 ∷ pos 0 ∷ [])

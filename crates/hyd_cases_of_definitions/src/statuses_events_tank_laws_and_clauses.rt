@@ -7,6 +7,7 @@ ghost use Rattle.hyd_num.specs.declared.flow_units.FlowUnit.TheVariants.{Gpm, Cm
 ghost use Rattle.hyd_num.specs.Rational.{whole};
 ghost use Rattle.hyd_spec.specs.ProgramTypes.{Project, Decimal, Capacity, Junction, Tank, Amount, Less, NotMore, More};
 ghost use Rattle.hyd_spec.specs.ProgramTypes.{NotLess, FourThirds, Given, CheckPipe, PumpLink, Tcv, Fcv, Linear, Open};
+ghost use Rattle.hyd_spec.specs.ProgramTypes.{PipeLoss};
 ghost use Rattle.hyd_spec.specs.ProgramTypes.{Closed};
 ghost use Rattle.hyd_spec.specs.ProgramTypes.{Speed, Throttle, Limit, Head, Pressure, Level, Flow, Setting, AtLevel};
 ghost use Rattle.hyd_spec.specs.declared.TankState.TheVariants.{Empty, Between, Full};
@@ -50,7 +51,7 @@ pub fn statuses()
       hi = pos 2;
     }) ∷ [])
         ≡ WordActive ∷ [] }
-    ensures check_valve { (capacity : Capacity) → map (status_of false [] (CheckPipe capacity) (Open)) ((record {
+    ensures check_valve { (loss : PipeLoss) → map (status_of false [] (CheckPipe loss) (Open)) ((record {
       lo = pos 1;
       hi = pos 5;
     })

@@ -5,6 +5,7 @@ use Rattle.std.specs.Int.Signed.{≤ℤ_refl}
 use Rattle.std.proofs.Common.{lit≤, lit<}
 use Rattle.hyd_num.specs.declared.flow_units.FlowUnit.TheVariants.{Cfs}
 use Rattle.hyd_spec.specs.ProgramTypes.{Cmd, Capacity, Pipe, Pump, Emitter, PipeLink, CheckPipe, PumpLink, Fcv}
+use Rattle.hyd_spec.specs.ProgramTypes.{Manning}
 use Rattle.hyd_spec.specs.ProgramTypes.{FourThirds}
 use Rattle.hyd_spec.specs.ProgramTypes.{Linear, Closed, Speed, Limit}
 use Rattle.hyd_cases_of_histories.specs.OneLink.{Spur, plain}
@@ -29,11 +30,16 @@ long_pipe = record {
 
 -- Such a pipe from 100 feet to a junction that takes one cubic foot a second.
 abbrev pub pipe_spur : Spur
-pipe_spur = record plain { unit = Cfs; head = pos 304800000000000; kind = PipeLink long_pipe; demand = pos 24465755455 }
+pipe_spur = record plain {
+  unit = Cfs;
+  head = pos 304800000000000;
+  kind = PipeLink (Manning long_pipe);
+  demand = pos 24465755455;
+}
 
 -- The same with a check valve.
 abbrev pub check_spur : Spur
-check_spur = record pipe_spur { kind = CheckPipe long_pipe }
+check_spur = record pipe_spur { kind = CheckPipe (Manning long_pipe) }
 
 -- With a check valve to a junction without a demand.
 abbrev pub idle_spur : Spur

@@ -5,6 +5,7 @@ ghost use Rattle.std.specs.Prelude.{ℕ, ℤ, pos, neg_ℤ, Bool, false, List, O
 ghost use Rattle.hyd_num.specs.declared.spans.Span.{Span};
 ghost use Rattle.hyd_net.specs.ListView.{ListView};
 ghost use Rattle.hyd_spec.specs.ProgramTypes.{Capacity, HeadPoint, OpenValve, PipeLink, CheckPipe, PumpLink, CurvePump};
+ghost use Rattle.hyd_spec.specs.ProgramTypes.{PipeLoss};
 ghost use Rattle.hyd_spec.specs.ProgramTypes.{Tcv};
 ghost use Rattle.hyd_spec.specs.ProgramTypes.{Fcv, Gpv, Linear, FourThirds, Open, Closed, Speed, Throttle, Limit};
 ghost use Rattle.hyd_spec_certificates.specs.declared.StatusWord.TheVariants.{Open as WordOpen, Closed as WordClosed};
@@ -13,12 +14,12 @@ ghost use Rattle.hyd_cases_of_histories.specs.StatusWords.{HoldsAlone, thirty, f
 
 /// An open check valve pipe is CLOSED where the head difference is 0, OPEN one part of a head tick above it.
 pub fn check_valves()
-    ensures none { (us : Bool) (bends : List (ListView HeadPoint)) (capacity : Capacity) (S : ℕ)
-        → HoldsAlone us bends WordClosed (CheckPipe capacity) Open S (pos 0) }
-    ensures above { (us : Bool) (bends : List (ListView HeadPoint)) (capacity : Capacity) (S : ℕ)
-        → HoldsAlone us bends WordOpen (CheckPipe capacity) Open S (pos 1) }
-    ensures shut { (us : Bool) (bends : List (ListView HeadPoint)) (capacity : Capacity) (S : ℕ) (x : ℤ)
-        → HoldsAlone us bends WordClosed (CheckPipe capacity) Closed S x }
+    ensures none { (us : Bool) (bends : List (ListView HeadPoint)) (loss : PipeLoss) (S : ℕ)
+        → HoldsAlone us bends WordClosed (CheckPipe loss) Open S (pos 0) }
+    ensures above { (us : Bool) (bends : List (ListView HeadPoint)) (loss : PipeLoss) (S : ℕ)
+        → HoldsAlone us bends WordOpen (CheckPipe loss) Open S (pos 1) }
+    ensures shut { (us : Bool) (bends : List (ListView HeadPoint)) (loss : PipeLoss) (S : ℕ) (x : ℤ)
+        → HoldsAlone us bends WordClosed (CheckPipe loss) Closed S x }
 {}
 
 /// A running pump of a shutoff head of 40 m, in thirds of head ticks, is CLOSED where its second node stands higher by
@@ -83,10 +84,10 @@ pub fn control_valves()
 
 /// Pipes, throttle control valves and general purpose valves have the word of their state.
 pub fn commanded()
-    ensures open_pipe { (us : Bool) (bends : List (ListView HeadPoint)) (capacity : Capacity) (S : ℕ) (x : ℤ)
-        → HoldsAlone us bends WordOpen (PipeLink capacity) Open S x }
-    ensures shut_pipe { (us : Bool) (bends : List (ListView HeadPoint)) (capacity : Capacity) (S : ℕ) (x : ℤ)
-        → HoldsAlone us bends WordClosed (PipeLink capacity) Closed S x }
+    ensures open_pipe { (us : Bool) (bends : List (ListView HeadPoint)) (loss : PipeLoss) (S : ℕ) (x : ℤ)
+        → HoldsAlone us bends WordOpen (PipeLink loss) Open S x }
+    ensures shut_pipe { (us : Bool) (bends : List (ListView HeadPoint)) (loss : PipeLoss) (S : ℕ) (x : ℤ)
+        → HoldsAlone us bends WordClosed (PipeLink loss) Closed S x }
     ensures open_throttle { (us : Bool) (bends : List (ListView HeadPoint)) (valve : OpenValve) (S : ℕ) (x : ℤ)
         → HoldsAlone us bends WordOpen (Tcv valve) Open S x }
     ensures throttled { (us : Bool) (bends : List (ListView HeadPoint)) (valve law : OpenValve)

@@ -9,7 +9,7 @@ use Rattle.std.proofs.Common.{lit≤}
 use Rattle.hyd_net.specs.ListView.{listed}
 use Rattle.hyd_spec.specs.ProgramTypes.{Project, Junction, Tank, Link, Capacity, Pipe, PressureDemand, PipeLink}
 use Rattle.hyd_spec.specs.ProgramTypes.{CheckPipe, PumpLink, FourThirds, LinkState, Open, Closed, Speed, Control}
-use Rattle.hyd_spec.specs.ProgramTypes.{AtLevel}
+use Rattle.hyd_spec.specs.ProgramTypes.{AtLevel, Manning}
 use Rattle.hyd_spec.specs.ProgramTypes.{Rule, And, Level, More, Amount, Cmd}
 use Rattle.hyd_spec.specs.declared.TankState.{TankState}
 use Rattle.hyd_spec.specs.declared.TankState.TheVariants.{Between, Full}
@@ -70,11 +70,11 @@ pool = record {
 
 -- The pipe from the hill to the pool.
 abbrev pub rise : Link
-rise = record { from = 0; to = 2; kind = PipeLink metric_pipe; start = Open }
+rise = record { from = 0; to = 2; kind = PipeLink (Manning metric_pipe); start = Open }
 
 -- The one with a check valve, from the pool to the hill.
 abbrev pub back : Link
-back = record { from = 2; to = 0; kind = CheckPipe metric_pipe; start = Open }
+back = record { from = 2; to = 0; kind = CheckPipe (Manning metric_pipe); start = Open }
 
 -- The pump at its usual speed.
 abbrev pub running : LinkState

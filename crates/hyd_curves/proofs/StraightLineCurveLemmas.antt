@@ -53,7 +53,7 @@ use Rattle.hyd_curves.specs.declared.straight_line_curves.Bends.{Bends}
 use Rattle.hyd_curves.specs.declared.points.CurvePoint.{CurvePoint}
 use Rattle.hyd_lemmas.proofs.BooleanTests.{lt-from, le_z-yes, lt_z-yes}
 use Rattle.hyd_theorems_on_input.proofs.MatchedLists.{match_push}
-use Rattle.hyd_theorems_on_input.proofs.RowsWithoutFault.{unless_none, none_from}
+use Rattle.hyd_theorems_on_input.proofs.RowsWithoutFault.{unless_none, none_from, none_alone}
 use Rattle.hyd_curves.proofs.PumpAndValveCurveTestLemmas.{lifted}
 use Rattle.hyd_curves.proofs.LinesBetweenKnots.{high_is}
 use Rattle.hyd_curves.proofs.NamesOnceLemmas.{one_name_more}
@@ -231,7 +231,7 @@ pub pump_is_right : (rows : List Row) (k : ℕ) (row : Row) → NoneIs (IsWrongB
     → slice_get rows k ≡ Some row → is_of Pumps row ≡ true → row_form.pump row.words ≡ None
 pump_is_right rows k row right is member =
     sym (by_itself row.section _ row.words _ member)
-    ∙ none_from (itself.row_fault rows k row) (λ cause f. right k cause (record { row = row; row_is = is; fault = f }))
+    ∙ none_alone rows k row right is
 
 -- ---- names
 

@@ -43,7 +43,7 @@ use Rattle.hyd_curves.specs.declared.points.CurvePoint.{CurvePoint}
 use Rattle.hyd_curves.specs.declared.volume_curves.Shapes.{Shapes}
 use Rattle.hyd_curves.specs.declared.points_in_ticks.Ticks.{Ticks}
 use Rattle.hyd_theorems_on_input.proofs.MatchedLists.{match_push}
-use Rattle.hyd_theorems_on_input.proofs.RowsWithoutFault.{unless_none, none_from}
+use Rattle.hyd_theorems_on_input.proofs.RowsWithoutFault.{unless_none, none_from, none_alone}
 use Rattle.hyd_curves.proofs.NamesOnceLemmas.{one_name_more}
 use Rattle.hyd_curves.proofs.TankCurveTestLemmas.{small, behind}
 
@@ -141,7 +141,7 @@ pub tank_is_right : (rows : List Row) (k : ℕ) (row : Row) → NoneIs (IsWrongB
     → slice_get rows k ≡ Some row → is_of Tanks row ≡ true → row_form.tank row.words ≡ None
 tank_is_right rows k row right is member =
     sym (by_itself row.section _ row.words _ member)
-    ∙ none_from (itself.row_fault rows k row) (λ cause f. right k cause (record { row = row; row_is = is; fault = f }))
+    ∙ none_alone rows k row right is
 
 -- ---- names
 

@@ -26,8 +26,8 @@ enum Shape {
     Root,
     /// A multiple of the head difference.
     Line,
-    /// Straight lines between knots, for which the law is asked.
-    Knots,
+    /// Straight lines between knots or a loss by powers, for which the law is asked.
+    Asked,
 }
 
 /// A link's flow by its head difference: of a shape with a multiple, at a difference that is lifted, held from a least
@@ -124,7 +124,9 @@ fn curve_of(law: &LinkLaw) -> Curve {
             .up_to(law.inner.cap)
             .one_way(law.forward),
         LinkLaw::LinearLimitOneWay(law) => line().up_to(law.inner.cap).one_way(law.forward),
-        LinkLaw::Bent(_) => free(Shape::Knots, 0.0),
+        LinkLaw::Power(_) => free(Shape::Asked, 0.0),
+        LinkLaw::PowerOneWay(_) => free(Shape::Asked, 0.0),
+        LinkLaw::Bent(_) => free(Shape::Asked, 0.0),
     }
 }
 
@@ -155,7 +157,7 @@ pub(crate) fn flow(net: &Net, link: u32, curve: &Curve, difference: i64) -> f64
     let flow = match curve.shape {
         Shape::Root => root_at(curve.multiple, lifted),
         Shape::Line => curve.multiple * lifted,
-        Shape::Knots => return nearest_i64_to_f64(middle_flow(net, link, difference)),
+        Shape::Asked => return nearest_i64_to_f64(middle_flow(net, link, difference)),
     };
     held(curve.least, curve.most, flow)
 }

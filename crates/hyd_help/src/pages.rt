@@ -41,7 +41,7 @@ pub(crate) const HELP_OF_RUN: &str = "run NET CERT [--sweeps N] [--width W] [--t
 
 Runs the network, writes the certificate, prints the report.
 
-  NET          the network: an EPANET input file with Chezy-Manning losses
+  NET          the network: an EPANET input file with Hazen-Williams or Chezy-Manning losses
                (docs/REFUSALS.md)
   CERT         the certificate. A file that is there is overwritten where it is
                empty or a certificate

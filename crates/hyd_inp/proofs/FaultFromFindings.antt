@@ -6,16 +6,17 @@ use Rattle.std.specs.List.{list_any}
 use Rattle.std.proofs.lemmas.Bool.{cases_Bool, le-leb}
 use Rattle.std.proofs.lemmas.List.{length-map}
 use Rattle.std.proofs.lemmas.Option.{slice_get_within}
-use Rattle.hyd_spec_lines.specs.Lines.{Row, row_of, items_of, rows_in, fault_in}
+use Rattle.hyd_spec_lines.specs.Lines.{Row, row_of, items_of, rows_in, all_rows_in, fault_in}
 use Rattle.hyd_spec_lines.specs.declared.fault.LexFault.{LexFault}
 use Rattle.hyd_spec_lines.specs.declared.line.Line.{Line}
 use Rattle.hyd_spec_lines.specs.declared.section.Section.TheVariants.{Reservoirs, Tanks}
 use Rattle.hyd_net.specs.declared.refusal_cause.Cause.{Cause}
 use Rattle.hyd_net.specs.declared.refusal_cause.Cause.TheVariants.{Missing}
-use Rattle.hyd_spec_input.specs.SingleRows.{IsWrongByItself}
+use Rattle.hyd_spec_input.specs.SingleRows.{IsWrongBy, IsWrongByItself}
 use Rattle.hyd_spec_input.specs.Faults.{NoneIs, IsFirst, IsFaultOf, HasNoFault, IsWrongWithOthers, IsFault, line_cause}
-use Rattle.hyd_spec_input.specs.Faults.{lack, has_some}
-use Rattle.hyd_spec_input.specs.OptionsAndTimesInForce.{names_head_loss}
+use Rattle.hyd_spec_input.specs.Faults.{lack, has_some, IsWrongAlone}
+use Rattle.hyd_spec_input.specs.OptionsAndTimesInForce.{names_head_loss, has_hazen_williams}
+use Rattle.hyd_theorems_on_input.proofs.FormulaInForce.{formula_of_rows, none_by_itself}
 use Rattle.hyd_spec_input.specs.SectionsAndTables.{is_of, rows_of}
 use Rattle.hyd_rows_and_tables.specs.declared.first_wrong.Found.{Found}
 use Rattle.hyd_rows_and_tables.specs.FirstWrongRow.{HasFound}
@@ -30,13 +31,25 @@ use Rattle.hyd_inp.specs.declared.fault.InpFault.{InpFault}
 
 -- ---- none is wrong
 
-pub none_alone : (text : List ℕ) (lines : List Line)
-    → HasFound (rows_at text lines) (IsWrongByItself (rows_at text lines)) (length lines) None
-    → NoneIs (IsWrongByItself (rows_at text lines))
-none_alone text lines none =
-    none_of (rows_at text lines) (IsWrongByItself (rows_at text lines)) (length lines) none
+-- by the formula of a text
+abbrev formula : List ℕ → Bool
+formula text = has_hazen_williams (all_rows_in (items_of text))
+
+pub none_alone : (text : List ℕ) (lines : List Line) (by_power : Bool) → by_power ≡ formula text
+    → HasFound (rows_at text lines) (IsWrongBy by_power (rows_at text lines)) (length lines) None
+    → NoneIs (IsWrongBy (formula text) (rows_at text lines))
+none_alone text lines by_power e none =
+    none_of (rows_at text lines) (IsWrongBy (formula text) (rows_at text lines)) (length lines) (rw e at none)
     (omega (arith, length-map lines (row_of text)))
     (λ k cause w. slice_get_within (rows_at text lines) k w.row w.row_is)
+
+-- by the formula of the rows, where no line breaks a rule of lines
+pub none_by_rows : (text : List ℕ) (lines : List Line) → rows_at text lines ≡ rows_in (items_of text)
+    → None ≡ fault_in (items_of text) → NoneIs (IsWrongBy (formula text) (rows_at text lines))
+    → NoneIs (IsWrongByItself (rows_at text lines))
+none_by_rows text lines rows end alone =
+    let P : Bool → Type 0 = λ by_power. NoneIs (IsWrongBy by_power (rows_at text lines)) in
+    subst P (formula_of_rows (items_of text) (sym end) ∙ sym (ap has_hazen_williams rows)) alone
 
 pub none_among : (text : List ℕ) (lines : List Line)
     → HasFound (rows_at text lines) (IsWrongWithOthers (rows_at text lines)) (length lines) None
@@ -48,21 +61,22 @@ none_among text lines none =
 
 -- ---- the four kinds of faults, and none
 
-pub fault_alone : (text : List ℕ) (lines : List Line) (found : Found)
+pub fault_alone : (text : List ℕ) (lines : List Line) (by_power : Bool) (found : Found) → by_power ≡ formula text
     → rows_at text lines ≡ rows_in (items_of text)
-    → HasFound (rows_at text lines) (IsWrongByItself (rows_at text lines)) (length lines) (Some found)
+    → HasFound (rows_at text lines) (IsWrongBy by_power (rows_at text lines)) (length lines) (Some found)
     → IsFaultOf (items_of text) found.line found.cause
-fault_alone text lines found rows is =
-    let P : List Row → Type 0 = λ rs. IsFirst rs (IsWrongByItself rs) found.line found.cause in
-    inl (subst P rows (first_of (rows_at text lines) (IsWrongByItself (rows_at text lines)) found is))
+fault_alone text lines by_power found e rows is =
+    let P : List Row → Type 0 = λ rs. IsFirst rs (IsWrongBy (formula text) rs) found.line found.cause in
+    inl (subst P rows (first_of (rows_at text lines) (IsWrongBy (formula text) (rows_at text lines)) found
+    (rw e at is)))
 
 right_alone : (text : List ℕ) (lines : List Line) → rows_at text lines ≡ rows_in (items_of text)
-    → NoneIs (IsWrongByItself (rows_at text lines)) → NoneIs (IsWrongByItself (rows_in (items_of text)))
+    → NoneIs (IsWrongBy (formula text) (rows_at text lines)) → NoneIs (IsWrongAlone (items_of text))
 right_alone text lines rows none =
-    let P : List Row → Type 0 = λ rs. NoneIs (IsWrongByItself rs) in subst P rows none
+    let P : List Row → Type 0 = λ rs. NoneIs (IsWrongBy (formula text) rs) in subst P rows none
 
 pub fault_of_lines : (text : List ℕ) (lines : List Line) (fault : LexFault) (cause : Cause)
-    → rows_at text lines ≡ rows_in (items_of text) → NoneIs (IsWrongByItself (rows_at text lines))
+    → rows_at text lines ≡ rows_in (items_of text) → NoneIs (IsWrongBy (formula text) (rows_at text lines))
     → Some fault ≡ fault_in (items_of text) → cause ≡ line_cause fault.cause
     → IsFaultOf (items_of text) fault.line cause
 fault_of_lines text lines fault cause rows none end c =
@@ -72,7 +86,7 @@ fault_of_lines text lines fault cause rows none end c =
     )
 
 pub fault_among : (text : List ℕ) (lines : List Line) (found : Found)
-    → rows_at text lines ≡ rows_in (items_of text) → NoneIs (IsWrongByItself (rows_at text lines))
+    → rows_at text lines ≡ rows_in (items_of text) → NoneIs (IsWrongBy (formula text) (rows_at text lines))
     → None ≡ fault_in (items_of text)
     → HasFound (rows_at text lines) (IsWrongWithOthers (rows_at text lines)) (length lines) (Some found)
     → IsFaultOf (items_of text) found.line found.cause
@@ -92,7 +106,7 @@ right_among text lines rows none =
     let P : List Row → Type 0 = λ rs. NoneIs (IsWrongWithOthers rs) in subst P rows none
 
 pub fault_of_all : (text : List ℕ) (lines : List Line) (cause : Cause)
-    → rows_at text lines ≡ rows_in (items_of text) → NoneIs (IsWrongByItself (rows_at text lines))
+    → rows_at text lines ≡ rows_in (items_of text) → NoneIs (IsWrongBy (formula text) (rows_at text lines))
     → None ≡ fault_in (items_of text) → NoneIs (IsWrongWithOthers (rows_at text lines))
     → Some cause ≡ lack (rows_at text lines) → IsFaultOf (items_of text) 0 cause
 fault_of_all text lines cause rows alone end among lacks =
@@ -105,13 +119,13 @@ fault_of_all text lines cause rows alone end among lacks =
     )
 
 pub no_fault : (text : List ℕ) (lines : List Line) → length text ≤ 2 ^ 26
-    → rows_at text lines ≡ rows_in (items_of text) → NoneIs (IsWrongByItself (rows_at text lines))
+    → rows_at text lines ≡ rows_in (items_of text) → NoneIs (IsWrongBy (formula text) (rows_at text lines))
     → None ≡ fault_in (items_of text) → NoneIs (IsWrongWithOthers (rows_at text lines))
     → None ≡ lack (rows_at text lines) → HasNoFault text
 no_fault text lines short rows alone end among lacks = record {
   short = short;
   lines = sym end;
-  by_itself = right_alone text lines rows alone;
+  by_itself = none_by_itself (items_of text) (sym end) (right_alone text lines rows alone);
   with_others = right_among text lines rows among;
   whole = sym (lacks ∙ ap lack rows);
 }

@@ -25,6 +25,7 @@ use hyd_curves::{gather_bends, gather_points, gather_shapes};
 use hyd_judge_nodes_curves_and_options::unit_in_force;
 use hyd_lex::{Line, Lines};
 use hyd_net::{OutOfMemory, Project};
+use hyd_network_rows::has_hazen_williams;
 use hyd_num::FlowUnit;
 use std::alloc::Global;
 
@@ -84,6 +85,7 @@ fn build_links(
         points: given.points,
         bends: &bends.names,
         unit: given.unit,
+        by_power: has_hazen_williams(text, given.lines),
     };
     let links = hyd_build_links_controls_and_rules::build_links(alloc, text, &of_links)?;
     Ok(Links {

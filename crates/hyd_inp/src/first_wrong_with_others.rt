@@ -29,6 +29,7 @@ use hyd_judge_nodes_curves_and_options::{
 };
 use hyd_lex::{Line, Lines};
 use hyd_net::OutOfMemory;
+use hyd_network_rows::has_hazen_williams;
 use hyd_num::FlowUnit;
 use hyd_rows_and_tables::{Found, Table, least};
 use std::alloc::Global;
@@ -99,6 +100,7 @@ fn first_behind_verdicts(
         verdicts: &verdicts,
         patterns: tables.patterns,
         unit: tables.unit,
+        by_power: has_hazen_williams(text, lines),
     };
     first_from_links(alloc, text, lines, &link_tables)
 }

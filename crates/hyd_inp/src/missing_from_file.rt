@@ -9,9 +9,9 @@ ghost use Rattle.hyd_spec_input.specs.OptionsAndTimesInForce as force;
 ghost use Rattle.hyd_rows_and_tables.specs.RowsOfLines.{rows_at};
 ghost use Rattle.hyd_inp.specs.WaterSourceRows as sources;
 
-use hyd_judge_nodes_curves_and_options::last_option;
 use hyd_lex::{Line, Lines, Section};
 use hyd_net::Cause;
+use hyd_network_rows::last_option;
 
 // Whether a row is one of a reservoir or a tank.
 fn is_source(line: &Line) -> bool

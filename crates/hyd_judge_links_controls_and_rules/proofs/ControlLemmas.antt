@@ -15,7 +15,7 @@ use Rattle.hyd_spec_input.specs.Keywords.{link_word}
 use Rattle.hyd_spec_input.specs.SectionsAndTables.{is_of, rows_of, words_of, link_named}
 use Rattle.hyd_spec_input.specs.FaultsWithOtherRows as others
 use Rattle.hyd_spec_input.specs.declared.LinkWord.{LinkWord}
-use Rattle.hyd_theorems_on_input.proofs.RowsWithoutFault.{section_is, none_from}
+use Rattle.hyd_theorems_on_input.proofs.RowsWithoutFault.{section_is, none_alone}
 use Rattle.hyd_rows_and_tables.specs.FirstWrongRow.{IsVerdict, kept}
 use Rattle.hyd_rows_and_tables.specs.WrongInSection.{IsWrongIn, IsFaultThen}
 use Rattle.hyd_rows_and_tables.proofs.FirstWrongRowLemmas.{filter_more, filter_same, found_skip, found_kept}
@@ -29,7 +29,7 @@ control_is_right rows k row right is member =
     let P : Section → Type 0 = λ s. itself.section_fault s (words_of Rules (take k rows)) row.words
     (words_of Rules (drop (k + 1) rows)) ≡ None in
     subst P (section_is InControls row member)
-    (none_from (itself.row_fault rows k row) (λ cause f. right k cause (record { row = row; row_is = is; fault = f })))
+    (none_alone rows k row right is)
 
 -- ---- one control
 

@@ -4,6 +4,7 @@ pub mod FaultLemmas
 pub mod StateAndValveLawLemmas
 pub mod RightLinks
 pub mod RangeLemmas
+pub mod PipeLemmas
 pub mod CommandLemmas
 pub mod ControlLemmas
 pub mod PartLemmas

@@ -1,6 +1,7 @@
 -- The links, one row further.
 use Rattle.std.proofs.Common.{◌≡◌, ◌+◌, ◌≤◌, ◌++◌, ℕ, Bool, true, false, not, List, [], ◌∷◌, take, length, slice_get}
 use Rattle.std.proofs.Common.{Option, Some, None, refl, sym, ap, ◌∙◌, subst, arith, ◌==◌, ◌||◌, true≢false}
+use Rattle.std.specs.Prelude.{if◌then◌else◌}
 use Rattle.std.proofs.Common.{length-append}
 use Rattle.hyd_num.specs.declared.flow_units.FlowUnit.{FlowUnit}
 use Rattle.hyd_spec_lines.specs.Lines.{Row}
@@ -11,6 +12,7 @@ use Rattle.hyd_spec_input.specs.SingleRows as itself
 use Rattle.hyd_spec_input.specs.SingleRows.{IsWrongByItself}
 use Rattle.hyd_spec_input.specs.CapacitiesOutOfRange.{IsRefusedIn, IsRefusedRow}
 use Rattle.hyd_spec_input.specs.Faults.{NoneIs}
+use Rattle.hyd_spec_input.specs.NodeAndLinkRows.{pipe_by}
 use Rattle.hyd_spec_input.specs.OptionsAndTimesInForce as force
 use Rattle.hyd_spec_input.specs.SectionsAndTables.{place, is_of, is_link, link_rows, own_id, has_id}
 use Rattle.hyd_spec_input.specs.FaultsWithOtherRows as others
@@ -28,17 +30,18 @@ use Rattle.hyd_judge_links_controls_and_rules.specs.AskedStatesOfLinks.{is_link_
 
 -- ---- a link that is right by itself
 
-by_itself : (section : Section) (earlier : List (List (List ℕ))) (words : List (List ℕ)) (later : List (List (List ℕ)))
-    → itself.section_fault section earlier words later ≡ None → link_alone section words ≡ None
-by_itself Pipes earlier words later e = e
-by_itself Pumps earlier words later e = e
-by_itself Valves earlier words later e = e
-by_itself _ earlier words later e = refl
+by_itself : (by_power : Bool) (section : Section) (earlier : List (List (List ℕ))) (words : List (List ℕ))
+    (later : List (List (List ℕ))) → (if place section == place Pipes then pipe_by by_power words
+    else itself.section_fault section earlier words later) ≡ None → link_alone by_power section words ≡ None
+by_itself by_power Pipes earlier words later e = e
+by_itself by_power Pumps earlier words later e = e
+by_itself by_power Valves earlier words later e = e
+by_itself by_power _ earlier words later e = refl
 
 pub link_is_right : (rows : List Row) (k : ℕ) (row : Row) → NoneIs (IsWrongByItself rows)
-    → slice_get rows k ≡ Some row → link_alone row.section row.words ≡ None
+    → slice_get rows k ≡ Some row → link_alone (force.has_hazen_williams rows) row.section row.words ≡ None
 link_is_right rows k row right is =
-    by_itself row.section _ row.words _
+    by_itself (force.has_hazen_williams rows) row.section _ row.words _
     (none_from (itself.row_fault rows k row) (λ cause f. right k cause (record { row = row; row_is = is; fault = f })))
 
 -- ---- a link among all rows
@@ -85,14 +88,14 @@ link_verdict : (rows : List Row) (k : ℕ) (row : Row) (unit : FlowUnit) (count 
     → IsFaultThen (fault_among row.section rows unit count new row.words)
     (IsRefusedLink row.section rows unit row.words) cause
     → IsVerdict (IsWrongLink rows k) cause
-link_verdict rows k row unit count new cause is member u n e then =
+link_verdict rows k row unit count new cause is member u n e verdict =
     let h : is_link_section row.section ≡ true = sym (links_are row.section) ∙ member in
     let both = refused_in row.section rows (others.holds_action (take k rows) row) row unit h u in
     among_links rows k row cause is member
     (verdict_with_capacity row.section rows k row (fault_among row.section rows unit count new row.words) cause is
     (own_section row.section) (fault_is row.section rows k row unit count new h u n e)
     (fault_then_alike (fault_among row.section rows unit count new row.words)
-    (IsRefusedLink row.section rows unit row.words) (IsRefusedRow rows (take k rows) row) cause both.0 both.1 then))
+    (IsRefusedLink row.section rows unit row.words) (IsRefusedRow rows (take k rows) row) cause both.0 both.1 verdict))
 
 -- ---- rows
 
@@ -121,7 +124,7 @@ pub add_row : (text : List ℕ) (rows : List Row) (k : ℕ) (row : Row) (links n
     → IsFaultThen (fault_among row.section rows unit next.count new row.words)
     (IsRefusedLink row.section rows unit row.words) cause
     → next.found ≡ kept links.found k row.number cause → AreLinks text rows (k + 1) next
-add_row text rows k row links next unit new cause before is member u n table longer e then found =
+add_row text rows k row links next unit new cause before is member u n table longer e verdict found =
     let more : link_rows (take (k + 1) rows) ≡ link_rows (take k rows) ++ row ∷ [] =
     filter_more is_link rows k row is member in
     let count : next.count ≡ length (link_rows (take (k + 1) rows)) =
@@ -133,5 +136,5 @@ add_row text rows k row links next unit new cause before is member u n table lon
           subst P (sym more) table);
       few = omega (arith, before.few, longer);
       found = rw found (found_kept rows (IsWrongLink rows) k row links.found cause before.found is
-          (link_verdict rows k row unit next.count new cause is member u count e then));
+          (link_verdict rows k row unit next.count new cause is member u count e verdict));
     }

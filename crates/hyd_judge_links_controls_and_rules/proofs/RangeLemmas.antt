@@ -8,7 +8,8 @@ use Rattle.hyd_num.specs.declared.decimals.Decimal.{Decimal}
 use Rattle.hyd_net.proofs.EqualValues.{Decimal-equal}
 use Rattle.hyd_net.specs.NumberRanges.{Lies, IsUpTo}
 use Rattle.hyd_capacities.specs.FileNumberRanges.{IsPositiveUpTo, IsMinorCoefficient}
-use Rattle.hyd_spec_input.specs.CapacitiesOutOfRange.{IsRefusedPipe}
+use Rattle.hyd_spec_power_laws.specs.PowerCapacities.{IsRefused as IsPowerRefused}
+use Rattle.hyd_spec_input.specs.CapacitiesOutOfRange.{IsRefusedPipe, IsRefusedPowerPipe}
 use Rattle.hyd_spec_input.specs.Columns.{up_to, word, amount, units, is_option_keyword}
 use Rattle.hyd_spec_input.specs.NodeAndLinkRows as alone
 use Rattle.hyd_theorems_on_input.proofs.RowsWithoutFault.{needed_none, within}
@@ -56,6 +57,31 @@ refused_pipe_numbers l d n k us is =
       ← Decimal-equal is.l l is.l_is,
       ← Decimal-equal is.d d is.d_is,
       ← Decimal-equal is.n n is.n_is,
+      ← Decimal-equal is.k k is.k_is,
+    ) is.refused
+
+pub refused_power_pipe : (l d c k : Decimal) (us : Bool)
+    → IsPowerRefused (record { length = l; diameter = d; coefficient = c; minor = k; us = us })
+    → IsRefusedPowerPipe l.nano d.nano c.nano k.nano us
+refused_power_pipe l d c k us refused = record {
+  l = l;
+  l_is = refl;
+  d = d;
+  d_is = refl;
+  c = c;
+  c_is = refl;
+  k = k;
+  k_is = refl;
+  refused = refused;
+}
+
+pub refused_power_numbers : (l d c k : Decimal) (us : Bool) → IsRefusedPowerPipe l.nano d.nano c.nano k.nano us
+    → IsPowerRefused (record { length = l; diameter = d; coefficient = c; minor = k; us = us })
+refused_power_numbers l d c k us is =
+    rw (
+      ← Decimal-equal is.l l is.l_is,
+      ← Decimal-equal is.d d is.d_is,
+      ← Decimal-equal is.c c is.c_is,
       ← Decimal-equal is.k k is.k_is,
     ) is.refused
 

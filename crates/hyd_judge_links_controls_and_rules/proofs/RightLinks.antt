@@ -11,7 +11,7 @@ use Rattle.hyd_spec_input.specs.SectionsAndTables.{place, is_link, link_rows, li
 use Rattle.hyd_theorems_on_input.proofs.Names.{named_stands}
 use Rattle.hyd_theorems_on_input.proofs.ListsByPlace.{kept_stands, kept_passes}
 use Rattle.hyd_judge_links_controls_and_rules.specs.AskedStatesOfLinks.{IsRightLink}
-use Rattle.hyd_theorems_on_input.proofs.RowsWithoutFault.{none_from}
+use Rattle.hyd_theorems_on_input.proofs.RowsWithoutFault.{none_alone}
 
 -- what is asked of a link doesn't depend on the lines of rules
 alone : (section : Section) (earlier : List (List (List ℕ))) (words : List (List ℕ)) (later : List (List (List ℕ)))
@@ -31,6 +31,5 @@ right_link rows name row right named =
     record {
       link = link;
       right = alone row.section _ row.words _ link
-          ∙ none_from (itself.row_fault rows stands.place row)
-          (λ cause f. right stands.place cause (record { row = row; row_is = stands.is; fault = f }));
+          ∙ none_alone rows stands.place row right stands.is;
     }

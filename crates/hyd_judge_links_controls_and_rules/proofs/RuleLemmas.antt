@@ -19,7 +19,7 @@ use Rattle.hyd_spec_input.specs.FaultsWithOtherRows as others
 use Rattle.hyd_spec_input.specs.FaultsWithOtherRows.{is_part_word, is_action_word, holds_action, rules_in, parts_in}
 use Rattle.hyd_spec_input.specs.declared.RuleWord.{RuleWord}
 use Rattle.hyd_spec_input.specs.declared.RuleWord.TheVariants.{Rule, If, And, Or, Then, Else, Priority}
-use Rattle.hyd_theorems_on_input.proofs.RowsWithoutFault.{or_none, section_is, none_from, or_last}
+use Rattle.hyd_theorems_on_input.proofs.RowsWithoutFault.{or_none, section_is, none_alone, or_last}
 use Rattle.hyd_rows_and_tables.specs.FirstWrongRow.{IsVerdict, kept}
 use Rattle.hyd_rows_and_tables.specs.WrongInSection.{IsWrongIn, IsFaultThen}
 use Rattle.hyd_rows_and_tables.proofs.WrongInSectionLemmas.{verdict_with_capacity, other_section}
@@ -40,8 +40,7 @@ line_is_right rows k row right is member =
     let P : Section → Type 0 = λ s. itself.section_fault s earlier row.words later ≡ None in
     let all : form.rule_line earlier row.words later ≡ None =
     subst P (section_is InRules row member)
-    (none_from (itself.row_fault rows k row)
-    (λ cause f. right k cause (record { row = row; row_is = is; fault = f }))) in
+    (none_alone rows k row right is) in
     let words = words_of_rule_line (acting_at rows k) row.words in
     let rest = (or_none (in_order (stage_after earlier) (begins_with row.words))
     (or_else words (or_else (unless (gets_then row.words later) Syntax) None)) all).1 in

@@ -13,7 +13,7 @@ use Rattle.hyd_spec_input.specs.Faults.{NoneIs}
 use Rattle.hyd_spec_input.specs.SectionsAndTables.{is_of, link_named, words_of}
 use Rattle.hyd_spec_input.specs.FaultsWithOtherRows as others
 use Rattle.hyd_spec_input.specs.declared.LinkWord.TheVariants.{Link}
-use Rattle.hyd_theorems_on_input.proofs.RowsWithoutFault.{section_is, none_from, or_last}
+use Rattle.hyd_theorems_on_input.proofs.RowsWithoutFault.{section_is, none_alone, or_last}
 use Rattle.hyd_rows_and_tables.specs.FirstWrongRow.{IsVerdict}
 use Rattle.hyd_rows_and_tables.specs.WrongInSection.{IsWrongIn, IsFaultThen}
 use Rattle.hyd_rows_and_tables.proofs.WrongInSectionLemmas.{verdict_with_capacity}
@@ -24,7 +24,7 @@ status_is_right rows k row right is member =
     let P : Section → Type 0 = λ s. itself.section_fault s (words_of Rules (take k rows)) row.words
     (words_of Rules (drop (k + 1) rows)) ≡ None in
     subst P (section_is Status row member)
-    (none_from (itself.row_fault rows k row) (λ cause f. right k cause (record { row = row; row_is = is; fault = f })))
+    (none_alone rows k row right is)
 
 -- the link by its name, then its state and its capacity
 pub status_verdict : (rows : List Row) (k : ℕ) (row : Row) (name : List ℕ) (cause : Option Cause)

@@ -13,7 +13,7 @@ use Rattle.hyd_rows_and_tables.specs.IdTables.{IsEven, IsTable}
 use Rattle.hyd_curves.specs.VerdictsOnCurves.{AreVerdicts}
 use Rattle.hyd_judge_nodes_curves_and_options.specs.Patterns.{ArePatterns}
 use Rattle.hyd_judge_links_controls_and_rules.specs.declared.judged_against.LinkTables.{LinkTables}
-use Rattle.hyd_spec_input.specs.CapacitiesOutOfRange.{IsRefusedPipe, IsRefusedValve, IsRefusedCurve}
+use Rattle.hyd_spec_input.specs.CapacitiesOutOfRange.{IsRefusedPipeBy, IsRefusedValve, IsRefusedCurve}
 use Rattle.hyd_spec_input.specs.Columns.{or_else, first, unless, word, amount}
 use Rattle.hyd_spec_input.specs.OptionsAndTimesInForce as force
 use Rattle.hyd_spec_input.specs.SectionsAndTables.{node_rows, rows_of}
@@ -22,7 +22,7 @@ use Rattle.hyd_spec_input.specs.NodeAndLinkRows.{pipe_minor, is_throttle, is_gen
 use Rattle.hyd_spec_input.specs.NodeAndLinkRows.{pump_curve}
 use Rattle.hyd_spec_input.specs.NodeAndLinkRows.{pump_pattern}
 use Rattle.hyd_spec_input.specs.FaultsWithOtherRows.{passes, known_node, known_curve, known_pattern, curve_of_pump}
-use Rattle.hyd_spec_input.specs.FaultsWithOtherRows.{each_multiplier, is_speed, curve_of_valve}
+use Rattle.hyd_spec_input.specs.FaultsWithOtherRows.{each_multiplier, is_speed, curve_of_valve, coefficient}
 
 -- ---- all links
 
@@ -34,10 +34,17 @@ ends_fault rows count new from to =
 abbrev pub link_fault : List Row → ℕ → Bool → List (List ℕ) → Option Cause
 link_fault rows count new words = ends_fault rows count new (word 1 words) (word 2 words)
 
--- ---- capacities of pipes
+-- ---- pipes
 
-abbrev pub IsRefusedPipeOf : Bool → List (List ℕ) → Type 0
-IsRefusedPipeOf us words = IsRefusedPipe (amount 3 words) (amount 4 words) (amount 5 words) (pipe_minor words) us
+-- a Hazen-Williams coefficient is in range
+abbrev pub pipe_fault : List Row → ℕ → Bool → List (List ℕ) → Option Cause
+pipe_fault rows count new words =
+    or_else (link_fault rows count new words) (coefficient (force.has_hazen_williams rows) (amount 5 words))
+
+abbrev pub IsRefusedPipeOf : List Row → Bool → List (List ℕ) → Type 0
+IsRefusedPipeOf rows us words =
+    IsRefusedPipeBy (force.has_hazen_williams rows) (amount 3 words) (amount 4 words) (amount 5 words)
+    (pipe_minor words) us
 
 -- ---- pumps
 
@@ -77,33 +84,34 @@ pub record AreEven (tables : LinkTables) : Type 0 where
   pub curves : IsEven tables.curves.now
   pub patterns : IsEven tables.patterns.now.table
 
--- the tables and the unit of a file
+-- the tables, the unit and the head loss formula of a file
 pub record AreTables (text : List ℕ) (rows : List Row) (tables : LinkTables) : Type 0 where
   pub nodes : IsTable text (node_rows rows) tables.nodes.now
   pub curves : IsTable text (rows_of Curves rows) tables.curves.now
   pub verdicts : AreVerdicts rows tables.curves.now.names tables.verdicts.now
   pub patterns : ArePatterns text rows tables.patterns.now
   pub unit_is : tables.unit ≡ force.unit rows
+  pub by_power_is : tables.by_power ≡ force.has_hazen_williams rows
 
 -- ---- links by section
 
--- what a link is asked by itself
-abbrev pub link_alone : Section → List (List ℕ) → Option Cause
-link_alone Pipes words = alone.pipe words
-link_alone Pumps words = alone.pump words
-link_alone Valves words = alone.valve words
-link_alone _ words = None
+-- what a link is asked by itself, where losses are by Hazen-Williams or not
+abbrev pub link_alone : Bool → Section → List (List ℕ) → Option Cause
+link_alone by_power Pipes words = alone.pipe_by by_power words
+link_alone by_power Pumps words = alone.pump words
+link_alone by_power Valves words = alone.valve words
+link_alone by_power _ words = None
 
 -- what a link is asked among all rows
 abbrev pub fault_among : Section → List Row → FlowUnit → ℕ → Bool → List (List ℕ) → Option Cause
-fault_among Pipes rows unit count new words = link_fault rows count new words
+fault_among Pipes rows unit count new words = pipe_fault rows count new words
 fault_among Pumps rows unit count new words = pump_fault rows count new words
 fault_among Valves rows unit count new words = valve_fault rows unit count new words
 fault_among _ rows unit count new words = None
 
 -- its capacity is out of range
 abbrev pub IsRefusedLink : Section → List Row → FlowUnit → List (List ℕ) → Type 0
-IsRefusedLink Pipes rows unit words = IsRefusedPipeOf (is_us_unit unit) words
+IsRefusedLink Pipes rows unit words = IsRefusedPipeOf rows (is_us_unit unit) words
 IsRefusedLink Pumps rows unit words = IsRefusedCurve rows (pump_curve words)
 IsRefusedLink Valves rows unit words = IsRefusedValveOf (is_us_unit unit) words
 IsRefusedLink _ rows unit words = ⊥

@@ -6,7 +6,7 @@ use hyd_judge_nodes_curves_and_options::Patterns;
 use hyd_num::FlowUnit;
 use hyd_rows_and_tables::Table;
 
-/// What rows of links name, and the unit of flows in force.
+/// What rows of links name, and the unit of flows and the head loss formula in force.
 #[derive(Clone, Copy, Drop)]
 pub struct LinkTables<'a> {
     pub nodes: &'a Table,
@@ -15,4 +15,6 @@ pub struct LinkTables<'a> {
     pub verdicts: &'a CurveVerdicts,
     pub patterns: &'a Patterns,
     pub unit: FlowUnit,
+    /// Whether losses are by Hazen-Williams.
+    pub by_power: bool,
 }

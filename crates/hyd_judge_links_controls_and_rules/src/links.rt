@@ -57,13 +57,21 @@ fn link_fault(
 ) -> Option<Cause>
     requires lies { LiesIn text.now.text line.now }
     requires even { AreEven tables.now }
-    requires right { among.link_alone line.now.section (words_at text.now line.now) ≡ None }
+    requires right { among.link_alone tables.now.by_power line.now.section (words_at text.now line.now) ≡ None }
     ensures { (rows : List Row) → AreTables text.now.text rows tables.now
         → IsFaultThen (among.fault_among line.now.section rows tables.now.unit count new (words_at text.now line.now))
         (IsRefusedLink line.now.section rows tables.now.unit (words_at text.now line.now)) result }
 {
     match line.section {
-        Section::Pipes => pipe_fault(text, line, count, new, tables.nodes, tables.unit),
+        Section::Pipes => pipe_fault(
+            text,
+            line,
+            count,
+            new,
+            tables.nodes,
+            tables.unit,
+            tables.by_power,
+        ),
         Section::Pumps => pump_fault(text, line, count, new, tables),
         Section::Valves => valve_fault(text, line, count, new, tables),
         _ => None,
@@ -103,7 +111,8 @@ impl Links {
 /// wrong with the others: the first with more than 20,000 links up to it (Limit 7), an ID that an earlier link has
 /// (DuplicateId), a node, curve or pattern that isn't there (UnknownName), a pump's curve of a kind that isn't
 /// supported (Unsupported 4), a curve out of range, a multiplier of a pump's pattern that isn't from 0 to 10, the flow
-/// of a flow control valve above 10^15 flow ticks (Range), and last a capacity out of range (Limit 13).
+/// of a flow control valve above 10^15 flow ticks, a Hazen-Williams coefficient outside 0 to 10,000, also 0 (Range), and
+/// last a capacity out of range (Limit 13).
 pub fn judge_links(
     alloc: Global,
     text: &Lines<'_>,

@@ -1,12 +1,15 @@
 //! Pipes among all rows.
 #![tactic(auto)]
 
-ghost use Rattle.std.specs.Prelude.{◌≡◌, List, None};
+ghost use Rattle.std.specs.Prelude.{◌≡◌, ◌^◌, List, None, true};
 ghost use Rattle.hyd_spec_lines.specs.Lines.{LiesIn, Row};
 ghost use Rattle.hyd_num.specs.FileQuantity.{is_us_unit};
 ghost use Rattle.hyd_option_and_rule_lines.specs.FaultOrValue.{words_at};
 ghost use Rattle.hyd_capacities.specs.FileNumberRanges.{IsLength, IsDiameter, IsRoughness, IsMinorCoefficient};
-ghost use Rattle.hyd_spec_input.specs.CapacitiesOutOfRange.{IsRefusedPipe};
+ghost use Rattle.hyd_capacities.specs.FileNumberRanges.{IsPositiveUpTo};
+ghost use Rattle.hyd_spec_input.specs.CapacitiesOutOfRange.{IsRefusedPipe, IsRefusedPowerPipe};
+ghost use Rattle.hyd_spec_input.specs.FaultsWithOtherRows as others;
+ghost use Rattle.hyd_spec_input.specs.OptionsAndTimesInForce as force;
 ghost use Rattle.hyd_spec_input.specs.NodeAndLinkRows as row;
 ghost use Rattle.hyd_spec_input.specs.SectionsAndTables.{node_rows};
 ghost use Rattle.hyd_rows_and_tables.specs.WrongInSection.{IsCapacityFault, IsFaultThen};
@@ -18,11 +21,15 @@ use crate::id_and_ends::ends_fault;
 use hyd_capacities::pipe_capacity;
 use hyd_lex::{Line, Lines};
 use hyd_net::Cause;
-use hyd_network_rows::{PipeRow, read_pipe};
-use hyd_num::FlowUnit;
+use hyd_network_rows::{PipeRow, read_pipe_by};
+use hyd_num::{Decimal, FlowUnit};
+use hyd_power_capacities::hazen_williams_capacity;
 use hyd_rows_and_tables::Table;
+use hyd_spec_power_laws::HazenWilliamsPipe;
 
-// Limit 13 where the capacity of a pipe is out of range.
+const GREATEST_COEFFICIENT: i128 = 10_000 * 1_000_000_000;
+
+// Limit 13 where the capacity of a pipe with Manning's coefficient is out of range.
 fn capacity_fault(pipe: &PipeRow<'_>, us: bool) -> Option<Cause>
     requires length { IsLength pipe.now.length }
     requires diameter { IsDiameter pipe.now.diameter }
@@ -37,7 +44,48 @@ fn capacity_fault(pipe: &PipeRow<'_>, us: bool) -> Option<Cause>
     }
 }
 
-/// What is wrong with a pipe that is right by itself.
+// Limit 13 where the capacity of a pipe with a Hazen-Williams coefficient is out of range.
+fn power_capacity_fault(pipe: &PipeRow<'_>, us: bool) -> Option<Cause>
+    requires length { IsLength pipe.now.length }
+    requires diameter { IsDiameter pipe.now.diameter }
+    requires coefficient { IsPositiveUpTo (10 ^ 4) pipe.now.roughness }
+    ensures { IsCapacityFault (IsRefusedPowerPipe pipe.now.length.nano pipe.now.diameter.nano pipe.now.roughness.nano
+        pipe.now.minor.nano us) result }
+{
+    let numbers = HazenWilliamsPipe {
+        length: pipe.length,
+        diameter: pipe.diameter,
+        coefficient: pipe.roughness,
+        minor: pipe.minor,
+        us,
+    };
+    match hazen_williams_capacity(numbers) {
+        Ok(_) => None,
+        Err(_) => Some(Cause::Limit(13)),
+    }
+}
+
+// Whether a Hazen-Williams coefficient is above 0, up to 10,000.
+fn is_coefficient(coefficient: Decimal) -> bool
+    ensures { result ≡ others.is_coefficient coefficient.nano }
+{
+    1 <= coefficient.nano && coefficient.nano <= GREATEST_COEFFICIENT
+}
+
+// Range where the Hazen-Williams coefficient of a pipe is out of range, Limit 13 where its capacity is.
+fn power_fault(pipe: &PipeRow<'_>, us: bool) -> Option<Cause>
+    requires length { IsLength pipe.now.length }
+    requires diameter { IsDiameter pipe.now.diameter }
+    ensures { IsFaultThen (others.coefficient true pipe.now.roughness.nano) (IsRefusedPowerPipe pipe.now.length.nano
+        pipe.now.diameter.nano pipe.now.roughness.nano pipe.now.minor.nano us) result }
+{
+    if !is_coefficient(pipe.roughness) {
+        return Some(Cause::Range);
+    }
+    power_capacity_fault(pipe, us)
+}
+
+/// What is wrong with a pipe that is right by itself, where losses are by Hazen-Williams or not.
 pub(crate) fn pipe_fault(
     text: &Lines<'_>,
     line: &Line,
@@ -45,19 +93,24 @@ pub(crate) fn pipe_fault(
     new: bool,
     nodes: &Table,
     unit: FlowUnit,
+    by_power: bool,
 ) -> Option<Cause>
     requires lies { LiesIn text.now.text line.now }
     requires even { IsEven nodes.now }
-    requires right { row.pipe (words_at text.now line.now) ≡ None }
+    requires right { row.pipe_by by_power (words_at text.now line.now) ≡ None }
     ensures { (rows : List Row) → IsTable text.now.text (node_rows rows) nodes.now
-        → IsFaultThen (links.link_fault rows count new (words_at text.now line.now))
-        (IsRefusedPipeOf (is_us_unit unit) (words_at text.now line.now)) result }
+        → by_power ≡ force.has_hazen_williams rows
+        → IsFaultThen (links.pipe_fault rows count new (words_at text.now line.now))
+        (IsRefusedPipeOf rows (is_us_unit unit) (words_at text.now line.now)) result }
 {
-    let Ok(pipe) = read_pipe(text, line) else {
+    let Ok(pipe) = read_pipe_by(text, line, by_power) else {
         return None;
     };
     if let Some(cause) = ends_fault(text, count, new, &pipe.ends, nodes) {
         return Some(cause);
+    }
+    if by_power {
+        return power_fault(&pipe, unit.is_us());
     }
     capacity_fault(&pipe, unit.is_us())
 }

@@ -20,7 +20,7 @@ use Rattle.hyd_judge_nodes_curves_and_options.specs.Demands.{AreDemands, demand_
 use Rattle.hyd_rows_and_tables.specs.WrongInSection.{IsWrongIn}
 use Rattle.hyd_judge_nodes_curves_and_options.specs.declared.demands.Demands.{Demands}
 use Rattle.hyd_rows_and_tables.proofs.WrongInSectionLemmas.{verdict_without_capacity, other_section}
-use Rattle.hyd_theorems_on_input.proofs.RowsWithoutFault.{none_from}
+use Rattle.hyd_theorems_on_input.proofs.RowsWithoutFault.{none_alone}
 
 by_itself : (section : Section) (earlier : List (List (List ℕ))) (words : List (List ℕ)) (later : List (List (List ℕ)))
     → (place section == 6) ≡ true → itself.section_fault section earlier words later ≡ row_form.demand words
@@ -31,7 +31,7 @@ pub demand_is_right : (rows : List Row) (k : ℕ) (row : Row) → NoneIs (IsWron
     → slice_get rows k ≡ Some row → is_of InDemands row ≡ true → row_form.demand row.words ≡ None
 demand_is_right rows k row right is member =
     sym (by_itself row.section _ row.words _ member)
-    ∙ none_from (itself.row_fault rows k row) (λ cause f. right k cause (record { row = row; row_is = is; fault = f }))
+    ∙ none_alone rows k row right is
 
 fault_is : (section : Section) (rows : List Row) (k : ℕ) (row : Row) → (place section == 6) ≡ true
     → others.section_fault section rows k row ≡ others.demand rows k row

@@ -21,7 +21,7 @@ use Rattle.hyd_rows_and_tables.specs.WrongInSection.{IsWrongIn, IsFaultThen}
 use Rattle.hyd_rows_and_tables.specs.declared.first_wrong.Found.{Found}
 use Rattle.hyd_rows_and_tables.proofs.FirstWrongRowLemmas.{found_skip, found_kept}
 use Rattle.hyd_rows_and_tables.proofs.WrongInSectionLemmas.{verdict_with_capacity, fault_then_alike, other_section}
-use Rattle.hyd_theorems_on_input.proofs.RowsWithoutFault.{none_from}
+use Rattle.hyd_theorems_on_input.proofs.RowsWithoutFault.{none_alone}
 
 by_itself : (section : Section) (earlier : List (List (List ℕ))) (words : List (List ℕ)) (later : List (List (List ℕ)))
     → (place section == 7) ≡ true → itself.section_fault section earlier words later ≡ row_form.emitter words
@@ -32,7 +32,7 @@ pub emitter_is_right : (rows : List Row) (k : ℕ) (row : Row) → NoneIs (IsWro
     → slice_get rows k ≡ Some row → is_of Emitters row ≡ true → row_form.emitter row.words ≡ None
 emitter_is_right rows k row right is member =
     sym (by_itself row.section _ row.words _ member)
-    ∙ none_from (itself.row_fault rows k row) (λ cause f. right k cause (record { row = row; row_is = is; fault = f }))
+    ∙ none_alone rows k row right is
 
 fault_is : (section : Section) (rows : List Row) (k : ℕ) (row : Row) → (place section == 7) ≡ true
     → others.section_fault section rows k row ≡ known_junction rows (word 0 row.words)

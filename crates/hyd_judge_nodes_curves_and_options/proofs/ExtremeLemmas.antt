@@ -35,7 +35,7 @@ use Rattle.hyd_spec_input.specs.SectionsAndTables.{row_multipliers}
 use Rattle.hyd_spec_input.specs.SectionsAndTables.{row_with, has_id}
 use Rattle.hyd_spec_input.specs.FaultsWithOtherRows.{multipliers_of}
 use Rattle.hyd_lemmas.proofs.BooleanTests.{and-true, lt_z-no}
-use Rattle.hyd_theorems_on_input.proofs.RowsWithoutFault.{all_none, none_from}
+use Rattle.hyd_theorems_on_input.proofs.RowsWithoutFault.{all_none, none_alone}
 use Rattle.hyd_rows_and_tables.specs.IdTables.{AreFirsts, AreNone}
 use Rattle.hyd_rows_and_tables.proofs.FirstWrongRowLemmas.{filter_more, filter_same, one_name, has_more, not_named}
 use Rattle.hyd_rows_and_tables.proofs.WrongInSectionLemmas.{all_rows}
@@ -318,7 +318,7 @@ pub pattern_is_right : (rows : List Row) (k : ℕ) (row : Row) → NoneIs (IsWro
     → slice_get rows k ≡ Some row → is_of InPatterns row ≡ true → row_form.pattern row.words ≡ None
 pattern_is_right rows k row right is member =
     sym (by_itself row.section _ row.words _ member)
-    ∙ none_from (itself.row_fault rows k row) (λ cause f. right k cause (record { row = row; row_is = is; fault = f }))
+    ∙ none_alone rows k row right is
 
 pub multipliers_are_right : (words : List (List ℕ)) → row_form.pattern words ≡ None
     → row_form.each (within (10 ^ 6)) (drop 1 words) ≡ None

@@ -34,7 +34,7 @@ use Rattle.hyd_judge_nodes_curves_and_options.specs.JudgedNodes.{IsWrongNode, co
 use Rattle.hyd_judge_nodes_curves_and_options.specs.JudgedNodes.{AreCounts, AreNodes}
 use Rattle.hyd_judge_nodes_curves_and_options.specs.declared.nodes.Counts.{Counts}
 use Rattle.hyd_judge_nodes_curves_and_options.specs.declared.nodes.Nodes.{Nodes}
-use Rattle.hyd_theorems_on_input.proofs.RowsWithoutFault.{none_from}
+use Rattle.hyd_theorems_on_input.proofs.RowsWithoutFault.{none_alone}
 use Rattle.hyd_theorems_on_input.proofs.ListsByPlace.{own_section}
 use Rattle.hyd_judge_nodes_curves_and_options.proofs.ExtremeLemmas.{test_of_all, times_is_convex}
 
@@ -60,7 +60,7 @@ pub node_is_right : (rows : List Row) (k : ℕ) (row : Row) → NoneIs (IsWrongB
     → slice_get rows k ≡ Some row → node_alone row.section row.words ≡ None
 node_is_right rows k row right is =
     by_itself row.section _ row.words _
-    (none_from (itself.row_fault rows k row) (λ cause f. right k cause (record { row = row; row_is = is; fault = f })))
+    (none_alone rows k row right is)
 
 -- ---- a node among all rows
 

@@ -21,7 +21,7 @@ use Rattle.hyd_spec_input.specs.declared.OptionWord.TheVariants as at
 use Rattle.hyd_spec_input.specs.SectionsAndTables.{place, is_of}
 use Rattle.hyd_spec_input.specs.FaultsWithOtherRows as others
 use Rattle.hyd_net.specs.declared.refusal_cause.Cause.{Cause}
-use Rattle.hyd_theorems_on_input.proofs.RowsWithoutFault.{none_from}
+use Rattle.hyd_theorems_on_input.proofs.RowsWithoutFault.{none_alone}
 use Rattle.hyd_theorems_on_input.proofs.OptionsAndTimesInForce.{in_force}
 use Rattle.hyd_rows_and_tables.specs.FirstWrongRow.{HasFound, kept}
 use Rattle.hyd_rows_and_tables.specs.RowsOfLines.{row_in}
@@ -45,7 +45,7 @@ option_is_right : (rows : List Row) (k : ℕ) (row : Row) → NoneIs (IsWrongByI
     → slice_get rows k ≡ Some row → is_of Options row ≡ true → row_form.option row.words ≡ None
 option_is_right rows k row right is member =
     sym (by_itself row.section _ row.words _ member)
-    ∙ none_from (itself.row_fault rows k row) (λ cause f. right k cause (record { row = row; row_is = is; fault = f }))
+    ∙ none_alone rows k row right is
 
 -- ---- lines of pressures
 

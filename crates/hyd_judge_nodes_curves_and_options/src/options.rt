@@ -18,10 +18,10 @@ ghost use Rattle.hyd_rows_and_tables.specs.WrongInSection.{IsWrongIn};
 ghost use Rattle.hyd_judge_nodes_curves_and_options.specs.Options as option;
 ghost use Rattle.hyd_judge_nodes_curves_and_options.specs.Options.{ArePressures, HasAmount, IsBound};
 
-use crate::last_lines_and_flow_unit::{is_options, last_option};
 use hyd_lex::{Line, Lines};
 use hyd_net::Cause;
 use hyd_net::ranges::{GREATEST_HEAD, TENTH};
+use hyd_network_rows::{is_options, last_option};
 use hyd_num::{
     Decimal, FlowUnit, HEAD_TICKS_IN_BILLIONTH_OF_METRE, NUMERATOR_OF_BILLIONTH_OF_POUND,
     TEN_THOUSANDTHS_OF_POUND_IN_FOOT,

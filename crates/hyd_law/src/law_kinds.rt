@@ -3,6 +3,7 @@
 
 use hyd_net::{List, ShutoffHead};
 use hyd_num::{Capacity, Span};
+use hyd_spec_power_laws::PowerCapacity;
 
 /// A closed link: nothing flows.
 #[derive(Clone, Copy, Drop)]
@@ -13,6 +14,12 @@ pub struct Shut;
 #[derive(Clone, Copy, Drop)]
 pub struct Quad {
     pub cap: Capacity,
+}
+
+/// A pipe's loss by Hazen-Williams (EPANET 2.2 User Manual, The Network Model).
+#[derive(Clone, Copy, Drop)]
+pub struct Power {
+    pub cap: PowerCapacity,
 }
 
 /// A valve without loss coefficient, which passes 8026.822656 flow ticks for a head tick (this program's own).

@@ -18,5 +18,5 @@ mod straight_lines;
 
 pub use demand_law_kinds::{Fixed, OutLaw, Pda};
 pub use law::Law;
-pub use law_kinds::{Bent, Capped, Held, Knot, Lifted, Linear, OneWay, Quad, Shut};
+pub use law_kinds::{Bent, Capped, Held, Knot, Lifted, Linear, OneWay, Power, Quad, Shut};
 pub use link_law_kinds::LinkLaw;

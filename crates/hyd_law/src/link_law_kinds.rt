@@ -1,7 +1,7 @@
 //! The laws that a link can have.
 #![tactic(auto)]
 
-use crate::law_kinds::{Bent, Capped, Held, Lifted, Linear, OneWay, Quad, Shut};
+use crate::law_kinds::{Bent, Capped, Held, Lifted, Linear, OneWay, Power, Quad, Shut};
 
 /// The law of a link in its state, between tanks that may be full or empty.
 #[derive(Drop)]
@@ -16,5 +16,7 @@ pub enum LinkLaw {
     LinearLimit(Capped<Linear>),
     LimitOneWay(OneWay<Capped<Quad>>),
     LinearLimitOneWay(OneWay<Capped<Linear>>),
+    Power(Power),
+    PowerOneWay(OneWay<Power>),
     Bent(Held<Bent>),
 }

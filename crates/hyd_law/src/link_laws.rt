@@ -35,6 +35,8 @@ impl Law for LinkLaw {
             LinkLaw::LinearLimit(law) => law.low(d),
             LinkLaw::LimitOneWay(law) => law.low(d),
             LinkLaw::LinearLimitOneWay(law) => law.low(d),
+            LinkLaw::Power(law) => law.low(d),
+            LinkLaw::PowerOneWay(law) => law.low(d),
             LinkLaw::Bent(law) => law.low(d),
         }
     }
@@ -51,6 +53,8 @@ impl Law for LinkLaw {
             LinkLaw::LinearLimit(law) => law.high(d),
             LinkLaw::LimitOneWay(law) => law.high(d),
             LinkLaw::LinearLimitOneWay(law) => law.high(d),
+            LinkLaw::Power(law) => law.high(d),
+            LinkLaw::PowerOneWay(law) => law.high(d),
             LinkLaw::Bent(law) => law.high(d),
         }
     }

@@ -13,7 +13,7 @@ ghost use Rattle.hyd_laws_at_scale.specs.Windows.{IsWindow, IsAnswer};
 use crate::composed_windows::{capped, one_way, restricted};
 use crate::ranges::in_range;
 use crate::scale::Scale;
-use crate::simple_windows::{linear, pumped, quadratic, shut};
+use crate::simple_windows::{linear, power, pumped, quadratic, shut};
 use crate::straight_lines::bent;
 use crate::windows::Window;
 use hyd_law::{LinkLaw, Quad};
@@ -46,6 +46,8 @@ fn window_at(law: &LinkLaw, scale: Scale, d: i64) -> Option<Window>
             law.forward,
             capped(law.inner.cap, scale, Some(linear(d))),
         ),
+        LinkLaw::Power(law) => power(&law.cap, scale, d),
+        LinkLaw::PowerOneWay(law) => one_way(law.forward, power(&law.inner.cap, scale, d)),
         LinkLaw::Bent(law) => Some(bent(law, scale, d)),
     }
 }

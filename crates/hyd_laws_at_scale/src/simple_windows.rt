@@ -1,5 +1,5 @@
-//! Low and high flows of laws that aren't made of others: closed, quadratic and linear ones, and a quadratic one that a
-//! pump lifts.
+//! Low and high flows of laws that aren't made of others: closed, quadratic and linear ones, those by powers, and a
+//! quadratic one that a pump lifts.
 #![tactic(auto)]
 
 ghost use Rattle.std.specs.Prelude.{◌≡◌, ◌*◌, ◌^◌, ◌≤◌, ◌+ℤ◌, ℕ, ℤ, unsigned_abs};
@@ -16,6 +16,8 @@ use crate::scale::Scale;
 use crate::windows::{Window, window_of};
 use hyd_law::{Lifted, Quad};
 use hyd_num::Capacity;
+use hyd_power_laws_at_scale::{is_in_range, power_high_at, power_low_at};
+use hyd_spec_power_laws::PowerCapacity;
 
 /// A closed link passes nothing.
 pub(crate) fn shut() -> Window
@@ -35,6 +37,20 @@ pub(crate) fn quadratic(capacity: &Capacity, scale: Scale, d: i64) -> Option<Win
     Some(window_of(
         quadratic_low(capacity, scale, d),
         quadratic_high(capacity, scale, d),
+    ))
+}
+
+/// What a pipe with Hazen-Williams losses passes.
+pub(crate) fn power(capacity: &PowerCapacity, scale: Scale, d: i64) -> Option<Window>
+    requires { IsDifference d }
+    ensures { IsAnswer (parts_of scale) (exact.PowerLaw capacity.now) d result }
+{
+    if !is_in_range(capacity, scale.power) {
+        return None;
+    }
+    Some(window_of(
+        power_low_at(capacity, scale.power, d),
+        power_high_at(capacity, scale.power, d),
     ))
 }
 

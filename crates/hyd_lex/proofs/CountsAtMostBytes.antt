@@ -10,7 +10,7 @@ use Rattle.std.proofs.lemmas.List.{length-map}
 use Rattle.std.proofs.lemmas.Option.{slice_get_within}
 use denote.Ref.{Bor}
 use Rattle.hyd_spec_lines.specs.WordsOfLines.{is_line_feed, is_blank, without_empty_end, text_lines, words_in, text_of}
-use Rattle.hyd_spec_lines.specs.Lines.{given, kind_of}
+use Rattle.hyd_spec_lines.specs.Lines.{given, is_heading, kind_of}
 use Rattle.hyd_lex.specs.RemainingRows.{items, region_after}
 use Rattle.hyd_spec_lines.specs.declared.section.Region.{Region}
 use Rattle.hyd_spec_lines.specs.declared.section.Kind.{Kind}
@@ -51,9 +51,9 @@ few_items region n (line ∷ lines) =
     omega (
       arith,
       few_given (kind_of region line) n line,
-      few_items (region_after region (kind_of region line)) (n + 1) lines,
+      few_items (region_after (is_heading line) region (kind_of region line)) (n + 1) lines,
       length-append (given (kind_of region line) n line)
-          (items (region_after region (kind_of region line)) (n + 1) lines),
+          (items (region_after (is_heading line) region (kind_of region line)) (n + 1) lines),
     )
 
 -- ---- a body has at most as many words as bytes

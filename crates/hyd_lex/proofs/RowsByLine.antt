@@ -4,7 +4,7 @@ use Rattle.std.proofs.Common.{take, drop, refl, sym, ap, ◌∙◌}
 use Rattle.std.proofs.lemmas.List.{take_rest, drop-drop, take-take, length-drop}
 use Rattle.std.specs.List.{position_or_len}
 use Rattle.hyd_spec_lines.specs.WordsOfLines.{text_lines, body, is_line_feed}
-use Rattle.hyd_spec_lines.specs.Lines.{IsLineOf, kind_of, given, Reading, Row}
+use Rattle.hyd_spec_lines.specs.Lines.{IsLineOf, is_heading, kind_of, given, Reading, Row}
 use Rattle.hyd_lex.specs.RemainingRows.{Stands, items, region_after}
 use Rattle.hyd_spec_lines.specs.declared.line.Line.{Line}
 use Rattle.hyd_spec_lines.specs.declared.fault.LexFault.{LexFault}
@@ -22,7 +22,7 @@ nothing_after_end n (line ∷ lines) = nothing_after_end (n + 1) lines
 -- one line
 pub one_line : (region : Region) (n : ℕ) (line : List ℕ) (lines all : List (List ℕ)) → all ≡ line ∷ lines
     → items region n all ≡ given (kind_of region line) n line
-    ++ items (region_after region (kind_of region line)) (n + 1) lines
+    ++ items (region_after (is_heading line) region (kind_of region line)) (n + 1) lines
 one_line region n line lines all e = rw e refl
 
 -- where the reader of lines stands
@@ -40,11 +40,11 @@ pub line_at : (text : List ℕ) (at used n : ℕ) (region : Region) (line : List
     ∷ text_lines (drop used (take (length text - at) (drop at text)))
     → kind ≡ kind_of region line
     → items region n (text_lines (drop at text)) ≡ given kind n line
-    ++ items (region_after region kind) (n + 1) (text_lines (drop (at + used) text))
+    ++ items (region_after (is_heading line) region kind) (n + 1) (text_lines (drop (at + used) text))
 line_at text at used n region line kind e k =
     let f : text_lines (drop at text) ≡ line ∷ text_lines (drop used (drop at text)) = rw (take_rest text at) at e in
     rw k (one_line region n line _ _ f ∙ ap (λ rest. given (kind_of region line) n line
-    ++ items (region_after region (kind_of region line)) (n + 1) (text_lines rest)) (drop-drop used at text))
+    ++ items (region_after (is_heading line) region (kind_of region line)) (n + 1) (text_lines rest)) (drop-drop used at text))
 
 -- where the reader stands after a line
 pub stands_after : (text : List ℕ) (at used n : ℕ) (line : List ℕ) → Stands text at n → at < length text
@@ -65,14 +65,14 @@ pub at_nothing : (reading : Reading) (text : List ℕ) (at used n : ℕ) (region
     → (used < length (take (length text - at) (drop at text))
     → used ≡ position_or_len is_line_feed (take (length text - at) (drop at text)) + 1)
     → 0 < used → used ≤ length (take (length text - at) (drop at text))
-    → kind ≡ kind_of region line → after ≡ region_after region kind → given kind (n + 1) line ≡ []
+    → kind ≡ kind_of region line → after ≡ region_after (is_heading line) region kind → given kind (n + 1) line ≡ []
     → IsAt reading text (at + used) (n + 1) after
 at_nothing reading text at used n region after line kind is more lines feed some within k a g =
     let e = line_at text at used (n + 1) region line kind lines k in
     let w : used ≤ length (drop at text) = rw (take_rest text at) at within in
     record {
       text_is = is.text_is;
-      rest = rw a (ap (λ front. front ++ items (region_after region kind) (n + 1 + 1)
+      rest = rw a (ap (λ front. front ++ items (region_after (is_heading line) region kind) (n + 1 + 1)
           (text_lines (drop (at + used) text))) (sym g) ∙ sym e ∙ is.rest);
       short = is.short;
       within = omega (arith, length-drop at text, is.within);
@@ -86,11 +86,11 @@ pub at_item : (reading : Reading) (text : List ℕ) (at used n : ℕ) (region af
     → IsAt reading text at n region
     → text_lines (take (length text - at) (drop at text)) ≡ line
     ∷ text_lines (drop used (take (length text - at) (drop at text)))
-    → kind ≡ kind_of region line → after ≡ region_after region kind → given kind (n + 1) line ≡ item ∷ []
+    → kind ≡ kind_of region line → after ≡ region_after (is_heading line) region kind → given kind (n + 1) line ≡ item ∷ []
     → reading.rest ≡ item ∷ items after (n + 1 + 1) (text_lines (drop (at + used) text))
 at_item reading text at used n region after line kind item is lines k a g =
     sym is.rest ∙ line_at text at used (n + 1) region line kind lines k
-    ∙ rw a (ap (λ front. front ++ items (region_after region kind) (n + 1 + 1) (text_lines (drop (at + used) text))) g)
+    ∙ rw a (ap (λ front. front ++ items (region_after (is_heading line) region kind) (n + 1 + 1) (text_lines (drop (at + used) text))) g)
 
 -- where the words of a row lie
 pub row_is : (text : List ℕ) (at : ℕ) (line front : List ℕ) → line

@@ -9,7 +9,7 @@ use Rattle.hyd_spec_lines.specs.WordsOfLines.{text_lines, body, words_in, is_pla
 use Rattle.hyd_spec_lines.specs.Headings.{heading_kind, kind_by_section, read_section, unread_kind, is_passed_over}
 use Rattle.hyd_spec_lines.specs.Lines.{Row, items_of, kind_of, line_kind, body_kind, row_kind, only_kind, given}
 use Rattle.hyd_spec_lines.specs.Lines.{begin_heading, is_heading, heading, ends_text, is_end, given_under, section_of}
-use Rattle.hyd_spec_lines.specs.Lines.{sections_of, through_fault}
+use Rattle.hyd_spec_lines.specs.Lines.{sections_of}
 use Rattle.hyd_lex.specs.RemainingRows.{items, region_after}
 use Rattle.hyd_spec_lines.specs.declared.section.Section.{Section}
 use Rattle.hyd_spec_lines.specs.declared.fault.LexFault.{LexFault}
@@ -125,7 +125,7 @@ ends_not (Opens region) n = absurd n
 
 -- what the definition says of lines from here on, under a region
 abbrev said : Region → ℕ → List (List ℕ) → List (Result Row LexFault)
-said region n lines = through_fault (given_under region n (before_first is_heading lines) ++ sections_of n lines)
+said region n lines = given_under region n (before_first is_heading lines) ++ sections_of n lines
 
 abbrev Walks : ℕ → List (List ℕ) → Type 0
 Walks n lines = (region : Region) → IsOpen region → items region n lines ≡ said region n (before_first is_end lines)
@@ -133,12 +133,12 @@ Walks n lines = (region : Region) → IsOpen region → items region n lines ≡
 -- a line that is no heading
 other_step : (kind : Kind) (region : Region) (n : ℕ) (line : List ℕ) (lines : List (List ℕ))
     (under sections : List (Result Row LexFault))
-    → OpensNothing kind → items region (n + 1) lines ≡ through_fault (under ++ sections)
-    → given kind n line ++ items (region_after region kind) (n + 1) lines
-    ≡ through_fault ((given kind n line ++ under) ++ sections)
+    → OpensNothing kind → items region (n + 1) lines ≡ under ++ sections
+    → given kind n line ++ items (region_after false region kind) (n + 1) lines
+    ≡ (given kind n line ++ under) ++ sections
 other_step Nothing region n line lines under sections o e = e
 other_step (Wrong cause) region n line lines under sections o e =
-    ap (λ rest. given (Wrong cause) n line ++ rest) (nothing_after_end (n + 1) lines)
+    ap (λ rest. given (Wrong cause) n line ++ rest) e
 other_step (RowOf section) region n line lines under sections o e =
     ap (λ rest. given (RowOf section) n line ++ rest) e
 other_step (Opens next) region n line lines under sections o e = absurd o
@@ -161,8 +161,7 @@ other_line region n line lines o walks h here first =
 heading_said : (region : Region) (kind : Kind) (n : ℕ) (line : List ℕ) (lines : List (List ℕ))
     → is_heading line ≡ true → heading line ≡ kind → ends_text kind ≡ false
     → said region n (before_first is_end (line ∷ lines))
-    ≡ through_fault (section_of kind n line (before_first is_end lines)
-    ++ sections_of (n + 1) (before_first is_end lines))
+    ≡ section_of kind n line (before_first is_end lines) ++ sections_of (n + 1) (before_first is_end lines)
 heading_said region kind n line lines h k goes_on =
     let e : before_first is_end (line ∷ lines) ≡ line ∷ before_first is_end lines =
     fails_first is_end line lines (ap ends_text k ∙ goes_on) in
@@ -179,11 +178,11 @@ end_said region n line lines k =
 
 heading_step : (region : Region) (kind : Kind) (n : ℕ) (line : List ℕ) (lines : List (List ℕ))
     → Walks (n + 1) lines → is_heading line ≡ true → heading line ≡ kind → IsOfHeading kind
-    → given kind n line ++ items (region_after region kind) (n + 1) lines
+    → given kind n line ++ items (region_after true region kind) (n + 1) lines
     ≡ said region n (before_first is_end (line ∷ lines))
 heading_step region Nothing n line lines walks h k is = absurd is
 heading_step region (Wrong cause) n line lines walks h k is =
-    ap (λ rest. given (Wrong cause) n line ++ rest) (nothing_after_end (n + 1) lines)
+    ap (λ rest. given (Wrong cause) n line ++ rest) (walks PassedOver tt)
     ∙ sym (heading_said region (Wrong cause) n line lines h k refl)
 heading_step region (RowOf section) n line lines walks h k is = absurd is
 heading_step region (Opens BeforeHeadings) n line lines walks h k is =
@@ -199,7 +198,8 @@ heading_line : (region : Region) (n : ℕ) (line : List ℕ) (lines : List (List
     → Walks (n + 1) lines → is_heading line ≡ true → kind_of region line ≡ heading line → IsOfHeading (heading line)
     → items region n (line ∷ lines) ≡ said region n (before_first is_end (line ∷ lines))
 heading_line region n line lines walks h same is =
-    ap (λ kind. given kind n line ++ items (region_after region kind) (n + 1) lines) same
+    ap (λ kind. given kind n line ++ items (region_after (is_heading line) region kind) (n + 1) lines) same
+    ∙ ap (λ headed. given (heading line) n line ++ items (region_after headed region (heading line)) (n + 1) lines) h
     ∙ heading_step region (heading line) n line lines walks h refl is
 
 walks_on : (lines : List (List ℕ)) (n : ℕ) → Walks n lines

@@ -2,7 +2,7 @@
 #![tactic(auto)]
 
 ghost use Rattle.std.specs.Prelude.{◌≡◌, ◌+◌, ◌-◌, ◌<◌, ◌≤◌, ◌^◌, [], ◌∷◌, length, drop, slice_get, IfSome, IfNone};
-ghost use Rattle.std.specs.Prelude.{IfOk, IfErr};
+ghost use Rattle.std.specs.Prelude.{IfOk};
 ghost use Rattle.hyd_spec_lines.specs.WordsOfLines as form;
 ghost use Rattle.hyd_spec_lines.specs.WordsOfLines.{words_in, text_of};
 ghost use Rattle.hyd_spec_lines.specs.Lines.{items_of, item_of, row_of, LiesIn, IsLineOf};
@@ -18,7 +18,7 @@ use std::marker::Model;
 const LONGEST: usize = 1_024;
 
 /// The reader of a text's lines. It stands for the text and for what is still to come: the rows of its sections that
-/// are read, and the fault that ends them, where there is one.
+/// are read, and the lines that break a rule of lines.
 #[derive(Drop)]
 pub struct Lines<'a> {
     text: &'a [u8],
@@ -104,13 +104,33 @@ fn kind_of(region: Region, line: &[u8]) -> Kind
     }
 }
 
+// Whether a line's first word begins a heading.
+fn is_heading(line: &[u8]) -> bool
+    ensures { result ≡ lines_form.is_heading line.now }
+{
+    let Some(first) = word(body(line), 0) else {
+        return false;
+    };
+    !first.is_empty() && first[0] == b'['
+}
+
+// The region after a line that breaks a rule of lines.
+fn region_behind(region: Region, line: &[u8]) -> Region
+    ensures { result ≡ walk.region_behind (lines_form.is_heading line.now) region }
+{
+    if is_heading(line) {
+        return Region::PassedOver;
+    }
+    region
+}
+
 /// The region after a line of a kind.
-fn region_after(region: Region, kind: Kind) -> Region
-    ensures { result ≡ walk.region_after region kind }
+fn region_after(region: Region, line: &[u8], kind: Kind) -> Region
+    ensures { result ≡ walk.region_after (lines_form.is_heading line.now) region kind }
 {
     match kind {
         Kind::Nothing => region,
-        Kind::Wrong(_) => Region::Ended,
+        Kind::Wrong(_) => region_behind(region, line),
         Kind::Row(_) => region,
         Kind::Opens(next) => next,
     }
@@ -132,14 +152,22 @@ impl<'a> Lines<'a> {
         }
     }
 
-    /// The next line that has a word in a section that is read. A fault comes exactly at the first line that breaks a
-    /// rule of lines; `None` exactly after the last line to give, and after a fault. Blank lines, headings and the
-    /// lines of sections that are passed over aren't given.
+    /// The reader at the start of the same text.
+    pub fn again(&self) -> Lines<'a>
+        ensures text { result.text ≡ self.now.text }
+        ensures rest { result.rest ≡ items_of self.now.text }
+        ensures few { length result.rest ≤ length self.now.text }
+    {
+        Lines::new(self.text)
+    }
+
+    /// The next line that has a word in a section that is read. A fault comes exactly at a line that breaks a rule of
+    /// lines, and the lines behind it come after it: those behind a wrong heading are passed over. `None` comes exactly
+    /// after the last line to give. Blank lines, headings and the lines of sections that are passed over aren't given.
     pub fn next(&mut self) -> Option<Result<Line, LexFault>>
         ensures text { self.new.text ≡ self.old.text }
         ensures none { IfNone result ((self.old.rest ≡ []) × (self.new.rest ≡ [])) }
         ensures some { IfSome result (λ item. self.old.rest ≡ item_of self.old.text item ∷ self.new.rest) }
-        ensures fault { IfSome result (λ item. IfErr item (λ _. self.new.rest ≡ [])) }
         ensures lies { IfSome result (λ item. IfOk item (LiesIn self.old.text)) }
         ensures place { IfSome result (λ item. IfOk item (IsLineOf self.old.text)) }
     {
@@ -149,7 +177,7 @@ impl<'a> Lines<'a> {
             self.number += 1;
             self.at += used;
             let kind = kind_of(self.region, line);
-            self.region = region_after(self.region, kind);
+            self.region = region_after(self.region, line, kind);
             match kind {
                 Kind::Nothing => {}
                 Kind::Wrong(cause) => {

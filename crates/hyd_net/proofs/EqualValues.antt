@@ -1,8 +1,10 @@
 -- Values of hyd_num whose fields are equal are equal, since the facts that they keep have one proof each; and
 -- comparisons of capacities, lists and IDs decide.
 use Rattle.std.proofs.Common.{◌≡◌, ◌*◌, ◌^◌, ◌≤◌, ◌<◌, ℕ, ℤ, Bool, true, ◌&&◌, List, [], ◌∷◌, map, length, get_or, suc}
-use Rattle.std.proofs.Common.{arith, refl, sym, ap, ap₂, ◌∙◌, subst, false, true≢false}
-use Rattle.std.specs.Prelude.{unsigned_abs, ◌≤ℤ◌, ◌==◌}
+use Rattle.std.proofs.Common.{◌+◌, arith, refl, sym, ap, ap₂, ◌∙◌, subst, false, true≢false}
+use Rattle.std.proofs.Math.Bool.{Bool-set}
+use Rattle.std.specs.Prelude.{unsigned_abs, ◌≤ℤ◌, ◌==◌, Option, Some, None}
+use Rattle.std.specs.Option.{IfSome}
 use Rattle.std.specs.Bool.{Decides}
 use Rattle.std.specs.Ordering.{int_eq}
 use Rattle.std.specs.Coded.{le_prop}
@@ -12,13 +14,17 @@ use Rattle.std.proofs.lemmas.List.{map-id, get_or-map}
 use Rattle.std.proofs.lemmas.Slice.Eq.{slice_eq-Decides, bytes_eq-Decides}
 use Rattle.std.proofs.lemmas.Bool.Decides.{Decides-eqb, Decides-int_eq}
 use denote.Struct.Props.{props}
-use Rattle.hyd_num.specs.BinaryNumbers.{numerator, denominator}
+use Rattle.hyd_num.specs.BinaryNumbers.{numerator, denominator, reach}
+use Rattle.hyd_num.specs.Pairs.{pair_reach}
 use Rattle.hyd_num.specs.declared.binary.Scaled.{Scaled}
+use Rattle.hyd_num.specs.declared.pairs.Pair.{Pair}
 use Rattle.hyd_num.specs.declared.decimals.Decimal.{Decimal}
 use Rattle.hyd_num.specs.declared.spans.Span.{Span}
 use Rattle.hyd_num.specs.declared.link_capacities.Capacity.{Capacity}
+use Rattle.hyd_spec_power_laws.specs.declared.power_capacities.PowerCapacity.{PowerCapacity}
+use Rattle.hyd_spec_power_laws.specs.WholeFlows.{Covers}
 use Rattle.hyd_net.specs.ListView.{ListView}
-use Rattle.hyd_net.specs.ProjectAsCompared.{compared_capacity, no_origin, bare_list}
+use Rattle.hyd_net.specs.ProjectAsCompared.{compared_capacity, compared_power, no_origin, bare_list}
 
 one_proof-≤ℤ : (x y : ℤ) → IsProp (x ≤ℤ y)
 one_proof-≤ℤ x y = hlevel props
@@ -53,6 +59,80 @@ Span-equal a b l h =
     let ByHi : ℤ → Type 0 = λ z. (ordered : a.lo ≤ℤ z) → a ≡ record { lo = a.lo; hi = z; ordered = ordered } in
     subst ByLo l (subst ByHi h (λ ordered. ap (λ p. record a { ordered = p })
     (one_proof-≤ℤ a.lo a.hi a.ordered ordered))) b.ordered
+
+pub Pair-equal : (r s : Pair) → r.lo ≡ s.lo → r.hi ≡ s.hi → r ≡ s
+Pair-equal r s l h =
+    let Ordered : Scaled → Scaled → Type 0 = λ lo hi. numerator lo * denominator hi ≤ numerator hi * denominator lo in
+    let ByLo : Scaled → Type 0 = λ lo. (p : Ordered lo s.hi) → r ≡ record { lo = lo; hi = s.hi; ordered = p } in
+    let ByHi : Scaled → Type 0 = λ hi. (p : Ordered r.lo hi) → r ≡ record { lo = r.lo; hi = hi; ordered = p } in
+    let proofs : (p : Ordered r.lo r.hi) → r ≡ record { lo = r.lo; hi = r.hi; ordered = p } =
+    λ p i. record { lo = r.lo; hi = r.hi; ordered = le_prop r.ordered p i } in
+    subst ByLo l (subst ByHi h proofs) s.ordered
+
+-- ---- capacities by powers
+
+abbrev IsNearMinor : Option Pair → Type 0
+IsNearMinor minor = IfSome minor (λ m. pair_reach m ≤ 2 ^ 26)
+
+near_prop : (minor : Option Pair) (p q : IsNearMinor minor) → p ≡ q
+near_prop None p q = refl
+near_prop (Some m) p q = le_prop p q
+
+-- of the same ends, minor loss and pipe
+pub PowerCapacity-equal : (a b : PowerCapacity) → a.low ≡ b.low → a.high ≡ b.high → a.minor ≡ b.minor
+    → a.pipe ≡ b.pipe → a ≡ b
+PowerCapacity-equal a b l h m o =
+    let Near : Scaled → Scaled → Type 0 = λ low high. reach low + reach high ≤ 2 ^ 26 in
+    let ByLow : Scaled → Type 0 = λ low. (p : Covers b.high b.minor) (q : Near low b.high) (r : IsNearMinor b.minor)
+    → a ≡ record {
+      low = low;
+      high = b.high;
+      minor = b.minor;
+      pipe = b.pipe;
+      covers = p;
+      near = q;
+      minor_near = r;
+    } in
+    let ByHigh : Scaled → Type 0 = λ high. (p : Covers high b.minor) (q : Near a.low high) (r : IsNearMinor b.minor)
+    → a ≡ record {
+      low = a.low;
+      high = high;
+      minor = b.minor;
+      pipe = b.pipe;
+      covers = p;
+      near = q;
+      minor_near = r;
+    } in
+    let ByMinor : Option Pair → Type 0 = λ minor. (p : Covers a.high minor) (q : Near a.low a.high)
+    (r : IsNearMinor minor) → a ≡ record {
+      low = a.low;
+      high = a.high;
+      minor = minor;
+      pipe = b.pipe;
+      covers = p;
+      near = q;
+      minor_near = r;
+    } in
+    let proofs : (p : Covers a.high a.minor) (q : Near a.low a.high) (r : IsNearMinor a.minor) → a ≡ record {
+      low = a.low;
+      high = a.high;
+      minor = a.minor;
+      pipe = b.pipe;
+      covers = p;
+      near = q;
+      minor_near = r;
+    } = λ p q r i. record {
+      low = a.low;
+      high = a.high;
+      minor = a.minor;
+      pipe = o i;
+      covers = Bool-set _ _ a.covers p i;
+      near = le_prop a.near q i;
+      minor_near = near_prop a.minor a.minor_near r i;
+    } in
+    subst ByLow l (subst ByHigh h (subst ByMinor m proofs)) b.covers b.near b.minor_near
+
+-- ---- capacities of a root
 
 -- capacities with the same ends are the same as compared
 pub compared_capacity-equal : (a b : Capacity) → a.lo ≡ b.lo → a.hi ≡ b.hi → compared_capacity a ≡ compared_capacity b
@@ -95,6 +175,28 @@ pub compared_capacity-decides : (a b : Capacity) (low high : Bool) → Decides l
 compared_capacity-decides a b low high l h =
     by_parts _ (both _ _ l h) (λ p. compared_capacity-equal a b p.0 p.1)
     (λ e. (ap (λ (c : Capacity). c.lo) e, ap (λ (c : Capacity). c.hi) e))
+
+-- so the ends of two pairs
+pub Pair-apart : (a b : Pair) → Decides false (a.lo ≡ b.lo) → Decides false (a ≡ b)
+Pair-apart a b l = (λ t. absurd (true≢false (sym t)), λ e. l.1 (ap (λ (r : Pair). r.lo) e))
+
+pub Pair-decides : (a b : Pair) (low high : Bool) → Decides low (a.lo ≡ b.lo) → Decides high (a.hi ≡ b.hi)
+    → Decides (low && high) (a ≡ b)
+Pair-decides a b low high l h =
+    by_parts _ (both _ _ l h) (λ p. Pair-equal a b p.0 p.1)
+    (λ e. (ap (λ (r : Pair). r.lo) e, ap (λ (r : Pair). r.hi) e))
+
+-- the ends of two capacities by powers and their minor losses
+pub compared_power-decides : (a b : PowerCapacity) (r : Bool)
+    → Decides r ((a.low ≡ b.low) × (a.high ≡ b.high) × (a.minor ≡ b.minor))
+    → Decides r (compared_power a ≡ compared_power b)
+compared_power-decides a b r h =
+    by_parts r h (λ p. PowerCapacity-equal (compared_power a) (compared_power b) p.0 p.1 p.2 refl)
+    (λ e. (
+      ap (λ (c : PowerCapacity). c.low) e,
+      ap (λ (c : PowerCapacity). c.high) e,
+      ap (λ (c : PowerCapacity). c.minor) e,
+    ))
 
 -- ---- lists
 

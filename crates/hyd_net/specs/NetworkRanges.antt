@@ -9,6 +9,7 @@ use Rattle.hyd_num.specs.declared.decimals.Decimal.{Decimal}
 use Rattle.hyd_num.specs.declared.link_capacities.Origin.{Origin}
 use Rattle.hyd_num.specs.declared.link_capacities.Origin.TheVariants.{Pipe as PipeOrigin, Valve as ValveOrigin}
 use Rattle.hyd_num.specs.declared.link_capacities.Origin.TheVariants.{Pump as PumpOrigin, Emitter as EmitterOrigin}
+use Rattle.hyd_spec_power_laws.specs.declared.power_capacities.HazenWilliamsPipe.{HazenWilliamsPipe}
 use Rattle.hyd_net.specs.NumberRanges.{Lies, LiesWithin, head_limit, shutoff_head_limit, least_level_difference, IsHead}
 use Rattle.hyd_net.specs.NumberRanges.{least_volume_difference, IsFlow, IsUpTo, IsNumberUpTo, IsPositiveUpTo, Numbers}
 use Rattle.hyd_net.specs.ListView.{ListView}
@@ -24,6 +25,8 @@ use Rattle.hyd_net.specs.declared.links.OpenValve.{OpenValve}
 use Rattle.hyd_net.specs.declared.links.OpenValve.TheVariants.{Quadratic, Linear}
 use Rattle.hyd_net.specs.declared.links.ShutoffHead.{ShutoffHead}
 use Rattle.hyd_net.specs.declared.links.ShutoffHead.TheVariants.{FourThirds, Given}
+use Rattle.hyd_net.specs.declared.links.PipeLoss.{PipeLoss}
+use Rattle.hyd_net.specs.declared.links.PipeLoss.TheVariants.{Manning, HazenWilliams}
 use Rattle.hyd_net.specs.declared.links.LinkKind.{LinkKind}
 use Rattle.hyd_net.specs.declared.links.LinkKind.TheVariants.{Pipe, CheckPipe, Pump, CurvePump, Tcv, Fcv, Gpv}
 use Rattle.hyd_net.specs.declared.patterns.Pattern.{Pattern}
@@ -114,6 +117,19 @@ abbrev pub IsPipe : FlowUnit → Origin → Type 0
 IsPipe unit (PipeOrigin length diameter roughness minor us) = IsPipeNumbers unit length diameter roughness minor us
 IsPipe unit _ = ⊥
 
+-- those of a pipe with a Hazen-Williams coefficient, in the same units
+pub record IsHazenWilliamsNumbers (unit : FlowUnit) (pipe : HazenWilliamsPipe) : Type 0 where
+  pub long : IsPositiveUpTo (10 ^ 6) pipe.length
+  pub across : IsPositiveUpTo (10 ^ 4) pipe.diameter
+  pub coefficient : IsPositiveUpTo (10 ^ 4) pipe.coefficient
+  pub fittings : IsNumberUpTo (10 ^ 6) pipe.minor
+  pub same_system : pipe.us ≡ is_us_unit unit
+
+-- the numbers of which a pipe's loss is made are in range
+abbrev pub IsPipeLoss : FlowUnit → PipeLoss → Type 0
+IsPipeLoss unit (Manning cap) = IsPipe unit cap.origin
+IsPipeLoss unit (HazenWilliams cap) = IsHazenWilliamsNumbers unit cap.pipe
+
 -- a valve's diameter in inches or millimetres and its loss coefficient, which is above 0
 pub record IsValveNumbers (unit : FlowUnit) (diameter k : Decimal) (us : Bool) : Type 0 where
   pub across : IsPositiveUpTo (10 ^ 4) diameter
@@ -167,8 +183,8 @@ HasBend P bends bend = Numbers (λ (b : ListView HeadPoint). P b.list) bends ben
 
 -- what a link is made of; the multipliers of a pump's pattern are speeds of 0 to 10
 abbrev pub HasSizes : FlowUnit → List Pattern → List (ListView HeadPoint) → LinkKind → Type 0
-HasSizes unit patterns bends (Pipe cap) = IsPipe unit cap.origin
-HasSizes unit patterns bends (CheckPipe cap) = IsPipe unit cap.origin
+HasSizes unit patterns bends (Pipe loss) = IsPipeLoss unit loss
+HasSizes unit patterns bends (CheckPipe loss) = IsPipeLoss unit loss
 HasSizes unit patterns bends (Pump cap shutoff head pattern) = IsPumpOrigin unit head cap.origin
     × HasPattern (IsUpTo 10) patterns pattern
 HasSizes unit patterns bends (CurvePump bend pattern) = HasBend IsPumpCurve bends bend × HasPattern (IsUpTo 10)

@@ -1,6 +1,6 @@
 -- A network without what the comparison of two networks leaves aside: the numbers of the file that are kept beside a
 -- rounded form, and the spare of its lists. Each such number is put to 0 here, and each spare too.
-use Rattle.std.specs.Prelude.{map, pos}
+use Rattle.std.specs.Prelude.{map, pos, false}
 use Rattle.std.specs.Option.{option_map}
 use Rattle.std.proofs.Common.{lit≤}
 use Rattle.hyd_num.specs.declared.decimals.Decimal.{Decimal}
@@ -8,11 +8,15 @@ use Rattle.hyd_num.specs.declared.flow_units.FlowUnit.TheVariants.{Cmd}
 use Rattle.hyd_num.specs.declared.link_capacities.Capacity.{Capacity}
 use Rattle.hyd_num.specs.declared.link_capacities.Origin.{Origin}
 use Rattle.hyd_num.specs.declared.link_capacities.Origin.TheVariants.{Emitter}
+use Rattle.hyd_spec_power_laws.specs.declared.power_capacities.HazenWilliamsPipe.{HazenWilliamsPipe}
+use Rattle.hyd_spec_power_laws.specs.declared.power_capacities.PowerCapacity.{PowerCapacity}
 use Rattle.hyd_net.specs.ListView.{ListView}
 use Rattle.hyd_net.specs.declared.links.OpenValve.{OpenValve}
 use Rattle.hyd_net.specs.declared.links.OpenValve.TheVariants.{Quadratic, Linear}
 use Rattle.hyd_net.specs.declared.links.ShutoffHead.{ShutoffHead}
 use Rattle.hyd_net.specs.declared.links.ShutoffHead.TheVariants.{Given}
+use Rattle.hyd_net.specs.declared.links.PipeLoss.{PipeLoss}
+use Rattle.hyd_net.specs.declared.links.PipeLoss.TheVariants.{Manning, HazenWilliams}
 use Rattle.hyd_net.specs.declared.links.LinkKind.{LinkKind}
 use Rattle.hyd_net.specs.declared.links.LinkKind.TheVariants.{Pipe, CheckPipe, Pump, CurvePump, Tcv, Fcv, Gpv}
 use Rattle.hyd_net.specs.declared.links.LinkState.{LinkState}
@@ -38,6 +42,16 @@ no_number = record { nano = pos 0; bounded = lit≤ tt }
 abbrev pub no_origin : Origin
 no_origin = Emitter no_number Cmd
 
+-- the numbers that stand for those of a pipe with Hazen-Williams losses
+abbrev pub no_pipe : HazenWilliamsPipe
+no_pipe = record {
+  length = no_number;
+  diameter = no_number;
+  coefficient = no_number;
+  minor = no_number;
+  us = false;
+}
+
 -- the number that stands for that of a pump curve
 abbrev pub no_head : ShutoffHead
 no_head = Given no_number
@@ -54,6 +68,15 @@ bare_list v = record { list = v.list; spare = 0 }
 abbrev pub compared_capacity : Capacity → Capacity
 compared_capacity c = record c { origin = no_origin }
 
+-- a capacity by powers without its numbers
+abbrev pub compared_power : PowerCapacity → PowerCapacity
+compared_power c = record c { pipe = no_pipe }
+
+-- a pipe's loss without its numbers
+abbrev pub compared_loss : PipeLoss → PipeLoss
+compared_loss (Manning c) = Manning (compared_capacity c)
+compared_loss (HazenWilliams c) = HazenWilliams (compared_power c)
+
 -- an open valve without its numbers
 abbrev pub compared_valve : OpenValve → OpenValve
 compared_valve (Quadratic c) = Quadratic (compared_capacity c)
@@ -61,8 +84,8 @@ compared_valve Linear = Linear
 
 -- a link's kind without its numbers
 abbrev pub compared_kind : LinkKind → LinkKind
-compared_kind (Pipe c) = Pipe (compared_capacity c)
-compared_kind (CheckPipe c) = CheckPipe (compared_capacity c)
+compared_kind (Pipe loss) = Pipe (compared_loss loss)
+compared_kind (CheckPipe loss) = CheckPipe (compared_loss loss)
 compared_kind (Pump c shutoff head pattern) = Pump (compared_capacity c) shutoff no_head pattern
 compared_kind (CurvePump bend pattern) = CurvePump bend pattern
 compared_kind (Tcv valve) = Tcv (compared_valve valve)

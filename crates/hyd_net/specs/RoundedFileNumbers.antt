@@ -8,12 +8,15 @@ use Rattle.hyd_num.specs.declared.flow_units.FlowUnit.{FlowUnit}
 use Rattle.hyd_num.specs.declared.spans.Span.{Span}
 use Rattle.hyd_num.specs.declared.link_capacities.Origin.{Origin}
 use Rattle.hyd_num.specs.declared.link_capacities.Origin.TheVariants.{Valve as ValveOrigin}
+use Rattle.hyd_spec_power_laws.specs.PowerCapacities.{IsMade as IsPowerMade}
 use Rattle.hyd_net.specs.NetworkRanges.{IsValve}
 use Rattle.hyd_net.specs.declared.nodes.Tank.{Tank}
 use Rattle.hyd_net.specs.declared.links.OpenValve.{OpenValve}
 use Rattle.hyd_net.specs.declared.links.OpenValve.TheVariants.{Quadratic, Linear}
 use Rattle.hyd_net.specs.declared.links.ShutoffHead.{ShutoffHead}
 use Rattle.hyd_net.specs.declared.links.ShutoffHead.TheVariants.{FourThirds, Given}
+use Rattle.hyd_net.specs.declared.links.PipeLoss.{PipeLoss}
+use Rattle.hyd_net.specs.declared.links.PipeLoss.TheVariants.{Manning, HazenWilliams}
 use Rattle.hyd_net.specs.declared.links.LinkKind.{LinkKind}
 use Rattle.hyd_net.specs.declared.links.LinkKind.TheVariants.{Pipe, CheckPipe, Pump, CurvePump, Tcv, Fcv, Gpv}
 use Rattle.hyd_net.specs.declared.links.LinkState.{LinkState}
@@ -81,11 +84,16 @@ abbrev pub IsValveMade : OpenValve → Type 0
 IsValveMade (Quadratic cap) = IsMade cap
 IsValveMade Linear = ⊤
 
+-- a pipe's loss is made of its numbers
+abbrev pub IsLossMade : PipeLoss → Type 0
+IsLossMade (Manning cap) = IsMade cap
+IsLossMade (HazenWilliams cap) = IsPowerMade cap
+
 -- what a link is, is made of its numbers; the points of a curve by straight lines are ticks, and nothing is rounded
 -- beside them
 abbrev pub IsKindMade : FlowUnit → LinkKind → Type 0
-IsKindMade unit (Pipe cap) = IsMade cap
-IsKindMade unit (CheckPipe cap) = IsMade cap
+IsKindMade unit (Pipe loss) = IsLossMade loss
+IsKindMade unit (CheckPipe loss) = IsLossMade loss
 IsKindMade unit (Pump cap shutoff head pattern) = IsMade cap × IsShutoffMade unit head shutoff
 IsKindMade unit (CurvePump bend pattern) = ⊤
 IsKindMade unit (Tcv valve) = IsValveMade valve

@@ -4,6 +4,7 @@
 ghost use Rattle.std.specs.Prelude.{◌≡◌, ◌↔◌, IsTrue, map};
 ghost use Rattle.std.specs.Option.{option_map};
 ghost use Rattle.hyd_net.specs.ProjectAsCompared.{bare_list, compared_list, compared_capacity, compared_valve};
+ghost use Rattle.hyd_net.specs.ProjectAsCompared.{compared_power, compared_loss};
 ghost use Rattle.hyd_net.specs.ProjectAsCompared.{compared_kind, compared_state, compared_link, compared_tank};
 ghost use Rattle.hyd_net.specs.ProjectAsCompared.{compared_junction, compared_pattern, compared_control};
 ghost use Rattle.hyd_net.specs.ProjectAsCompared.{compared_value, compared_clause, compared_rule_clause};
@@ -12,14 +13,15 @@ ghost use Rattle.hyd_net.specs.ProjectAsCompared.{compared_project};
 
 use crate::controls::Control;
 use crate::curves::{HeadPoint, VolumePoint};
-use crate::links::{Link, LinkKind, LinkState, OpenValve};
+use crate::links::{Link, LinkKind, LinkState, OpenValve, PipeLoss};
 use crate::list::List;
 use crate::nodes::{Demand, Junction, Reservoir, Tank};
 use crate::options::{Options, Times};
 use crate::patterns::Pattern;
 use crate::project::Project;
 use crate::rules::{Action, Clause, Rule, RuleClause, Value};
-use hyd_num::{Capacity, Decimal, FlowUnit, Scaled, Span};
+use hyd_num::{Capacity, Decimal, FlowUnit, Pair, Scaled, Span};
+use hyd_spec_power_laws::PowerCapacity;
 
 /// Values that are compared without the numbers of the file that are kept beside a rounded form.
 trait Alike {
@@ -82,6 +84,48 @@ fn same_emitter(a: &Option<Capacity>, b: &Option<Capacity>) -> bool
         (Some(x), Some(y)) => x.same(y),
         (None, None) => true,
         _ => false,
+    }
+}
+
+fn same_pair(a: Pair, b: Pair) -> bool
+    ensures { IsTrue result ↔ (a ≡ b) }
+{
+    same_end(a.lo, b.lo) && same_end(a.hi, b.hi)
+}
+
+fn same_minor(a: &Option<Pair>, b: &Option<Pair>) -> bool
+    ensures { IsTrue result ↔ (a.now ≡ b.now) }
+{
+    match (a, b) {
+        (Some(x), Some(y)) => same_pair(*x, *y),
+        (None, None) => true,
+        _ => false,
+    }
+}
+
+fn same_ends_and_minor(a: &PowerCapacity, b: &PowerCapacity) -> bool
+    ensures { IsTrue result ↔ ((a.now.low ≡ b.now.low) × (a.now.high ≡ b.now.high) × (a.now.minor ≡ b.now.minor)) }
+{
+    same_end(a.low, b.low) && same_end(a.high, b.high) && same_minor(&a.minor, &b.minor)
+}
+
+impl Alike for PowerCapacity {
+    ghost compared = { compared_power };
+
+    fn same(&self, other: &PowerCapacity) -> bool {
+        same_ends_and_minor(self, other)
+    }
+}
+
+impl Alike for PipeLoss {
+    ghost compared = { compared_loss };
+
+    fn same(&self, other: &PipeLoss) -> bool {
+        match (self, other) {
+            (PipeLoss::Manning(x), PipeLoss::Manning(y)) => x.same(y),
+            (PipeLoss::HazenWilliams(x), PipeLoss::HazenWilliams(y)) => x.same(y),
+            _ => false,
+        }
     }
 }
 

@@ -22,7 +22,7 @@ mod rules;
 pub use comparison::same;
 pub use controls::{Control, When};
 pub use curves::{HeadPoint, VolumePoint};
-pub use links::{Link, LinkKind, LinkState, OpenValve, ShutoffHead};
+pub use links::{Link, LinkKind, LinkState, OpenValve, PipeLoss, ShutoffHead};
 pub use list::List;
 pub use names::Names;
 pub use nodes::{Demand, Junction, Reservoir, Tank};

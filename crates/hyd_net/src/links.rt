@@ -2,6 +2,14 @@
 #![tactic(auto)]
 
 use hyd_num::{Capacity, Decimal, Span};
+use hyd_spec_power_laws::PowerCapacity;
+
+/// What is lost in a pipe, by one of two formulas.
+#[derive(Debug, Clone, Copy, Drop)]
+pub enum PipeLoss {
+    Manning(Capacity),
+    HazenWilliams(PowerCapacity),
+}
 
 /// The law of a valve that is fully open: quadratic with a minor loss coefficient above 0, else
 /// linear.
@@ -23,9 +31,9 @@ pub enum ShutoffHead {
 /// What a link is, with what its law is made of.
 #[derive(Debug, Clone, Copy, Drop)]
 pub enum LinkKind {
-    Pipe(Capacity),
+    Pipe(PipeLoss),
     /// A pipe with a check valve, which passes no flow from its second node to its first.
-    CheckPipe(Capacity),
+    CheckPipe(PipeLoss),
     Pump {
         cap: Capacity,
         /// The floor and the ceiling of the shutoff head in head ticks at speed 1.

@@ -1,3 +1,4 @@
 pub mod KeyAndValueLemmas
 pub mod StageLemmas
+pub mod FormulaLemmas
 pub mod RuleLinesBehindLemmas

@@ -12,7 +12,7 @@ use crate::demands_emitters_curves_and_statuses::{
 };
 use crate::junctions_and_reservoirs::{read_junction, read_reservoir};
 use crate::patterns::read_pattern;
-use crate::pipes::read_pipe;
+use crate::pipes::read_pipe_by;
 use crate::pumps::read_pump;
 use crate::rules::check_rule_line;
 use crate::tanks::read_tank;
@@ -22,23 +22,25 @@ use hyd_net::Cause;
 use hyd_option_and_rule_lines::{read_control, read_option, read_time_line};
 use hyd_spec_input::Stage;
 
-/// What is wrong with a row by itself, where the lines of rules before it end at a stage and these rows are behind it.
+/// What is wrong with a row by itself, where losses are by Hazen-Williams or not, the lines of rules before it end at a
+/// stage and these rows are behind it.
 pub(crate) fn row_fault(
     text: &Lines<'_>,
     line: &Line,
+    by_power: bool,
     stage: Stage,
     later: &[Line],
 ) -> Option<Cause>
     requires lies { LiesIn text.now.text line.now }
     requires lie { All (LiesIn text.now.text) later.now }
-    ensures { result ≡ fault_at_stage line.now.section stage (words_at text.now line.now)
+    ensures { result ≡ fault_at_stage by_power line.now.section stage (words_at text.now line.now)
         (rule_lines text.now.text later.now) }
 {
     match line.section {
         Section::Junctions => read_junction(text, line).err(),
         Section::Reservoirs => read_reservoir(text, line).err(),
         Section::Tanks => read_tank(text, line).err(),
-        Section::Pipes => read_pipe(text, line).err(),
+        Section::Pipes => read_pipe_by(text, line, by_power).err(),
         Section::Pumps => read_pump(text, line).err(),
         Section::Valves => read_valve(text, line).err(),
         Section::Demands => read_demand(text, line).err(),

@@ -12,6 +12,7 @@ mod end_nodes;
 mod fault_by_section;
 mod first_wrong_row;
 mod junctions_and_reservoirs;
+mod last_lines_of_options;
 mod optional_and_bounded_words;
 mod patterns;
 mod pipes;
@@ -28,8 +29,11 @@ pub use end_nodes::LinkEnds;
 pub use first_wrong_row::first_by_itself;
 pub use hyd_option_and_rule_lines::Asked;
 pub use junctions_and_reservoirs::{JunctionRow, ReservoirRow, read_junction, read_reservoir};
+pub use last_lines_of_options::{
+    has_hazen_williams, has_hazen_williams_throughout, is_options, last_option,
+};
 pub use patterns::{PatternRow, read_pattern};
-pub use pipes::{PipeRow, PipeStatus, read_pipe};
+pub use pipes::{PipeRow, PipeStatus, read_pipe, read_pipe_by};
 pub use pumps::{PumpRow, read_pump};
 pub use rule_line_order::{first_word, is_acting, is_rule, is_rules, next_stage, stage_by};
 pub use tanks::{TankRow, read_tank};

@@ -15,7 +15,7 @@ use hyd_lex::{Line, Lines, is_keyword};
 use hyd_net::Cause;
 use hyd_net::ranges::{GREATEST_COEFFICIENT, GREATEST_DIAMETER};
 use hyd_num::Decimal;
-use hyd_option_and_rule_lines::{ends, number_within, word_is};
+use hyd_option_and_rule_lines::{ends, number, number_within, word_is};
 
 const GREATEST_LENGTH: i128 = 1_000_000 * 1_000_000_000;
 
@@ -35,7 +35,7 @@ pub struct PipeRow<'a> {
     pub ends: LinkEnds<'a>,
     pub length: Decimal,
     pub diameter: Decimal,
-    /// Manning's coefficient.
+    /// Manning's coefficient, or that of Hazen and Williams.
     pub roughness: Decimal,
     /// The minor loss coefficient, 0 where none is given.
     pub minor: Decimal,
@@ -107,20 +107,33 @@ fn status(text: &Lines<'_>, line: &Line) -> PipeStatus
     PipeStatus::Open
 }
 
-/// Reads a row of [PIPES]: ID, two nodes, length, diameter, Manning's coefficient, minor loss coefficient, status; the
+// The roughness: any number where losses are by Hazen-Williams, else Manning's.
+fn roughness(text: &Lines<'_>, line: &Line, by_power: bool) -> Result<Decimal, Cause>
+    requires { LiesIn text.now.text line.now }
+    ensures { Judged (column.needed (row.roughness by_power) 5 (words_at text.now line.now)) result
+        (λ roughness. roughness.nano ≡ column.amount 5 (words_at text.now line.now)) }
+{
+    if by_power {
+        return number(text, line, 5);
+    }
+    number_within(text, line, 5, 1, GREATEST_ROUGHNESS)
+}
+
+/// Reads a row of [PIPES]: ID, two nodes, length, diameter, roughness, minor loss coefficient, status; the
 /// last two may be missing, and a seventh word alone may be either. Refused are, at the first word that is wrong: a
 /// missing or further word and a status but OPEN, CLOSED and CV (Syntax), an ID longer than 31 bytes (Limit 3), a word
 /// that is no number or one above 10^12 up or down (Number), a second node that is the first, a length outside 0 to
-/// 10^6, a diameter outside 0 to 10^4, Manning's coefficient outside 0 to 10, all three also 0, and a minor loss
-/// coefficient outside 0 to 10^6 (Range).
-pub fn read_pipe<'a>(text: &Lines<'a>, line: &Line) -> Result<PipeRow<'a>, Cause>
+/// 10^6, a diameter outside 0 to 10^4, both also 0, a minor loss coefficient outside 0 to 10^6, and, where losses aren't
+/// by Hazen-Williams, a roughness outside 0 to 10, also 0 (Range).
+pub fn read_pipe_by<'a>(text: &Lines<'a>, line: &Line, by_power: bool) -> Result<PipeRow<'a>, Cause>
     requires { LiesIn text.now.text line.now }
-    ensures { Judged (row.pipe (words_at text.now line.now)) result (IsPipeRow (words_at text.now line.now)) }
+    ensures { Judged (row.pipe_by by_power (words_at text.now line.now)) result
+        (IsPipeRow (words_at text.now line.now)) }
 {
     let link = read_ends(text, line)?;
     let length = number_within(text, line, 3, 1, GREATEST_LENGTH)?;
     let diameter = number_within(text, line, 4, 1, GREATEST_DIAMETER)?;
-    let roughness = number_within(text, line, 5, 1, GREATEST_ROUGHNESS)?;
+    let roughness = roughness(text, line, by_power)?;
     let minor = minor(text, line)?;
     check_status(text, line)?;
     ends(text, line, 8)?;
@@ -132,4 +145,13 @@ pub fn read_pipe<'a>(text: &Lines<'a>, line: &Line) -> Result<PipeRow<'a>, Cause
         minor,
         status: status(text, line),
     })
+}
+
+/// Reads a row of [PIPES] that is right by itself. Its roughness may be any number; all else is refused as it is by
+/// `read_pipe_by`.
+pub fn read_pipe<'a>(text: &Lines<'a>, line: &Line) -> Result<PipeRow<'a>, Cause>
+    requires { LiesIn text.now.text line.now }
+    ensures { Judged (row.pipe (words_at text.now line.now)) result (IsPipeRow (words_at text.now line.now)) }
+{
+    read_pipe_by(text, line, true)
 }

@@ -20,7 +20,7 @@ use Rattle.hyd_spec_input.specs.declared.Attribute.{Attribute}
 use Rattle.hyd_spec_input.specs.declared.Attribute.TheVariants as attribute
 use Rattle.hyd_spec_input.specs.declared.RuleWord.TheVariants as rule
 use Rattle.hyd_option_and_rule_lines.specs.declared.options.OptionSet.{OptionSet}
-use Rattle.hyd_option_and_rule_lines.specs.declared.options.OptionSet.TheVariants.{Unit as UnitSet, ChezyManning}
+use Rattle.hyd_option_and_rule_lines.specs.declared.options.OptionSet.TheVariants.{Unit as UnitSet, Formula}
 use Rattle.hyd_option_and_rule_lines.specs.declared.options.OptionSet.TheVariants.{Pattern}
 use Rattle.hyd_option_and_rule_lines.specs.declared.options.OptionSet.TheVariants.{Multiplier}
 use Rattle.hyd_option_and_rule_lines.specs.declared.options.OptionSet.TheVariants.{Pda, MinimumPressure}
@@ -66,7 +66,7 @@ IsDemandSet false words set = set ≡ Pda (word_is 2 (codes "PDA") words)
 -- what a line of an option sets; an ID is the number of its word
 abbrev pub OptionSays : Option OptionWord → List (List ℕ) → OptionSet → Type 0
 OptionSays (Some option.Units) words set = set ≡ UnitSet (unwrap_or (flow_unit (word 1 words)) Gpm)
-OptionSays (Some option.HeadLoss) words set = set ≡ ChezyManning
+OptionSays (Some option.HeadLoss) words set = set ≡ Formula (word_is 1 (codes "H-W") words)
 OptionSays (Some option.Pattern) words set = set ≡ Pattern 1
 OptionSays (Some option.Demand) words set = IsDemandSet (word_is 1 (codes "MULTIPLIER") words) words set
 OptionSays (Some option.Minimum) words set = IsMinimum (amount 2 words) set

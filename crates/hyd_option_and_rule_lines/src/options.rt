@@ -31,8 +31,8 @@ const HALF: i128 = 500_000_000;
 pub enum OptionSet {
     /// The unit of flows.
     Unit(FlowUnit),
-    /// The head loss formula of Chezy and Manning.
-    ChezyManning,
+    /// The head loss formula: that of Hazen and Williams, or of Chezy and Manning.
+    Formula { is_hazen_williams: bool },
     /// The pattern of demands that name none.
     Pattern(u32),
     /// The multiplier of all demands, from 0 to 10^6.
@@ -62,18 +62,18 @@ fn units(text: &Lines<'_>, line: &Line) -> Result<OptionSet, Cause>
     Ok(OptionSet::Unit(unit))
 }
 
-// A head loss formula: Unsupported 1 for those of Hazen and Williams and of Darcy and Weisbach.
+// A head loss formula: Unsupported 1 for that of Darcy and Weisbach.
 fn loss_formula(word: &[u8]) -> Result<(), Cause>
-    ensures { Judged (column.supported form.loss_formulas (codes "H-W" ∷ codes "D-W" ∷ []) 1 word.now) result
+    ensures { Judged (column.supported form.loss_formulas (codes "D-W" ∷ []) 1 word.now) result
         (λ _. Unit {0}) }
 {
-    if is_keyword(word, b"H-W") {
-        return Err(Cause::Unsupported(1));
-    }
     if is_keyword(word, b"D-W") {
         return Err(Cause::Unsupported(1));
     }
     if is_keyword(word, b"C-M") {
+        return Ok(());
+    }
+    if is_keyword(word, b"H-W") {
         return Ok(());
     }
     Err(Cause::Syntax)
@@ -82,12 +82,15 @@ fn loss_formula(word: &[u8]) -> Result<(), Cause>
 // HEADLOSS and a formula.
 fn head_loss(text: &Lines<'_>, line: &Line) -> Result<OptionSet, Cause>
     requires { LiesIn text.now.text line.now }
-    ensures { Judged (form.head_loss_line (words_at text.now line.now)) result (λ set. set ≡ OptionSet.ChezyManning) }
+    ensures { Judged (form.head_loss_line (words_at text.now line.now)) result
+        (λ set. set ≡ OptionSet.Formula (column.word_is 1 (codes "H-W") (words_at text.now line.now))) }
 {
     let word = needed(text, line, 1)?;
     loss_formula(word)?;
     ends(text, line, 2)?;
-    Ok(OptionSet::ChezyManning)
+    Ok(OptionSet::Formula {
+        is_hazen_williams: word_is(text, line, 1, b"H-W"),
+    })
 }
 
 // PATTERN and an ID.
@@ -208,7 +211,7 @@ fn specific(text: &Lines<'_>, line: &Line) -> Result<OptionSet, Cause>
 
 /// Reads a line of options. Refused are, at the first word that is wrong: another first word, a word that is missing
 /// or isn't one of the option's, and a further word (Syntax); an ID longer than 31 bytes (Limit 3); a number's form
-/// or size (Number) and range (Range); and what isn't supported: head loss formulas but C-M (1), exponents but 0.5 (5
+/// or size (Number) and range (Range); and what isn't supported: the head loss formula D-W (1), exponents but 0.5 (5
 /// of emitters, 6 of pressure), a specific gravity but 1 (7) and pressures in KPA (13).
 pub fn read_option(text: &Lines<'_>, line: &Line) -> Result<OptionSet, Cause>
     requires { LiesIn text.now.text line.now }

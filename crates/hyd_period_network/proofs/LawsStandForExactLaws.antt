@@ -5,8 +5,9 @@ use Rattle.std.specs.Int.{int_max, int_min}
 use Rattle.std.proofs.lemmas.Int.{ints, clamps}
 use Rattle.hyd_num.proofs.Integers.{times_rises}
 use Rattle.hyd_num.specs.CapacityPairs.{IsMade}
+use Rattle.hyd_spec_power_laws.specs.PowerCapacities.{IsMade as IsPowerMade}
 use Rattle.hyd_num.specs.declared.spans.Span.{Span}
-use Rattle.hyd_spec.specs.ProgramTypes.{Capacity, ShutoffHead}
+use Rattle.hyd_spec.specs.ProgramTypes.{Capacity, PowerCapacity, ShutoffHead}
 use Rattle.hyd_num.specs.Rational.{floor, ceiling}
 use Rattle.hyd_net.specs.Curves.{Knot as Place, value_at}
 use Rattle.hyd_spec.specs.DemandsHeadsAndPumpLifts.{lift_of}
@@ -14,6 +15,7 @@ use Rattle.hyd_spec.specs.LinkLaw.{greatest_curve_flow}
 use Rattle.hyd_spec.specs.Scale.{at_scale}
 use Rattle.hyd_spec.specs.Law.{Relation, flow_at_least, flow_at_most, Law, Shut as ShutLaw, QuadraticLaw, LinearLaw}
 use Rattle.hyd_spec.specs.Law.{Lifted, ForwardOnly, ReverseOnly, Capped as CappedLaw, Bent as BentLaw, Held as HeldLaw}
+use Rattle.hyd_spec.specs.Law.{PowerLaw}
 use Rattle.hyd_spec_certificates.specs.Certificate.{box_limit}
 use Rattle.hyd_spec_certificates.specs.EnclosingFunctions.{quadratic_low, quadratic_high, low, high}
 use Rattle.hyd_lemmas.proofs.Integers.{max_left, max_right, max_is, min_left, min_right, min_is}
@@ -25,6 +27,7 @@ use Rattle.hyd_law.specs.LinkLaws.{link_at_least, link_at_most, link_low, link_h
 use Rattle.hyd_law.specs.declared.law_kinds.Shut.{Shut as ShutValue}
 use Rattle.hyd_law.specs.declared.law_kinds.Linear.{Linear as LinearValue}
 use Rattle.hyd_law.specs.declared.law_kinds.Quad.{Quad as QuadValue}
+use Rattle.hyd_law.specs.declared.law_kinds.Power.{Power as PowerValue}
 use Rattle.hyd_law.specs.declared.law_kinds.OneWay.{OneWay}
 use Rattle.hyd_law.specs.declared.law_kinds.Lifted.{Lifted as LiftedValue}
 use Rattle.hyd_law.specs.declared.law_kinds.Capped.{Capped}
@@ -34,7 +37,7 @@ use Rattle.hyd_law.specs.declared.link_law_kinds.LinkLaw.{LinkLaw}
 use Rattle.hyd_law.specs.declared.link_law_kinds.LinkLaw.TheVariants.{Shut, Quad, Linear, QuadOneWay, LinearOneWay}
 use Rattle.hyd_law.specs.declared.link_law_kinds.LinkLaw.TheVariants.{Pump}
 use Rattle.hyd_law.specs.declared.link_law_kinds.LinkLaw.TheVariants.{Limit, LinearLimit, LimitOneWay}
-use Rattle.hyd_law.specs.declared.link_law_kinds.LinkLaw.TheVariants.{LinearLimitOneWay}
+use Rattle.hyd_law.specs.declared.link_law_kinds.LinkLaw.TheVariants.{LinearLimitOneWay, Power, PowerOneWay}
 use Rattle.hyd_law.specs.declared.link_law_kinds.LinkLaw.TheVariants.{Bent}
 use Rattle.hyd_period_network.specs.ExactLaw.{one_way_law, is_nothing}
 use Rattle.std.specs.Prelude.{◌↔◌, if◌then◌else◌}
@@ -108,6 +111,35 @@ check_represents c made = record {
     low_is = λ d. refl;
     high_is = λ d. refl;
     sound = IsSoundCapacity-made c made;
+    accepts = λ d le. omega arith;
+  };
+  is_exact = refl;
+}
+
+pub power_represents : (c : PowerCapacity) → IsPowerMade c → Represents (Power (record { cap = c })) (PowerLaw c)
+power_represents c made = record {
+  stands = record {
+    at_least_is = λ S x a. same_truth;
+    at_most_is = λ S x a. same_truth;
+    low_is = λ d. refl;
+    high_is = λ d. refl;
+    sound = made;
+    accepts = λ d le. omega arith;
+  };
+  is_exact = refl;
+}
+
+pub power_check_represents : (c : PowerCapacity) → IsPowerMade c → Represents (PowerOneWay (record {
+  forward = true;
+  inner = record { cap = c };
+})) (ForwardOnly (PowerLaw c))
+power_check_represents c made = record {
+  stands = record {
+    at_least_is = λ S x a. same_truth;
+    at_most_is = λ S x a. same_truth;
+    low_is = λ d. refl;
+    high_is = λ d. refl;
+    sound = made;
     accepts = λ d le. omega arith;
   };
   is_exact = refl;
@@ -354,6 +386,13 @@ pub quad_one_way : (forward : Bool) (l : QuadValue) (of : Law) → Stands (Quad 
 quad_one_way forward l of s = made_one_way forward (Quad l) _ of s (λ S x a. same_truth) (λ S x a. same_truth)
     (λ d. refl) (λ d. refl) s.sound s.accepts
 
+pub power_one_way : (forward : Bool) (l : PowerValue) (of : Law) → Stands (Power l) of → Stands (PowerOneWay (record {
+  forward = forward;
+  inner = l;
+})) (one_way_law forward of)
+power_one_way forward l of s = made_one_way forward (Power l) _ of s (λ S x a. same_truth) (λ S x a. same_truth)
+    (λ d. refl) (λ d. refl) s.sound s.accepts
+
 pub linear_one_way : (forward : Bool) (l : LinearValue) (of : Law)
     → Stands (Linear l) of → Stands (LinearOneWay (record { forward = forward; inner = l })) (one_way_law forward of)
 linear_one_way forward l of s = made_one_way forward (Linear l) _ of s (λ S x a. same_truth) (λ S x a. same_truth)
@@ -376,6 +415,12 @@ linear_limit_one_way forward l of s = made_one_way forward (LinearLimit l) _ of 
 pub quad_again : (forward : Bool) (l : OneWay QuadValue) (of : Law) → l.forward ≡ forward
     → Stands (QuadOneWay l) of → Stands (QuadOneWay l) (one_way_law forward of)
 quad_again forward l of e s = made_one_way forward (QuadOneWay l) _ of s (λ S x a. again_least l.forward forward _ S x
+    a e) (λ S x a. again_most l.forward forward _ S x a e) (λ d. again l.forward forward _ e)
+    (λ d. again l.forward forward _ e) s.sound s.accepts
+
+pub power_again : (forward : Bool) (l : OneWay PowerValue) (of : Law) → l.forward ≡ forward
+    → Stands (PowerOneWay l) of → Stands (PowerOneWay l) (one_way_law forward of)
+power_again forward l of e s = made_one_way forward (PowerOneWay l) _ of s (λ S x a. again_least l.forward forward _ S x
     a e) (λ S x a. again_most l.forward forward _ S x a e) (λ d. again l.forward forward _ e)
     (λ d. again l.forward forward _ e) s.sound s.accepts
 

@@ -19,7 +19,7 @@ use Rattle.hyd_law.specs.declared.link_law_kinds.LinkLaw.{LinkLaw}
 use Rattle.hyd_law.specs.declared.link_law_kinds.LinkLaw.TheVariants.{Shut, Quad, Linear, QuadOneWay, LinearOneWay}
 use Rattle.hyd_law.specs.declared.link_law_kinds.LinkLaw.TheVariants.{Pump}
 use Rattle.hyd_law.specs.declared.link_law_kinds.LinkLaw.TheVariants.{Limit, LinearLimit, LimitOneWay}
-use Rattle.hyd_law.specs.declared.link_law_kinds.LinkLaw.TheVariants.{LinearLimitOneWay}
+use Rattle.hyd_law.specs.declared.link_law_kinds.LinkLaw.TheVariants.{LinearLimitOneWay, Power, PowerOneWay}
 use Rattle.hyd_law.specs.declared.link_law_kinds.LinkLaw.TheVariants.{Bent}
 use Rattle.hyd_law.specs.declared.demand_law_kinds.OutLaw.{OutLaw}
 use Rattle.hyd_law.specs.declared.demand_law_kinds.OutLaw.TheVariants.{Fixed, Pda}
@@ -48,6 +48,8 @@ exact_sound (Limit l) sound = sound
 exact_sound (LinearLimit l) sound = tt
 exact_sound (LimitOneWay l) sound = one_way_sound l.forward _ sound
 exact_sound (LinearLimitOneWay l) sound = one_way_sound l.forward _ tt
+exact_sound (Power l) sound = sound
+exact_sound (PowerOneWay l) sound = one_way_sound l.forward _ sound
 exact_sound (Bent l) sound =
     cond_both (is_nothing l.least l.most) ShutLaw (HeldLaw l.least l.most (BentLaw (places l.inner.knots.list)))
     IsSoundLaw (λ e. tt) (λ e. (sound.0, sound.1.ordered))

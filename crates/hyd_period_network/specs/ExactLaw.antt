@@ -4,13 +4,13 @@ use Rattle.std.specs.Prelude.{ℤ, pos, Bool, true, false, ◌&&◌, if◌then�
 use Rattle.hyd_spec.specs.WholeNumbers.{is_same_number}
 use Rattle.hyd_spec.specs.DemandsHeadsAndPumpLifts.{lift_of}
 use Rattle.hyd_spec.specs.Law.{Law, Shut as ShutLaw, QuadraticLaw, LinearLaw, Lifted, ForwardOnly, ReverseOnly, Capped}
-use Rattle.hyd_spec.specs.Law.{Bent as BentLaw, Held}
+use Rattle.hyd_spec.specs.Law.{PowerLaw, Bent as BentLaw, Held}
 use Rattle.hyd_law.specs.KnotsOfStraightLines.{places}
 use Rattle.hyd_law.specs.declared.link_law_kinds.LinkLaw.{LinkLaw}
 use Rattle.hyd_law.specs.declared.link_law_kinds.LinkLaw.TheVariants.{Shut, Quad, Linear, QuadOneWay, LinearOneWay}
 use Rattle.hyd_law.specs.declared.link_law_kinds.LinkLaw.TheVariants.{Pump}
 use Rattle.hyd_law.specs.declared.link_law_kinds.LinkLaw.TheVariants.{Limit, LinearLimit, LimitOneWay}
-use Rattle.hyd_law.specs.declared.link_law_kinds.LinkLaw.TheVariants.{LinearLimitOneWay}
+use Rattle.hyd_law.specs.declared.link_law_kinds.LinkLaw.TheVariants.{LinearLimitOneWay, Power, PowerOneWay}
 use Rattle.hyd_law.specs.declared.link_law_kinds.LinkLaw.TheVariants.{Bent}
 
 -- the law that passes one way only
@@ -35,5 +35,7 @@ exact_law (Limit l) = Capped l.cap (QuadraticLaw l.inner.cap)
 exact_law (LinearLimit l) = Capped l.cap LinearLaw
 exact_law (LimitOneWay l) = one_way_law l.forward (Capped l.inner.cap (QuadraticLaw l.inner.inner.cap))
 exact_law (LinearLimitOneWay l) = one_way_law l.forward (Capped l.inner.cap LinearLaw)
+exact_law (Power l) = PowerLaw l.cap
+exact_law (PowerOneWay l) = one_way_law l.forward (PowerLaw l.inner.cap)
 exact_law (Bent l) = if is_nothing l.least l.most then ShutLaw else Held l.least l.most
     (BentLaw (places l.inner.knots.list))

@@ -3,7 +3,7 @@ use Rattle.std.specs.Prelude.{◌≡◌, ◌↔◌, ◌<◌, ◌≤◌, ◌+◌,
 use Rattle.std.specs.Prelude.{if◌then◌else◌, ⊤, Option, None, slice_get}
 use Rattle.std.specs.Prelude.{All, true, false}
 use Rattle.hyd_net.specs.ListView.{ListView}
-use Rattle.hyd_net.specs.RoundedFileNumbers.{IsKindMade, IsStateMade, IsValveMade}
+use Rattle.hyd_net.specs.RoundedFileNumbers.{IsKindMade, IsStateMade, IsValveMade, IsLossMade}
 use Rattle.hyd_num.specs.CapacityPairs.{IsMade}
 use Rattle.hyd_net.specs.NumberRanges.{shutoff_head_limit}
 use Rattle.hyd_net.specs.NetworkRanges.{HasSizes}
@@ -141,8 +141,8 @@ IsShutoff us head = unsigned_abs (shutoff_head us head).num ≤ shutoff_head_lim
 
 -- the capacities of a kind are made of the file's numbers
 abbrev pub IsLawMade : LinkKind → Type 0
-IsLawMade (PipeLink cap) = IsMade cap
-IsLawMade (CheckPipe cap) = IsMade cap
+IsLawMade (PipeLink loss) = IsLossMade loss
+IsLawMade (CheckPipe loss) = IsLossMade loss
 IsLawMade (PumpLink cap shutoff head pattern) = IsMade cap
 IsLawMade (CurvePump bend pattern) = ⊤
 IsLawMade (Tcv valve) = IsValveMade valve

@@ -6,7 +6,7 @@ ghost use Rattle.std.specs.Bool.{OnTrue, OnFalse};
 ghost use Rattle.hyd_law.specs.ComposedLaws.{directed};
 ghost use Rattle.hyd_law.specs.LinkLaws.{IsSoundLink};
 ghost use Rattle.hyd_net.specs.ListView.{ListView};
-ghost use Rattle.hyd_net.specs.RoundedFileNumbers.{IsValveMade};
+ghost use Rattle.hyd_net.specs.RoundedFileNumbers.{IsValveMade, IsLossMade};
 ghost use Rattle.hyd_net.specs.LinkStates.{IsSpeed};
 ghost use Rattle.hyd_net.specs.declared.curves.HeadPoint.{HeadPoint};
 ghost use Rattle.hyd_spec.specs.ProgramTypes.{Open, Closed, Speed, Throttle, Limit};
@@ -22,10 +22,37 @@ ghost use Rattle.hyd_period_network.specs.LawsInSettings.{CanStand, AreLawsOf, I
 use crate::curves::{closed_curve, curve_pump_law, curve_valve_law, knots_of, points_of};
 use crate::junctions_ends_and_settings::Setting;
 use crate::pumps::pump_law;
-use hyd_law::{Bent, Capped, Held, Linear, LinkLaw, OneWay, Quad, Shut};
-use hyd_net::{LinkKind, LinkState, OpenValve, Project};
+use hyd_law::{Bent, Capped, Held, Linear, LinkLaw, OneWay, Power, Quad, Shut};
+use hyd_net::{LinkKind, LinkState, OpenValve, PipeLoss, Project};
 use hyd_num::{Capacity, Decimal, Origin, Scaled};
 use std::mem;
+
+fn pipe_law(loss: &PipeLoss) -> LinkLaw
+    requires { IsLossMade loss.now }
+    ensures { Represents result (spec.pipe_law loss.now) }
+{
+    match loss {
+        PipeLoss::Manning(cap) => LinkLaw::Quad(Quad { cap: *cap }),
+        PipeLoss::HazenWilliams(cap) => LinkLaw::Power(Power { cap: *cap }),
+    }
+}
+
+// The law of a pipe with a check valve.
+fn check_law(loss: &PipeLoss) -> LinkLaw
+    requires { IsLossMade loss.now }
+    ensures { Represents result (exact.ForwardOnly (spec.pipe_law loss.now)) }
+{
+    match loss {
+        PipeLoss::Manning(cap) => LinkLaw::QuadOneWay(OneWay {
+            forward: true,
+            inner: Quad { cap: *cap },
+        }),
+        PipeLoss::HazenWilliams(cap) => LinkLaw::PowerOneWay(OneWay {
+            forward: true,
+            inner: Power { cap: *cap },
+        }),
+    }
+}
 
 fn valve_law(valve: &OpenValve) -> LinkLaw
     requires { IsValveMade valve.now }
@@ -61,11 +88,8 @@ fn open_law(kind: &LinkKind) -> LinkLaw
         → Represents result (spec.own_law us bends kind.now Open) }
 {
     match kind {
-        LinkKind::Pipe(cap) => LinkLaw::Quad(Quad { cap: *cap }),
-        LinkKind::CheckPipe(cap) => LinkLaw::QuadOneWay(OneWay {
-            forward: true,
-            inner: Quad { cap: *cap },
-        }),
+        LinkKind::Pipe(loss) => pipe_law(loss),
+        LinkKind::CheckPipe(loss) => check_law(loss),
         LinkKind::Pump { .. } => LinkLaw::Shut(Shut),
         LinkKind::CurvePump { .. } => LinkLaw::Shut(Shut),
         LinkKind::Tcv { valve } => valve_law(valve),
@@ -204,6 +228,7 @@ fn one_way(law: LinkLaw, forward: bool) -> LinkLaw
         LinkLaw::Linear(inner) => LinkLaw::LinearOneWay(OneWay { forward, inner }),
         LinkLaw::Limit(inner) => LinkLaw::LimitOneWay(OneWay { forward, inner }),
         LinkLaw::LinearLimit(inner) => LinkLaw::LinearLimitOneWay(OneWay { forward, inner }),
+        LinkLaw::Power(inner) => LinkLaw::PowerOneWay(OneWay { forward, inner }),
         LinkLaw::QuadOneWay(law) => if is_same_way(law.forward, forward) {
             LinkLaw::QuadOneWay(law)
         } else {
@@ -226,6 +251,11 @@ fn one_way(law: LinkLaw, forward: bool) -> LinkLaw
         },
         LinkLaw::LinearLimitOneWay(law) => if is_same_way(law.forward, forward) {
             LinkLaw::LinearLimitOneWay(law)
+        } else {
+            LinkLaw::Shut(Shut)
+        },
+        LinkLaw::PowerOneWay(law) => if is_same_way(law.forward, forward) {
+            LinkLaw::PowerOneWay(law)
         } else {
             LinkLaw::Shut(Shut)
         },
@@ -272,6 +302,8 @@ fn shut_law(law: LinkLaw) -> LinkLaw
         LinkLaw::Pump(_) => LinkLaw::Shut(Shut),
         LinkLaw::LimitOneWay(_) => LinkLaw::Shut(Shut),
         LinkLaw::LinearLimitOneWay(_) => LinkLaw::Shut(Shut),
+        LinkLaw::Power(_) => LinkLaw::Shut(Shut),
+        LinkLaw::PowerOneWay(_) => LinkLaw::Shut(Shut),
         LinkLaw::Bent(held) => closed_curve(held.inner.knots),
     }
 }

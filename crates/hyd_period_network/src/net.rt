@@ -24,11 +24,16 @@ pub struct Net {
 
 impl Model for Net {
     ghost use Rattle.std.specs.Prelude.{◌+◌, length};
+    ghost use Rattle.std.specs.Coded.{codes};
+    ghost use Rattle.hyd_spec_power_laws.specs.contracts.power_capacities.PowerCapacity as power;
     ghost use Rattle.hyd_period_network.specs.NetView.{NetView};
     ghost use Rattle.hyd_period_network.specs.SoundNets.{IsSoundNet};
     ghost use Rattle.hyd_period_network.specs.LinkEnds.{AreRowsOf};
 
     ghost Value = { NetView };
+
+    // A loss by powers says of its minor loss that it is near 1 where there is one.
+    ghost coded = { Prim.hlevel (codes, power.the_row.coded) };
 
     ghost view = { λ n. record {
       junctions = n.junctions.items;

@@ -1,6 +1,6 @@
 //! Capacities of pipes with Hazen-Williams losses, and that their flows enclose the exact ones.
 //!
-//! Outside the program as yet. Tested by `hyd_tests_on_power_laws`.
+//! Tested by `hyd_tests_on_power_laws`.
 #![tactic(auto)]
 
 mod capacities;

@@ -1,7 +1,7 @@
 //! Hazen-Williams losses: the whole flows that enclose a pipe's exact flow, found without roots or logarithms by a test
 //! of cut powers.
 //!
-//! Outside the program as yet. Tested by `hyd_tests_on_power_laws`.
+//! Tested by `hyd_tests_on_power_laws`.
 #![tactic(auto)]
 
 mod comparisons;

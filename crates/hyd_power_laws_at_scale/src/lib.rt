@@ -1,6 +1,4 @@
 //! Flows of pipes with Hazen-Williams losses at a scale of parts of ticks.
-//!
-//! Outside the program as yet.
 #![tactic(auto)]
 
 mod ends_in_parts;

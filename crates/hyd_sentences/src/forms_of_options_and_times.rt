@@ -23,7 +23,7 @@ const UNITS: Form = Form {
 
 const HEADLOSS: Form = Form {
     text: say::HEADLOSS_ROW,
-    slots: &[Slot::Any, Slot::Words("C-M", "H-W D-W")],
+    slots: &[Slot::Any, Slot::Words("C-M H-W", "D-W")],
     needed: 2,
     more: false,
 };

@@ -9,8 +9,8 @@ pub(crate) enum Formula {
     /// Chezy-Manning, or none that is known.
     Manning,
     /// Hazen-Williams.
-    HazenWilliams(u32),
-    /// Darcy-Weisbach.
+    HazenWilliams,
+    /// Darcy-Weisbach, by this line.
     DarcyWeisbach(u32),
     /// No line says it, so that EPANET takes Hazen-Williams.
     Untold,
@@ -21,13 +21,21 @@ fn is_headloss(row: &Row<'_>) -> bool {
     matches!(row.section(), Some(Section::Options)) && row.has(0, "HEADLOSS")
 }
 
-/// The formula of a file.
+/// The formula of a file, which the last line of HEADLOSS says.
 pub(crate) fn formula_of(text: &[u8]) -> Formula {
-    let Some(row) = rows_of(text).find(|row| is_headloss(row)) else {
-        return Formula::Untold;
-    };
+    let mut formula = Formula::Untold;
+    for row in rows_of(text) {
+        if is_headloss(&row) {
+            formula = formula_in(&row);
+        }
+    }
+    formula
+}
+
+// The formula that a row says.
+fn formula_in(row: &Row<'_>) -> Formula {
     if row.has(1, "H-W") {
-        return Formula::HazenWilliams(row.number);
+        return Formula::HazenWilliams;
     }
     if row.has(1, "D-W") {
         return Formula::DarcyWeisbach(row.number);

@@ -80,9 +80,6 @@ fn set_pipe<'a>(text: &[u8], row: &Row<'a>) -> Option<WrongPart<'a>> {
 
 // The head loss formula.
 fn head_loss_part<'a>(row: &Row<'a>) -> Option<WrongPart<'a>> {
-    if row.has(1, "H-W") {
-        return Some(WrongPart::HazenWilliams);
-    }
     if row.has(1, "D-W") {
         return Some(WrongPart::DarcyWeisbach);
     }

@@ -3,7 +3,7 @@
 use crate::filled_slots::{Filled, filled_slots};
 use crate::forms::{Bound, Slot};
 use crate::forms_of_rows::form_of;
-use crate::formulas::formula_of;
+use crate::formulas::{Formula, formula_of};
 use crate::pump_pairs::value_of;
 use crate::rows::{Row, body_of};
 use crate::sentences as say;
@@ -13,9 +13,6 @@ use hyd_spec_lines::Section;
 
 // A number of a file in billionths.
 const BILLION: i128 = 1_000_000_000;
-
-// The range of a roughness.
-const ROUGHNESS: Bound = Bound::Above0To(10);
 
 // The least diameter of a tank without a volume curve, in billionths.
 const LEAST_DIAMETER: i128 = BILLION / 10;
@@ -49,12 +46,22 @@ fn nano_of(word: &[u8]) -> Option<i128> {
     }
 }
 
+// The range of a roughness by the formula of the file.
+fn roughness_bound(formula: Formula) -> Bound {
+    match formula {
+        Formula::HazenWilliams => Bound::Above0To(10_000),
+        _ => Bound::Above0To(10),
+    }
+}
+
 // A roughness out of its range, with the formula of the file, whose number it may be.
 fn roughness_fault<'a>(text: &[u8], word: &'a [u8]) -> Option<WrongRange<'a>> {
-    if holds(ROUGHNESS, nano_of(word)?) {
+    let formula = formula_of(text);
+    let bound = roughness_bound(formula);
+    if holds(bound, nano_of(word)?) {
         return None;
     }
-    Some(WrongRange::Roughness(word, ROUGHNESS, formula_of(text)))
+    Some(WrongRange::Roughness(word, bound, formula))
 }
 
 // A time of day in hour 0 or behind hour 12, which has no AM or PM.

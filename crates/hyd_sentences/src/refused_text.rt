@@ -3,7 +3,7 @@
 use crate::numbers::wrong_number;
 use crate::parts_and_limits::{wrong_part, wrong_size};
 use crate::ranges::wrong_range;
-use crate::remedies::{remedy_of, remedy_of_whole};
+use crate::remedies::remedy_of;
 use crate::rows::{Row, row_at};
 use crate::sentences::{NO_BYTES, RemedyFor, Said, whole};
 use crate::shown::Shown;
@@ -65,11 +65,7 @@ fn write_whole<W: fmt::Write>(refused: &RefusedText<'_>, f: &mut Formatter<W>) -
     if is_without_bytes(text, cause) {
         return write!(f, "{file}: {NO_BYTES}");
     }
-    let remedy = RemedyFor {
-        remedy: remedy_of_whole(cause),
-        file,
-    };
-    write!(f, "{file}: {}{remedy}", whole(cause))
+    write!(f, "{file}: {}", whole(cause))
 }
 
 impl Display for RefusedText<'_> {

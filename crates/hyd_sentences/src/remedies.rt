@@ -9,7 +9,6 @@ use crate::sentences::{
     Remedy, Said, Wrong, WrongLine, WrongName, WrongNumber, WrongPart, WrongRange, WrongSize,
 };
 use hyd_lex::is_keyword;
-use hyd_net::Cause;
 use hyd_num::read_decimal;
 use hyd_spec_lines::Section;
 
@@ -213,11 +212,10 @@ fn remedy_of_section(text: &[u8], section: Section) -> Remedy {
 fn remedy_of_range(text: &[u8], row: &Row<'_>, wrong: WrongRange<'_>) -> Remedy {
     match wrong {
         WrongRange::Roughness(word, _, Formula::Manning) if is_large_roughness(word) => {
-            Remedy::ManningOfOther
+            Remedy::HazenWilliams
         }
         WrongRange::Section(section) => remedy_of_section(text, section),
-        WrongRange::Roughness(_, _, Formula::HazenWilliams(_) | Formula::Untold) => Remedy::Manning,
-        WrongRange::Roughness(_, _, Formula::DarcyWeisbach(_)) => Remedy::None,
+        WrongRange::Roughness(_, _, Formula::DarcyWeisbach(_) | Formula::Untold) => Remedy::None,
         WrongRange::Number(..)
         | WrongRange::Roughness(..)
         | WrongRange::Levels(..)
@@ -234,16 +232,7 @@ pub(crate) fn remedy_of(text: &[u8], row: &Row<'_>, said: Said<'_>) -> Remedy {
     match said {
         Said::WrongNumber(WrongNumber::NoNumber(_)) => counted(text, row),
         Said::WrongRange(wrong) => remedy_of_range(text, row, wrong),
-        Said::WrongPart(WrongPart::HazenWilliams) => Remedy::Manning,
         Said::WrongPart(WrongPart::Curve(_, _, 3)) => Remedy::FourthPoint,
-        _ => Remedy::None,
-    }
-}
-
-/// What helps where a file as a whole is refused.
-pub(crate) fn remedy_of_whole(cause: Cause) -> Remedy {
-    match cause {
-        Cause::Unsupported(1) => Remedy::Manning,
         _ => Remedy::None,
     }
 }

@@ -179,7 +179,8 @@ pub(crate) fn general(cause: Cause) -> &'static str {
 /// A part of EPANET's input that isn't supported, by its number.
 pub(crate) fn general_part(part: u8) -> &'static str {
     match part {
-        1 => "only Chezy-Manning head losses are supported (HEADLOSS C-M)",
+        1 =>
+            "only Chezy-Manning (HEADLOSS C-M) and Hazen-Williams head losses (HEADLOSS H-W) are supported",
         2 =>
             "PRV, PSV and PBV aren't supported: where the valve's state is known, put a pipe, a closed pipe, a TCV or an FCV in its place",
         3 =>
@@ -229,7 +230,7 @@ pub(crate) const NO_BYTES: &str =
 pub(crate) fn whole(cause: Cause) -> &'static str {
     match cause {
         Cause::Unsupported(1) =>
-            "there is no HEADLOSS line in [OPTIONS], so EPANET takes Hazen-Williams, which isn't supported. Where each roughness is Manning's n already, write HEADLOSS C-M there; a C of Hazen-Williams has to be converted",
+            "there is no HEADLOSS line in [OPTIONS]: write HEADLOSS H-W there where each roughness is a C of Hazen-Williams, as EPANET takes it then, HEADLOSS C-M where it is Manning's n",
         _ => general(cause),
     }
 }
@@ -612,6 +613,11 @@ impl Display for WrongRange<'_> {
                     f,
                 )
             }
+            WrongRange::Roughness(word, bound, Formula::HazenWilliams) => write!(
+                f,
+                "the C of Hazen-Williams is {}, and has to be {bound}",
+                Name(word)
+            ),
             WrongRange::Roughness(word, bound, formula) => write!(
                 f,
                 "the {ROUGHNESS} is {}, and has to be {bound}{formula}",
@@ -642,19 +648,13 @@ impl Display for WrongRange<'_> {
 impl Display for Formula {
     fn fmt<W: fmt::Write>(&self, f: &mut Formatter<W>) -> fmt::Result {
         match *self {
-            Formula::Manning => Ok(()),
-            Formula::HazenWilliams(line) => {
-                write!(
-                    f,
-                    ". Line {line} says HEADLOSS H-W, and a C of Hazen-Williams is no Manning n"
-                )
-            }
+            Formula::Manning | Formula::HazenWilliams => Ok(()),
             Formula::DarcyWeisbach(line) => write!(
                 f,
                 ". Line {line} says HEADLOSS D-W, and a roughness of Darcy-Weisbach is no Manning n: {OTHER_FORMULA}"
             ),
             Formula::Untold => f.write_str(
-                ". There is no HEADLOSS line, so EPANET takes Hazen-Williams, whose C is no Manning n",
+                ". There is no HEADLOSS line, so EPANET takes Hazen-Williams: if these are its C, write HEADLOSS H-W",
             ),
         }
     }
@@ -670,7 +670,7 @@ pub(crate) fn ranges_of(section: Section) -> &'static str {
         Section::Tanks =>
             "bottom, and bottom and maximum level together, are at most 10,000 m in magnitude; the maximum level is at least 0.01 foot (3.048 mm) above the minimum; a volume curve rises from at least 0 and reaches from the minimum to the maximum level",
         Section::Pipes =>
-            "length above 0 to 10^6, diameter above 0 to 10^4, roughness above 0 to 10, minor loss 0 to 10^6",
+            "length above 0 to 10^6, diameter above 0 to 10^4, roughness above 0 to 10 (a C of Hazen-Williams to 10,000), minor loss 0 to 10^6",
         Section::Pumps =>
             "the speed, and each multiplier of its pattern, is 0 to 10; the head at flow 0 is at most 1,000 m; flows of its curve are at most 10^8 m3 a day; in a curve of four points and more flows rise from at least 0 and heads fall to at least 0",
         Section::Valves =>
@@ -800,8 +800,6 @@ const OTHER_FORMULA: &str =
 /// A part that isn't supported, with its names.
 #[derive(Clone, Copy)]
 pub(crate) enum WrongPart<'a> {
-    /// Hazen-Williams.
-    HazenWilliams,
     /// Darcy-Weisbach.
     DarcyWeisbach,
     /// A valve's ID and type.
@@ -825,12 +823,9 @@ pub(crate) enum WrongPart<'a> {
 impl Display for WrongPart<'_> {
     fn fmt<W: fmt::Write>(&self, f: &mut Formatter<W>) -> fmt::Result {
         match *self {
-            WrongPart::HazenWilliams => f.write_str(
-                "Hazen-Williams head losses (H-W) aren't supported, only Chezy-Manning (HEADLOSS C-M)",
-            ),
             WrongPart::DarcyWeisbach => write!(
                 f,
-                "Darcy-Weisbach head losses (D-W) aren't supported, only Chezy-Manning (HEADLOSS C-M): {OTHER_FORMULA}"
+                "Darcy-Weisbach head losses (D-W) aren't supported, only Chezy-Manning (HEADLOSS C-M) and Hazen-Williams (HEADLOSS H-W): {OTHER_FORMULA}"
             ),
             WrongPart::Valve(valve, kind) => write!(
                 f,
@@ -959,10 +954,8 @@ pub(crate) enum Remedy {
     Prepare,
     /// `scripts/prepare.py` says which fourth point a pump's curve may have.
     FourthPoint,
-    /// `scripts/manning.py` gives pipes their Manning roughness.
-    Manning,
-    /// The same, of a file that says that its roughness is Manning's already.
-    ManningOfOther,
+    /// A roughness too large for Manning's may be a coefficient of Hazen-Williams.
+    HazenWilliams,
     /// The units that are taken where no line says them.
     NoUnits,
 }
@@ -996,33 +989,13 @@ impl Display for RemedyFor<'_> {
                 f,
                 ". scripts/prepare.py {file} -o NEW.inp says which point on EPANET's own curve could be the fourth"
             ),
-            Remedy::Manning => write!(f, ". {}", ManningBySpeed { file }),
-            Remedy::ManningOfOther => write!(
-                f,
-                ". If these are C of Hazen-Williams, write HEADLOSS H-W; then {}",
-                ManningBySpeed { file }
+            Remedy::HazenWilliams => f.write_str(
+                ". If these are C of Hazen-Williams, write HEADLOSS H-W",
             ),
             Remedy::NoUnits => f.write_str(
                 ". There is no UNITS line in [OPTIONS], so GPM, feet and psi are taken",
             ),
         }
-    }
-}
-
-// What gives pipes their Manning roughness.
-#[derive(Clone, Copy)]
-struct ManningBySpeed<'a> {
-    // The file's name.
-    file: &'a str,
-}
-
-impl Display for ManningBySpeed<'_> {
-    fn fmt<W: fmt::Write>(&self, f: &mut Formatter<W>) -> fmt::Result {
-        let file = self.file;
-        write!(
-            f,
-            "scripts/manning.py {file} -o NEW.inp --speed 0.5 gives each pipe the Manning roughness of equal loss at 0.5 m/s (docs/HAZEN_WILLIAMS.md)"
-        )
     }
 }
 

@@ -30,9 +30,14 @@ pub struct Sim {
 }
 
 impl Model for Sim {
+    ghost use Rattle.std.specs.Coded.{codes};
+    ghost use Rattle.hyd_spec_power_laws.specs.contracts.power_capacities.PowerCapacity as power;
     ghost use Rattle.hyd_sim.specs.RunView.{SimView, IsSim};
 
     ghost Value = { SimView };
+
+    // A loss by powers says of its minor loss that it is near 1 where there is one.
+    ghost coded = { Prim.hlevel (codes, power.the_row.coded) };
 
     ghost view = { λ s. record {
       project = s.project;

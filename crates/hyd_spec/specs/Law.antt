@@ -6,7 +6,9 @@ use Rattle.std.specs.Prelude.{ℕ, ◌*◌, ◌^◌, ℤ, pos, negsuc, neg_ℤ, 
 use Rattle.std.specs.Prelude.{Bool, List}
 use Rattle.hyd_num.specs.Fraction.{Fraction, fraction, over, power}
 use Rattle.hyd_num.specs.FileQuantity.{is_us_unit, billionths, head_ticks, flow_fraction, pressure_fraction}
+use Rattle.hyd_spec_power_laws.specs.HazenWilliamsLosses.{HazenWilliamsAtMost, HazenWilliamsAtLeast}
 use Rattle.hyd_spec.specs.ProgramTypes.{Decimal, FlowUnit, Origin, Pipe, Valve, Pump, Emitter, PressureDemand, Capacity}
+use Rattle.hyd_spec.specs.ProgramTypes.{HazenWilliamsPipe, PowerCapacity}
 use Rattle.hyd_num.specs.Rational.{Rational}
 use Rattle.hyd_net.specs.Curves.{Knot, value_at}
 use Rattle.hyd_spec.specs.Scale.{at_scale, tolerance}
@@ -82,15 +84,24 @@ loss_at_least (Emitter coefficient unit) = SquareLossAtLeast (emitter_resistance
 loss_at_least (PressureDemand demand minimum required us) = SquareLossAtLeast
     (pressure_resistance demand minimum required us)
 
+-- The relation "loses at most" of a pipe with Hazen-Williams losses.
+abbrev pub pipe_loses_at_most : HazenWilliamsPipe → Loss
+pipe_loses_at_most pipe = HazenWilliamsAtMost pipe.us pipe.length pipe.diameter pipe.coefficient pipe.minor
+
+-- The relation "loses at least" of such a pipe.
+abbrev pub pipe_loses_at_least : HazenWilliamsPipe → Loss
+pipe_loses_at_least pipe = HazenWilliamsAtLeast pipe.us pipe.length pipe.diameter pipe.coefficient pipe.minor
+
 -- ---- laws
 
--- The law of a link: closed; a loss of the kind that a capacity's numbers give; the valve without
--- loss coefficient, which loses 10^-6 feet for a cubic foot a second; a law lifted by a pump's head;
+-- The law of a link: closed; a loss of the kind that a capacity's numbers give; a pipe's loss by Hazen-Williams; the
+-- valve without loss coefficient, which loses 10^-6 feet for a cubic foot a second; a law lifted by a pump's head;
 -- a law that passes one way only; a law held at or below a setting (flow ticks); the straight lines between knots, the
 -- flow (flow ticks) by the head difference (head ticks); a law held between a least and a greatest flow (flow ticks).
 pub data Law : Type 0 where
   Shut : Law
   QuadraticLaw : Capacity → Law
+  PowerLaw : PowerCapacity → Law
   LinearLaw : Law
   Lifted : Rational → Law → Law
   ForwardOnly : Law → Law
@@ -113,6 +124,8 @@ abbrev pub flow_at_least : Law → Relation
 flow_at_least Shut S x a = a ≤ℤ pos 0
 flow_at_least (QuadraticLaw capacity) S x a = odd_at_least (loss_at_most capacity.origin)
     (loss_at_least capacity.origin) S x a
+flow_at_least (PowerLaw capacity) S x a = odd_at_least (pipe_loses_at_most capacity.pipe)
+    (pipe_loses_at_least capacity.pipe) S x a
 flow_at_least LinearLaw S x a = (pos (10 ^ 6) *ℤ a) ≤ℤ (pos 8026822656 *ℤ x)
 flow_at_least (Lifted lift law) S x a = lifted lift (flow_at_least law) S x a
 flow_at_least (ForwardOnly law) S x a = (a ≤ℤ pos 0) ⊎ flow_at_least law S x a
@@ -127,6 +140,8 @@ abbrev pub flow_at_most : Law → Relation
 flow_at_most Shut S x a = pos 0 ≤ℤ a
 flow_at_most (QuadraticLaw capacity) S x a = odd_at_most (loss_at_most capacity.origin)
     (loss_at_least capacity.origin) S x a
+flow_at_most (PowerLaw capacity) S x a = odd_at_most (pipe_loses_at_most capacity.pipe)
+    (pipe_loses_at_least capacity.pipe) S x a
 flow_at_most LinearLaw S x a = (pos 8026822656 *ℤ x) ≤ℤ (pos (10 ^ 6) *ℤ a)
 flow_at_most (Lifted lift law) S x a = lifted lift (flow_at_most law) S x a
 flow_at_most (ForwardOnly law) S x a = (pos 0 ≤ℤ a) × flow_at_most law S x a

@@ -5,13 +5,19 @@ use Rattle.std.specs.Prelude.{ℕ, ◌^◌, ℤ, pos, neg_ℤ, Bool, true, false
 use Rattle.std.specs.Option.{option_map_or}
 use Rattle.hyd_net.specs.ListView.{ListView}
 use Rattle.hyd_spec.specs.ProgramTypes.{Project, Tank, Link, HeadPoint, LinkKind, PipeLink, CheckPipe, PumpLink}
-use Rattle.hyd_spec.specs.ProgramTypes.{CurvePump}
+use Rattle.hyd_spec.specs.ProgramTypes.{CurvePump, PipeLoss, Manning, HazenWilliams}
 use Rattle.hyd_spec.specs.ProgramTypes.{Tcv, Fcv, Gpv, OpenValve, Quadratic, Linear, LinkState, Open, Closed, Speed}
 use Rattle.hyd_spec.specs.ProgramTypes.{Throttle}
 use Rattle.hyd_spec.specs.ProgramTypes.{Limit, TankState, Full, Empty, Between}
 use Rattle.hyd_spec.specs.NodeNumbers.{is_tank, tank_number}
 use Rattle.hyd_spec.specs.DemandsHeadsAndPumpLifts.{is_us, lift_of, points_of, pump_knots, valve_knots}
 use Rattle.hyd_spec.specs.Law.{Law, Shut, QuadraticLaw, LinearLaw, Lifted, ForwardOnly, ReverseOnly, Capped, Bent, Held}
+use Rattle.hyd_spec.specs.Law.{PowerLaw}
+
+-- A pipe that is open.
+abbrev pub pipe_law : PipeLoss → Law
+pipe_law (Manning capacity) = QuadraticLaw capacity
+pipe_law (HazenWilliams capacity) = PowerLaw capacity
 
 -- A valve that is fully open.
 abbrev pub valve_law : OpenValve → Law
@@ -29,12 +35,12 @@ greatest_curve_flow = pos (10 ^ 17)
 -- flow-control valve passes at most its setting; an open general purpose valve follows its curve. Curves pass no more
 -- than their greatest flow. A kind and a state that don't go together have the law of a closed link.
 abbrev pub own_law : Bool → List (ListView HeadPoint) → LinkKind → LinkState → Law
-own_law us bends (PipeLink capacity) Open = QuadraticLaw capacity
-own_law us bends (PipeLink capacity) Closed = Shut
-own_law us bends (PipeLink capacity) other = Shut
-own_law us bends (CheckPipe capacity) Open = ForwardOnly (QuadraticLaw capacity)
-own_law us bends (CheckPipe capacity) Closed = Shut
-own_law us bends (CheckPipe capacity) other = Shut
+own_law us bends (PipeLink loss) Open = pipe_law loss
+own_law us bends (PipeLink loss) Closed = Shut
+own_law us bends (PipeLink loss) other = Shut
+own_law us bends (CheckPipe loss) Open = ForwardOnly (pipe_law loss)
+own_law us bends (CheckPipe loss) Closed = Shut
+own_law us bends (CheckPipe loss) other = Shut
 own_law us bends (PumpLink capacity shutoff head pattern) (Speed speed) = ForwardOnly
     (Lifted (lift_of us head speed) (QuadraticLaw capacity))
 own_law us bends (PumpLink capacity shutoff head pattern) Closed = Shut

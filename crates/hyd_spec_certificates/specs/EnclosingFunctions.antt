@@ -7,10 +7,12 @@ use Rattle.std.specs.Prelude.{◌+◌, if◌then◌else◌, Option}
 use Rattle.std.specs.Int.{int_max, int_min}
 use Rattle.std.specs.Option.{option_map_or}
 use Rattle.hyd_num.specs.BinaryNumbers.{numerator, denominator}
+use Rattle.hyd_spec_power_laws.specs.EnclosingFlows.{power_low, power_high}
 use Rattle.hyd_spec.specs.ProgramTypes.{Capacity}
 use Rattle.hyd_num.specs.Rational.{Rational, floor, ceiling}
 use Rattle.hyd_net.specs.Curves.{value_at}
 use Rattle.hyd_spec.specs.Law.{Law, Shut, QuadraticLaw, LinearLaw, Lifted, ForwardOnly, ReverseOnly, Capped, Bent, Held}
+use Rattle.hyd_spec.specs.Law.{PowerLaw}
 
 -- ---- roots
 
@@ -51,6 +53,7 @@ linear_flow d = record { num = pos 8026822656 *ℤ d; den = 10 ^ 6 }
 abbrev pub low : Law → ℤ → ℤ
 low Shut d = pos 0
 low (QuadraticLaw capacity) d = quadratic_low capacity d
+low (PowerLaw capacity) d = power_low capacity d
 low LinearLaw d = floor (linear_flow d)
 low (Lifted lift law) d = low law (d +ℤ floor lift)
 low (ForwardOnly law) d = int_max (pos 0) (low law d)
@@ -63,6 +66,7 @@ low (Held least greatest law) d = int_max least (int_min greatest (low law d))
 abbrev pub high : Law → ℤ → ℤ
 high Shut d = pos 0
 high (QuadraticLaw capacity) d = quadratic_high capacity d
+high (PowerLaw capacity) d = power_high capacity d
 high LinearLaw d = ceiling (linear_flow d)
 high (Lifted lift law) d = high law (d +ℤ ceiling lift)
 high (ForwardOnly law) d = int_max (pos 0) (high law d)

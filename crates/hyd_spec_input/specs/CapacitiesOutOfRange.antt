@@ -6,6 +6,7 @@ use Rattle.hyd_num.specs.declared.decimals.Decimal.{Decimal}
 use Rattle.hyd_num.specs.declared.flow_units.FlowUnit.{FlowUnit}
 use Rattle.hyd_num.specs.declared.link_capacities.Origin.TheVariants.{Pipe, Valve, Pump, Emitter}
 use Rattle.hyd_num.specs.CapacityRange.{IsRefused}
+use Rattle.hyd_spec_power_laws.specs.PowerCapacities.{IsRefused as IsPowerRefused}
 use Rattle.hyd_spec_lines.specs.Lines.{Row}
 use Rattle.hyd_spec_lines.specs.declared.section.Section.{Section}
 use Rattle.hyd_spec_lines.specs.declared.section.Section.TheVariants.{Pipes, Pumps, Valves, Emitters, Status, Controls}
@@ -13,7 +14,7 @@ use Rattle.hyd_spec_lines.specs.declared.section.Section.TheVariants.{Rules}
 use Rattle.hyd_spec_input.specs.Columns.{word, amount}
 use Rattle.hyd_spec_input.specs.NodeAndLinkRows.{pipe_minor, pump_curve, is_throttle, is_general, valve_minor}
 use Rattle.hyd_spec_input.specs.SectionsAndTables.{is_of, link_named, curve_named}
-use Rattle.hyd_spec_input.specs.OptionsAndTimesInForce.{unit}
+use Rattle.hyd_spec_input.specs.OptionsAndTimesInForce.{unit, has_hazen_williams}
 use Rattle.hyd_spec_input.specs.Curves.{Drop, drop_of, is_bent}
 use Rattle.hyd_spec_input.specs.FaultsWithOtherRows.{us, is_status, holds_action}
 
@@ -29,6 +30,23 @@ pub record IsRefusedPipe (length diameter roughness minor : ℤ) (us : Bool) : T
   pub k : Decimal
   pub k_is : k.nano ≡ minor
   pub refused : IsRefused (Pipe l d n k us)
+
+-- with Hazen-Williams losses
+pub record IsRefusedPowerPipe (length diameter coefficient minor : ℤ) (us : Bool) : Type 0 where
+  pub l : Decimal
+  pub l_is : l.nano ≡ length
+  pub d : Decimal
+  pub d_is : d.nano ≡ diameter
+  pub c : Decimal
+  pub c_is : c.nano ≡ coefficient
+  pub k : Decimal
+  pub k_is : k.nano ≡ minor
+  pub refused : IsPowerRefused (record { length = l; diameter = d; coefficient = c; minor = k; us = us })
+
+-- by the formula in force
+abbrev pub IsRefusedPipeBy : Bool → (length diameter roughness minor : ℤ) → Bool → Type 0
+IsRefusedPipeBy true length diameter roughness minor us = IsRefusedPowerPipe length diameter roughness minor us
+IsRefusedPipeBy false length diameter roughness minor us = IsRefusedPipe length diameter roughness minor us
 
 -- a coefficient of 0 makes a linear law, and no capacity
 pub record IsRefusedValve (diameter coefficient : ℤ) (us : Bool) : Type 0 where
@@ -78,7 +96,8 @@ IsRefusedKind rows row =
 -- the capacity of a row of a section, or of the state that it asks for, where it may be the line of an action
 abbrev pub IsRefusedIn : Section → List Row → Bool → Row → Type 0
 IsRefusedIn Pipes rows acting row =
-    IsRefusedPipe (amount 3 row.words) (amount 4 row.words) (amount 5 row.words) (pipe_minor row.words) (us rows)
+    IsRefusedPipeBy (has_hazen_williams rows) (amount 3 row.words) (amount 4 row.words) (amount 5 row.words)
+    (pipe_minor row.words) (us rows)
 IsRefusedIn Pumps rows acting row = IsRefusedCurve rows (pump_curve row.words)
 IsRefusedIn Valves rows acting row = IsRefusedKind rows row
 IsRefusedIn Emitters rows acting row = IsRefusedEmitter (amount 1 row.words) (unit rows)

@@ -3,15 +3,15 @@
 -- Source: EPANET 2.2 User Manual, appendix C; the order of faults is this program's.
 use Rattle.std.specs.Prelude.{◌≡◌, ℕ, ◌^◌, ◌<◌, ◌≤◌, Bool, ◌||◌, nat_le, List, [], ◌∷◌, length, take, Option, Some}
 use Rattle.std.specs.Prelude.{None, slice_get, ◌⊎◌, Result}
-use Rattle.hyd_spec_lines.specs.Lines.{Row, items_of, rows_in, fault_in}
+use Rattle.hyd_spec_lines.specs.Lines.{Row, items_of, rows_in, all_rows_in, fault_in}
 use Rattle.hyd_spec_lines.specs.declared.fault.LexFault.{LexFault}
 use Rattle.hyd_spec_lines.specs.declared.fault.LexCause.{LexCause}
 use Rattle.hyd_spec_lines.specs.declared.fault.LexCause.TheVariants.{LongLine}
 use Rattle.hyd_spec_lines.specs.declared.section.Section.TheVariants.{Reservoirs, Tanks}
 use Rattle.hyd_spec_input.specs.Columns.{first, unless}
-use Rattle.hyd_spec_input.specs.SingleRows.{IsWrongByItself}
+use Rattle.hyd_spec_input.specs.SingleRows.{IsWrongBy, IsWrongByItself}
 use Rattle.hyd_spec_input.specs.SectionsAndTables.{rows_of}
-use Rattle.hyd_spec_input.specs.OptionsAndTimesInForce.{names_head_loss}
+use Rattle.hyd_spec_input.specs.OptionsAndTimesInForce.{names_head_loss, has_hazen_williams}
 use Rattle.hyd_spec_input.specs.FaultsWithOtherRows.{row_fault}
 use Rattle.hyd_spec_input.specs.CapacitiesOutOfRange.{IsRefusedRow}
 use Rattle.hyd_net.specs.declared.refusal_cause.Cause.{Cause}
@@ -72,10 +72,15 @@ IsLater rows line cause =
     IsFirst rows (IsWrongWithOthers rows) line cause
     ⊎ (NoneIs (IsWrongWithOthers rows) × (line ≡ 0) × (lack rows ≡ Some cause))
 
+-- a row is wrong by itself; the formula of head losses is that of the last line of HEADLOSS, which may also stand
+-- behind a line that breaks a rule of lines
+abbrev pub IsWrongAlone : List (Result Row LexFault) → ℕ → Cause → Type 0
+IsWrongAlone items k cause = IsWrongBy (has_hazen_williams (all_rows_in items)) (rows_in items) k cause
+
 abbrev pub IsFaultOf : List (Result Row LexFault) → ℕ → Cause → Type 0
 IsFaultOf items line cause =
-    IsFirst (rows_in items) (IsWrongByItself (rows_in items)) line cause
-    ⊎ (NoneIs (IsWrongByItself (rows_in items))
+    IsFirst (rows_in items) (IsWrongAlone items) line cause
+    ⊎ (NoneIs (IsWrongAlone items)
     × (IsLineFault items line cause ⊎ ((fault_in items ≡ None) × IsLater (rows_in items) line cause)))
 
 -- a text of more than 64 MiB isn't read

@@ -26,7 +26,7 @@ use Rattle.hyd_spec_input.specs.SectionsAndTables.{node_named}
 use Rattle.hyd_spec_input.specs.SectionsAndTables.{link_named, distinct, allows_node, allows_link, pattern_named}
 use Rattle.hyd_spec_input.specs.SectionsAndTables.{curve_named}
 use Rattle.hyd_spec_input.specs.OptionsAndTimesInForce.{unit, depends_on_pressure, minimum_pressure, required_pressure}
-use Rattle.hyd_spec_input.specs.OptionsAndTimesInForce.{pressure_line}
+use Rattle.hyd_spec_input.specs.OptionsAndTimesInForce.{pressure_line, has_hazen_williams}
 use Rattle.hyd_spec_input.specs.Curves.{is_within, is_head, is_flow, is_bent, is_pump_curve, are_flows, has_shutoff}
 use Rattle.hyd_spec_input.specs.Curves.{is_pump_bend, begins_forward, begins_at_0, is_valve_bend, is_volume_curve, head_points}
 use Rattle.hyd_spec_input.specs.Curves.{volume_points}
@@ -158,6 +158,16 @@ ends_faults rows k row =
 
 abbrev pub ends : List Row → ℕ → Row → Option Cause
 ends rows k row = first (ends_faults rows k row)
+
+-- a Hazen-Williams coefficient above 0, up to 10,000
+abbrev pub is_coefficient : ℤ → Bool
+is_coefficient nano = le_z (pos 1) nano && le_z nano (units (10 ^ 4))
+
+abbrev pub coefficient : Bool → ℤ → Option Cause
+coefficient by_power nano = if by_power then unless (is_coefficient nano) Range else None
+
+abbrev pub pipe : List Row → ℕ → Row → Option Cause
+pipe rows k row = or_else (ends rows k row) (coefficient (has_hazen_williams rows) (amount 5 row.words))
 
 -- a pump's curve is of a kind that is supported, and in range
 abbrev pub pump_curve_range : List Row → List ℕ → Option Cause
@@ -405,7 +415,7 @@ abbrev pub section_fault : Section → List Row → ℕ → Row → Option Cause
 section_fault Junctions rows k row = junction rows k row
 section_fault Reservoirs rows k row = reservoir rows k row
 section_fault Tanks rows k row = tank rows k row
-section_fault Pipes rows k row = ends rows k row
+section_fault Pipes rows k row = pipe rows k row
 section_fault Pumps rows k row = pump rows k row
 section_fault Valves rows k row = valve rows k row
 section_fault Demands rows k row = demand rows k row

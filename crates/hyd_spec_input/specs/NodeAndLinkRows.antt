@@ -1,6 +1,6 @@
 -- The rows of nodes and links, each judged by itself, and what their words say.
 -- Source: EPANET 2.2 User Manual, appendix C ([JUNCTIONS] to [VALVES]); the bounds are this program's.
-use Rattle.std.specs.Prelude.{ℕ, ◌^◌, Bool, false, ◌==◌, ◌&&◌, ◌||◌, not, List, [], ◌∷◌, length, codes, drop, Option}
+use Rattle.std.specs.Prelude.{ℕ, ◌^◌, Bool, true, false, ◌==◌, ◌&&◌, ◌||◌, not, List, [], ◌∷◌, length, codes, drop, Option}
 use Rattle.std.specs.Prelude.{Some, None, slice_get, if◌then◌else◌, ℤ, pos}
 use Rattle.std.specs.Str.{bytes_eq}
 use lib.Signed.{le_z}
@@ -86,13 +86,22 @@ has_status_alone words = (length words == 7) && word_is_of 6 pipe_statuses words
 abbrev pub minor_or_status : List (List ℕ) → Column
 minor_or_status words word = if has_status_alone words then None else up_to (10 ^ 6) word
 
--- ID, two nodes, length, diameter, roughness, minor loss coefficient, status
-abbrev pub pipe : List (List ℕ) → Option Cause
-pipe words =
+-- a pipe's roughness: Manning's has a range; the range of a Hazen-Williams coefficient is judged with the other rows
+abbrev pub roughness : Bool → Column
+roughness true = number
+roughness false = above_0_to 10
+
+-- ID, two nodes, length, diameter, roughness, minor loss coefficient, status, where losses are by Hazen-Williams or not
+abbrev pub pipe_by : Bool → List (List ℕ) → Option Cause
+pipe_by by_power words =
     first (link_ends words ∷ needed (above_0_to (10 ^ 6)) 3 words ∷ needed (above_0_to (10 ^ 4)) 4 words
-    ∷ needed (above_0_to 10) 5 words ∷ optional (minor_or_status words) 6 words
+    ∷ needed (roughness by_power) 5 words ∷ optional (minor_or_status words) 6 words
     ∷ optional (one_of pipe_statuses) 7 words
     ∷ ends 8 words ∷ [])
+
+-- a pipe whose roughness is any number
+abbrev pub pipe : List (List ℕ) → Option Cause
+pipe words = pipe_by true words
 
 -- the place of the word that is a pipe's status
 abbrev pub status_place : List (List ℕ) → ℕ

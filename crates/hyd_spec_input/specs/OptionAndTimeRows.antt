@@ -18,13 +18,13 @@ use Rattle.hyd_net.specs.declared.refusal_cause.Cause.TheVariants.{Syntax}
 abbrev pub units_line : List (List ℕ) → Option Cause
 units_line words = first (needed (meant flow_unit) 1 words ∷ ends 2 words ∷ [])
 
--- Chezy-Manning alone
+-- Chezy-Manning and Hazen-Williams; Darcy-Weisbach isn't supported
 abbrev pub loss_formulas : List (List ℕ)
 loss_formulas = codes "C-M" ∷ codes "H-W" ∷ codes "D-W" ∷ []
 
 abbrev pub head_loss_line : List (List ℕ) → Option Cause
 head_loss_line words =
-    first (needed (supported loss_formulas (codes "H-W" ∷ codes "D-W" ∷ []) 1) 1 words ∷ ends 2 words ∷ [])
+    first (needed (supported loss_formulas (codes "D-W" ∷ []) 1) 1 words ∷ ends 2 words ∷ [])
 
 abbrev pub pattern_line : List (List ℕ) → Option Cause
 pattern_line words = first (needed id 1 words ∷ ends 2 words ∷ [])

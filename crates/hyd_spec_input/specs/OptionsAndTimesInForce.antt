@@ -54,6 +54,10 @@ unit rows = say Gpm (λ row. unwrap_or (flow_unit (word 1 row.words)) Gpm) (opti
 abbrev pub names_head_loss : List Row → Bool
 names_head_loss rows = say false (λ row. true) (option_row (codes "HEADLOSS") rows)
 
+-- losses are by Hazen-Williams
+abbrev pub has_hazen_williams : List Row → Bool
+has_hazen_williams rows = say false (λ row. word_is 1 (codes "H-W") row.words) (option_row (codes "HEADLOSS") rows)
+
 abbrev pub depends_on_pressure : List Row → Bool
 depends_on_pressure rows = say false (λ row. word_is 2 (codes "PDA") row.words)
     (option_row_of (codes "DEMAND") (codes "MODEL") rows)

@@ -7,6 +7,8 @@ use Rattle.std.specs.Ordering.{int_eq}
 use Rattle.hyd_num.specs.Numeral.{nano_of}
 use Rattle.hyd_num.specs.FileQuantity.{head_ticks, flow_ticks}
 use Rattle.hyd_num.specs.CapacityPairs.{IsMade}
+use Rattle.hyd_spec_power_laws.specs.PowerCapacities.{IsMade as IsPowerMade}
+use Rattle.hyd_spec_power_laws.specs.declared.power_capacities.PowerCapacity.{PowerCapacity}
 use Rattle.hyd_num.specs.declared.decimals.Decimal.{Decimal}
 use Rattle.hyd_num.specs.declared.flow_units.FlowUnit.{FlowUnit}
 use Rattle.hyd_num.specs.declared.link_capacities.Capacity.{Capacity}
@@ -50,6 +52,8 @@ use Rattle.hyd_net.specs.declared.nodes.Junction.{Junction}
 use Rattle.hyd_net.specs.declared.nodes.Reservoir.{Reservoir}
 use Rattle.hyd_net.specs.declared.nodes.Tank.{Tank}
 use Rattle.hyd_net.specs.declared.links.Link.{Link}
+use Rattle.hyd_net.specs.declared.links.PipeLoss.{PipeLoss}
+use Rattle.hyd_net.specs.declared.links.PipeLoss.TheVariants.{Manning, HazenWilliams}
 use Rattle.hyd_net.specs.declared.links.LinkKind.{LinkKind}
 use Rattle.hyd_net.specs.declared.links.LinkKind.TheVariants.{Pipe, CheckPipe, Pump, CurvePump, Tcv, Fcv, Gpv}
 use Rattle.hyd_net.specs.declared.links.LinkState.{LinkState}
@@ -165,13 +169,27 @@ pub record IsPipeOf (us : Bool) (length diameter roughness minor : ℤ) (cap : C
   pub k_is : k.nano ≡ minor
   pub origin : cap.origin ≡ PipeOrigin l d n k us
 
-abbrev pub IsPipeRow : List Row → Row → Capacity → Type 0
-IsPipeRow rows row cap =
-    IsPipeOf (us rows) (amount 3 row.words) (amount 4 row.words) (amount 5 row.words) (pipe_minor row.words) cap
+-- the capacity by powers of a pipe of these numbers
+pub record IsPowerPipeOf (us : Bool) (length diameter coefficient minor : ℤ) (cap : PowerCapacity) : Type 0 where
+  pub made : IsPowerMade cap
+  pub length_is : cap.pipe.length.nano ≡ length
+  pub diameter_is : cap.pipe.diameter.nano ≡ diameter
+  pub coefficient_is : cap.pipe.coefficient.nano ≡ coefficient
+  pub minor_is : cap.pipe.minor.nano ≡ minor
+  pub us_is : cap.pipe.us ≡ us
+
+-- the loss of a pipe, by the formula in force
+abbrev pub IsPipeRow : List Row → Row → PipeLoss → Type 0
+IsPipeRow rows row (Manning cap) =
+    (force.has_hazen_williams rows ≡ false)
+    × IsPipeOf (us rows) (amount 3 row.words) (amount 4 row.words) (amount 5 row.words) (pipe_minor row.words) cap
+IsPipeRow rows row (HazenWilliams cap) =
+    (force.has_hazen_williams rows ≡ true)
+    × IsPowerPipeOf (us rows) (amount 3 row.words) (amount 4 row.words) (amount 5 row.words) (pipe_minor row.words) cap
 
 abbrev pub IsPipeKind : List Row → Row → LinkKind → Type 0
-IsPipeKind rows row (Pipe cap) = (has_check_valve row.words ≡ false) × IsPipeRow rows row cap
-IsPipeKind rows row (CheckPipe cap) = (has_check_valve row.words ≡ true) × IsPipeRow rows row cap
+IsPipeKind rows row (Pipe loss) = (has_check_valve row.words ≡ false) × IsPipeRow rows row loss
+IsPipeKind rows row (CheckPipe loss) = (has_check_valve row.words ≡ true) × IsPipeRow rows row loss
 IsPipeKind rows row _ = ⊥
 
 -- ---- pumps

@@ -1,5 +1,5 @@
--- The rows of a file: for each line of a section that is read and that has a word, its number, section and words, up
--- to the first line that breaks a rule of lines.
+-- The rows of a file: for each line of a section that is read and that has a word, its number, section and words; and
+-- the lines that break a rule of lines, the first of which ends what is read.
 -- Source: EPANET 2.2 User Manual, appendix C; that a line has at most 1,024 bytes is this program's.
 use Rattle.std.specs.Prelude.{ℕ, Bool, true, false, ◌≡◌, ◌⊎◌, ◌+◌, ◌-◌, ◌==◌, filter, take, slice_get, nat_le, List, []}
 use Rattle.std.specs.Prelude.{◌∷◌, ◌++◌, length, Option, Some, None, Result, Ok, Err, if◌then◌else◌, slice_index}
@@ -98,10 +98,12 @@ given_under region number [] = []
 given_under region number (line ∷ lines) =
     given (kind_of region line) number line ++ given_under region (number + 1) lines
 
--- A section: its heading, of this number, and the lines behind it up to the next heading.
+-- A section: its heading, of this number, and the lines behind it up to the next heading, which are passed over where
+-- the heading is wrong.
 abbrev pub section_of : Kind → ℕ → List ℕ → List (List ℕ) → List (Result Row LexFault)
 section_of Nothing number line lines = []
-section_of (Wrong cause) number line lines = given (Wrong cause) number line
+section_of (Wrong cause) number line lines =
+    given (Wrong cause) number line ++ given_under PassedOver (number + 1) (before_first is_heading lines)
 section_of (RowOf section) number line lines = []
 section_of (Opens region) number line lines = given_under region (number + 1) (before_first is_heading lines)
 
@@ -117,25 +119,25 @@ sections_of number (line ∷ lines) =
 abbrev pub lines_before_end : List ℕ → List (List ℕ)
 lines_before_end text = before_first is_end (text_lines text)
 
--- up to the first fault, and that fault
-abbrev pub through_fault : List (Result Row LexFault) → List (Result Row LexFault)
-through_fault [] = []
-through_fault (Ok row ∷ items) = Ok row ∷ through_fault items
-through_fault (Err fault ∷ items) = Err fault ∷ []
-
 -- what these lines give: those before the first heading, then the sections
 abbrev pub given_by : List (List ℕ) → List (Result Row LexFault)
 given_by lines = given_under BeforeHeadings 1 (before_first is_heading lines) ++ sections_of 1 lines
 
--- the rows of a text, and the first line that breaks a rule of lines, which ends them
+-- the rows of a text, and the lines that break a rule of lines, in order
 unfoldable pub items_of : List ℕ → List (Result Row LexFault)
-items_of text = through_fault (given_by (lines_before_end text))
+items_of text = given_by (lines_before_end text)
 
 -- the rows of a text up to its first fault
 abbrev pub rows_in : List (Result Row LexFault) → List Row
 rows_in [] = []
 rows_in (Ok row ∷ items) = row ∷ rows_in items
 rows_in (Err fault ∷ items) = []
+
+-- all rows of a text, also those behind a fault
+abbrev pub all_rows_in : List (Result Row LexFault) → List Row
+all_rows_in [] = []
+all_rows_in (Ok row ∷ items) = row ∷ all_rows_in items
+all_rows_in (Err fault ∷ items) = all_rows_in items
 
 -- the fault of a text's lines
 abbrev pub fault_in : List (Result Row LexFault) → Option LexFault

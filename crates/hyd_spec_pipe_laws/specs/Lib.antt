@@ -1,3 +1,2 @@
-pub mod PipeLaws
 pub mod SharpEnds
 pub mod FlowsAtScale

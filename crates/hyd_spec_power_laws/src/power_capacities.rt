@@ -11,7 +11,7 @@ use hyd_num::{Decimal, Pair, Scaled};
 
 /// The numbers of a file from which a pipe's losses are reckoned. `us` says that the length is in feet and the diameter
 /// in inches, against metres and millimetres.
-#[derive(Clone, Copy, Drop)]
+#[derive(Debug, Clone, Copy, Drop)]
 pub struct HazenWilliamsPipe {
     pub length: Decimal,
     pub diameter: Decimal,
@@ -25,7 +25,7 @@ pub struct HazenWilliamsPipe {
 /// In ticks, the power 1852 of a flow is between `low` and `high` times the power 1000 of the head that its friction
 /// loses; both leave room for roundings. A squared flow loses between the two ends of `minor` to fittings, and nothing
 /// where it is none. All exponents lie far within 32 bits.
-#[derive(Clone, Copy, Drop)]
+#[derive(Debug, Clone, Copy, Drop)]
 pub struct PowerCapacity {
     pub low: Scaled,
     pub high: Scaled,

@@ -8,9 +8,11 @@ use Rattle.std.specs.Int.{int_max, int_min}
 use Rattle.hyd_num.specs.BinaryNumbers.{numerator, denominator}
 use Rattle.hyd_num.specs.Rational.{floor, ceiling}
 use Rattle.hyd_net.specs.Curves.{value_at}
+use Rattle.hyd_spec_pipe_laws.specs.FlowsAtScale.{power_low_at, power_high_at, IsPowerInRange}
 use Rattle.hyd_spec.specs.ProgramTypes.{Capacity}
 use Rattle.hyd_spec.specs.Scale.{at_scale}
 use Rattle.hyd_spec.specs.Law.{Law, Shut, QuadraticLaw, LinearLaw, Lifted, ForwardOnly, ReverseOnly, Capped, Bent, Held}
+use Rattle.hyd_spec.specs.Law.{PowerLaw}
 use Rattle.hyd_spec_certificates.specs.EnclosingFunctions.{root_down, root_up, linear_flow}
 
 -- ---- quadratic laws
@@ -33,6 +35,7 @@ quadratic_high_at S capacity (negsuc d) =
 abbrev pub low_at : ℕ → Law → ℤ → ℤ
 low_at S Shut d = pos 0
 low_at S (QuadraticLaw capacity) d = quadratic_low_at S capacity d
+low_at S (PowerLaw capacity) d = power_low_at S capacity d
 low_at S LinearLaw d = floor (linear_flow d)
 low_at S (Lifted lift law) d = low_at S law (d +ℤ at_scale S (floor lift))
 low_at S (ForwardOnly law) d = int_max (pos 0) (low_at S law d)
@@ -45,6 +48,7 @@ low_at S (Held least greatest law) d = int_max (at_scale S least) (int_min (at_s
 abbrev pub high_at : ℕ → Law → ℤ → ℤ
 high_at S Shut d = pos 0
 high_at S (QuadraticLaw capacity) d = quadratic_high_at S capacity d
+high_at S (PowerLaw capacity) d = power_high_at S capacity d
 high_at S LinearLaw d = ceiling (linear_flow d)
 high_at S (Lifted lift law) d = high_at S law (d +ℤ at_scale S (ceiling lift))
 high_at S (ForwardOnly law) d = int_max (pos 0) (high_at S law d)
@@ -71,6 +75,7 @@ IsCapacityInRange S capacity = S * numerator capacity.hi < 2 ^ 66 * denominator 
 abbrev pub AreItsPartsInRange : ℕ → Law → ℤ → Type 0
 AreItsPartsInRange S Shut d = ⊤
 AreItsPartsInRange S (QuadraticLaw capacity) d = IsCapacityInRange S capacity
+AreItsPartsInRange S (PowerLaw capacity) d = IsPowerInRange S capacity
 AreItsPartsInRange S LinearLaw d = ⊤
 AreItsPartsInRange S (Lifted lift law) d =
     IsDifference (d +ℤ at_scale S (floor lift))

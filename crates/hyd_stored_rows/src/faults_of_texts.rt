@@ -5,7 +5,7 @@ use crate::words::{bytes_of, put_cause};
 use hyd_inp::find_fault;
 use hyd_lex::Lines;
 use hyd_net::Cause;
-use hyd_network_rows::first_by_itself;
+use hyd_network_rows::{first_by_itself, has_hazen_williams};
 use hyd_rows_and_tables::{Found, gather, kept, least};
 use std::alloc::{AllocError, Global};
 use std::fmt::Write;
@@ -118,7 +118,9 @@ pub(crate) fn put_first_row(
         return out.push_str("out of memory");
     };
     let lines = Lines::new(&text);
-    match first_by_itself(&lines, gathered.lines.as_slice()) {
+    let rows = gathered.lines.as_slice();
+    let by_power = has_hazen_williams(&lines, rows);
+    match first_by_itself(&lines, rows, by_power) {
         Some(found) => {
             write!(out, "{} ", found.line)?;
             put_cause(out, found.cause)

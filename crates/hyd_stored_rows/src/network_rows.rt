@@ -9,8 +9,8 @@ use hyd_net::Cause;
 use hyd_network_rows::{
     CurveRow, DemandRow, EmitterRow, JunctionRow, LinkEnds, PatternRow, PipeRow, PipeStatus,
     PumpRow, ReservoirRow, StatusRow, TankRow, ValveRow, ValveSetting, read_curve, read_demand,
-    read_emitter, read_junction, read_pattern, read_pipe, read_pump, read_reservoir, read_status,
-    read_tank, read_valve,
+    read_emitter, read_junction, read_pattern, read_pipe_by, read_pump, read_reservoir,
+    read_status, read_tank, read_valve,
 };
 use std::alloc::AllocError;
 use std::fmt::Write;
@@ -44,7 +44,7 @@ pub(crate) fn put_network_row(
         Section::Junctions => put_read(&read_junction(lines, line), out),
         Section::Reservoirs => put_read(&read_reservoir(lines, line), out),
         Section::Tanks => put_read(&read_tank(lines, line), out),
-        Section::Pipes => put_read(&read_pipe(lines, line), out),
+        Section::Pipes => put_read(&read_pipe_by(lines, line, false), out),
         Section::Pumps => put_read(&read_pump(lines, line), out),
         Section::Valves => put_read(&read_valve(lines, line), out),
         _ => put_other_row(lines, line, out),

@@ -73,7 +73,12 @@ impl Shown for OptionSet {
     fn put(&self, out: &mut String) -> Result<(), AllocError> {
         match self {
             OptionSet::Unit(unit) => write!(out, "unit {}", unit_word(*unit)),
-            OptionSet::ChezyManning => out.push_str("chezy manning"),
+            OptionSet::Formula {
+                is_hazen_williams: false,
+            } => out.push_str("chezy manning"),
+            OptionSet::Formula {
+                is_hazen_williams: true,
+            } => out.push_str("hazen williams"),
             OptionSet::Pattern(word) => write!(out, "pattern {word}"),
             OptionSet::Multiplier(number) => write!(out, "multiplier {}", number.nano),
             OptionSet::Pda(pda) => write!(out, "pda {pda}"),

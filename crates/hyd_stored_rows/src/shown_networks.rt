@@ -4,7 +4,7 @@ use crate::option_and_rule_lines::relation_word;
 use crate::words::{put_bytes, put_ends, unit_word};
 use hyd_net::{
     Action, Control, HeadPoint, Joined, Junction, Link, LinkKind, LinkState, OpenValve, Options,
-    Project, Rule, RuleClause, Tank, Times, Value, VolumePoint, What, When,
+    PipeLoss, Project, Rule, RuleClause, Tank, Times, Value, VolumePoint, What, When,
 };
 use hyd_num::Capacity;
 use std::alloc::AllocError;
@@ -144,15 +144,22 @@ fn put_state(out: &mut String, state: &LinkState) -> Result<(), AllocError> {
     }
 }
 
+fn put_loss(out: &mut String, loss: &PipeLoss) -> Result<(), AllocError> {
+    match loss {
+        PipeLoss::Manning(capacity) => put_capacity(out, capacity),
+        PipeLoss::HazenWilliams(_) => out.push_str("by Hazen-Williams"),
+    }
+}
+
 fn put_kind(out: &mut String, kind: &LinkKind) -> Result<(), AllocError> {
     match kind {
-        LinkKind::Pipe(capacity) => {
+        LinkKind::Pipe(loss) => {
             out.push_str("pipe ")?;
-            put_capacity(out, capacity)
+            put_loss(out, loss)
         }
-        LinkKind::CheckPipe(capacity) => {
+        LinkKind::CheckPipe(loss) => {
             out.push_str("check pipe ")?;
-            put_capacity(out, capacity)
+            put_loss(out, loss)
         }
         LinkKind::Tcv { valve } => {
             out.push_str("throttle valve ")?;

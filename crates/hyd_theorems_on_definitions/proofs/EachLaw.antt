@@ -17,12 +17,14 @@ use Rattle.hyd_lemmas.proofs.PumpEmitterAndDemandPairs.{ratio-above}
 use Rattle.hyd_spec.specs.ProgramTypes.{Capacity, Origin, Pipe, Valve, Pump, Emitter, PressureDemand}
 use Rattle.hyd_spec_certificates.specs.EnclosingFunctions.{quadratic_low, quadratic_high, low, high}
 use Rattle.hyd_spec.specs.Law.{Law, Shut, QuadraticLaw, LinearLaw, Lifted, ForwardOnly, ReverseOnly, Capped, Bent, Held}
+use Rattle.hyd_spec.specs.Law.{PowerLaw}
 use Rattle.hyd_spec.specs.Law.{odd_at_least, odd_at_most, flow_at_least, flow_at_most, loss_at_most, loss_at_least}
 use Rattle.hyd_theorems_on_definitions.specs.SoundLawsAndGrids.{IsLaw, IsSoundCapacity, IsSoundLaw, AreInOrder}
 use Rattle.hyd_theorems_on_definitions.specs.SoundLawsAndGrids.{HasPositiveNumbers}
 use Rattle.hyd_lemmas.proofs.Integers.{exchanged, floor_low, ceiling_high, floor_greatest, ceiling_least}
 use Rattle.hyd_lemmas.proofs.Integers.{floor_at_most_ceiling}
 use Rattle.hyd_theorems_on_definitions.proofs.LossLaws.{IsLossLaw-origin}
+use Rattle.hyd_theorems_on_definitions.proofs.PipeLaws.{IsLaw-power}
 use Rattle.hyd_theorems_on_definitions.proofs.ValuesAtTwoScales.{Leads, raised, lowered, above-too, below-too}
 use Rattle.hyd_theorems_on_definitions.proofs.RisingLines.{value-den, value-rises}
 use Rattle.hyd_theorems_on_definitions.proofs.LinkLaws.{IsLaw-shut, IsLaw-forward, IsLaw-reverse, IsLaw-capped}
@@ -154,6 +156,7 @@ IsLaw-bent knots order = record {
 pub IsLaw-each : (law : Law) → IsSoundLaw law → IsLaw (flow_at_least law) (flow_at_most law) (low law) (high law)
 IsLaw-each Shut sound = IsLaw-shut
 IsLaw-each (QuadraticLaw capacity) sound = IsLaw-quad capacity sound
+IsLaw-each (PowerLaw capacity) sound = IsLaw-power capacity sound
 IsLaw-each LinearLaw sound = IsLaw-straight
 IsLaw-each (Lifted lift law) sound = IsLaw-lifted lift (flow_at_least law) (flow_at_most law) (low law) (high law)
     sound.0 (IsLaw-each law sound.1)

@@ -12,9 +12,9 @@ use Rattle.hyd_num.specs.declared.flow_units.FlowUnit.{FlowUnit}
 use Rattle.hyd_net.specs.ListView.{ListView}
 use Rattle.hyd_net.specs.Curves.{Knot, IsPumpCurve, IsLossCurve}
 use Rattle.hyd_net.specs.NetworkRanges.{HasSizes, HasBend}
-use Rattle.hyd_net.specs.RoundedFileNumbers.{IsKindMade, IsStateMade, IsValveMade}
+use Rattle.hyd_net.specs.RoundedFileNumbers.{IsKindMade, IsStateMade, IsValveMade, IsLossMade}
 use Rattle.hyd_spec.specs.ProgramTypes.{Project, Junction, Capacity, Link, LinkKind, PipeLink, CheckPipe, PumpLink}
-use Rattle.hyd_spec.specs.ProgramTypes.{CurvePump}
+use Rattle.hyd_spec.specs.ProgramTypes.{CurvePump, PipeLoss, Manning, HazenWilliams}
 use Rattle.hyd_spec.specs.ProgramTypes.{Tcv, Fcv, Gpv, OpenValve, Quadratic, Linear, LinkState, Open, Closed, Speed}
 use Rattle.hyd_spec.specs.ProgramTypes.{Throttle}
 use Rattle.hyd_spec.specs.ProgramTypes.{Limit, ShutoffHead, FourThirds, Given, HeadPoint, Pattern}
@@ -22,12 +22,16 @@ use Rattle.hyd_spec.specs.declared.TankState.{TankState}
 use Rattle.hyd_spec_certificates.specs.Interval.{Interval}
 use Rattle.hyd_spec.specs.DemandsHeadsAndPumpLifts.{is_us, shutoff_head, points_of, pump_knots, valve_knots}
 use Rattle.hyd_spec.specs.Law.{Law, ForwardOnly, ReverseOnly}
-use Rattle.hyd_spec.specs.LinkLaw.{own_law, valve_law, forbids_forward, forbids_reverse}
+use Rattle.hyd_spec.specs.LinkLaw.{own_law, pipe_law, valve_law, forbids_forward, forbids_reverse}
 use Rattle.hyd_spec_certificates.specs.PeriodNetwork.{Grid, GridLink, GridJunction, IsGrid, IsJunctionOf, grid_links}
 use Rattle.hyd_theorems_on_definitions.specs.SoundLawsAndGrids.{IsSoundGrid, IsSoundLaw, IsSoundCapacity, AreInOrder}
 use Rattle.hyd_theorems_on_definitions.specs.SoundLawsAndGrids.{AreCapacitiesMade}
 use Rattle.hyd_theorems_on_definitions.proofs.EachLaw.{IsSoundCapacity-made}
 use Rattle.hyd_theorems_on_definitions.proofs.CurveKnots.{pump_knots-in_order, valve_knots-in_order}
+
+pub pipe-sound : (loss : PipeLoss) → IsLossMade loss → IsSoundLaw (pipe_law loss)
+pipe-sound (Manning capacity) made = IsSoundCapacity-made capacity made
+pipe-sound (HazenWilliams capacity) made = made
 
 pub valve-sound : (valve : OpenValve) → IsValveMade valve → IsSoundLaw (valve_law valve)
 valve-sound (Quadratic capacity) made = IsSoundCapacity-made capacity made
@@ -55,16 +59,16 @@ pub own-sound : (us : Bool) (unit : FlowUnit) (patterns : List Pattern) (bends :
     (kind : LinkKind) (state : LinkState)
     → IsKindMade unit kind → HasSizes unit patterns bends kind → IsStateMade unit state
     → IsSoundLaw (own_law us bends kind state)
-own-sound us unit patterns bends (PipeLink capacity) Open kind sizes state = IsSoundCapacity-made capacity kind
-own-sound us unit patterns bends (PipeLink capacity) Closed kind sizes state = tt
-own-sound us unit patterns bends (PipeLink capacity) (Speed speed) kind sizes state = tt
-own-sound us unit patterns bends (PipeLink capacity) (Throttle nano law) kind sizes state = tt
-own-sound us unit patterns bends (PipeLink capacity) (Limit nano ticks) kind sizes state = tt
-own-sound us unit patterns bends (CheckPipe capacity) Open kind sizes state = IsSoundCapacity-made capacity kind
-own-sound us unit patterns bends (CheckPipe capacity) Closed kind sizes state = tt
-own-sound us unit patterns bends (CheckPipe capacity) (Speed speed) kind sizes state = tt
-own-sound us unit patterns bends (CheckPipe capacity) (Throttle nano law) kind sizes state = tt
-own-sound us unit patterns bends (CheckPipe capacity) (Limit nano ticks) kind sizes state = tt
+own-sound us unit patterns bends (PipeLink loss) Open kind sizes state = pipe-sound loss kind
+own-sound us unit patterns bends (PipeLink loss) Closed kind sizes state = tt
+own-sound us unit patterns bends (PipeLink loss) (Speed speed) kind sizes state = tt
+own-sound us unit patterns bends (PipeLink loss) (Throttle nano law) kind sizes state = tt
+own-sound us unit patterns bends (PipeLink loss) (Limit nano ticks) kind sizes state = tt
+own-sound us unit patterns bends (CheckPipe loss) Open kind sizes state = pipe-sound loss kind
+own-sound us unit patterns bends (CheckPipe loss) Closed kind sizes state = tt
+own-sound us unit patterns bends (CheckPipe loss) (Speed speed) kind sizes state = tt
+own-sound us unit patterns bends (CheckPipe loss) (Throttle nano law) kind sizes state = tt
+own-sound us unit patterns bends (CheckPipe loss) (Limit nano ticks) kind sizes state = tt
 own-sound us unit patterns bends (PumpLink capacity shutoff head pattern) Open kind sizes state = tt
 own-sound us unit patterns bends (PumpLink capacity shutoff head pattern) Closed kind sizes state = tt
 own-sound us unit patterns bends (PumpLink capacity shutoff head pattern) (Speed speed) kind sizes state =

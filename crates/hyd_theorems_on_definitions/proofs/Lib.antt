@@ -4,6 +4,8 @@ pub mod StatusWords
 pub mod OneWayHeldLaws
 pub mod LossLaws
 pub mod LinkLaws
+pub mod SignedLaws
+pub mod PipeLaws
 pub mod EachLaw
 pub mod HeadsOfAllNodes
 pub mod FlowsAtOneNode

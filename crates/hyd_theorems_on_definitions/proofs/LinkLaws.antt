@@ -268,12 +268,12 @@ pub at_least_for : (B : Loss) (S n m : ℕ) (z : ℤ) → ((y : ℕ) → y ≤ m
 at_least_for B S n m (pos y) each le = each y (omega (arith, ints))
 at_least_for B S n m (negsuc y) each le = tt
 
-at_least_back : (A B : Loss) (S n : ℕ) (x : ℤ) → 0 < n → loses_at_least B S n (neg_ℤ x)
+pub at_least_back : (A B : Loss) (S n : ℕ) (x : ℤ) → 0 < n → loses_at_least B S n (neg_ℤ x)
     → odd_at_least A B S x (neg_ℤ (pos n))
 at_least_back A B S zero x above h = absurd (omega arith)
 at_least_back A B S (suc n) x above h = h
 
-at_most_back : (A B : Loss) (S n : ℕ) (x : ℤ) → x <ℤ pos 0 → loses_at_most A S n (neg_ℤ x)
+pub at_most_back : (A B : Loss) (S n : ℕ) (x : ℤ) → x <ℤ pos 0 → loses_at_most A S n (neg_ℤ x)
     → odd_at_most A B S x (neg_ℤ (pos n))
 at_most_back A B S zero (pos y) below h = absurd (omega (arith, ints))
 at_most_back A B S zero (negsuc y) below h = tt

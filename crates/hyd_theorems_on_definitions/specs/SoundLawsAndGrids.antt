@@ -6,18 +6,19 @@ use Rattle.std.specs.List.{AllByRecursion}
 use Rattle.std.specs.Option.{IfSome}
 use Rattle.hyd_num.specs.FileQuantity.{billionths}
 use Rattle.hyd_num.specs.CapacityPairs.{IsMade}
+use Rattle.hyd_spec_power_laws.specs.PowerCapacities.{IsMade as IsPowerMade}
 use Rattle.hyd_net.specs.Curves.{Knot}
 use Rattle.hyd_net.specs.NetworkRanges.{HasSizes}
 use Rattle.hyd_net.specs.RoundedFileNumbers.{IsKindMade, IsStateMade}
 use Rattle.hyd_spec.specs.ProgramTypes.{Project, LinkState, Origin, Pipe, Valve, Pump, Emitter, PressureDemand}
-use Rattle.hyd_spec.specs.ProgramTypes.{Capacity}
+use Rattle.hyd_spec.specs.ProgramTypes.{Capacity, HazenWilliamsPipe}
 use Rattle.hyd_spec_certificates.specs.Interval.{Interval}
 use Rattle.hyd_spec_certificates.specs.PeriodNetwork.{Grid}
 use Rattle.hyd_spec.specs.Scale.{at_scale}
 use Rattle.hyd_spec_certificates.specs.EnclosingFunctions.{DemandLaw, Fixed, Driven}
 use Rattle.hyd_spec.specs.CapacityEnclosure.{IsEnclosure}
 use Rattle.hyd_spec.specs.Law.{Relation, Loss, Law, Shut, QuadraticLaw, LinearLaw, Lifted, ForwardOnly, ReverseOnly}
-use Rattle.hyd_spec.specs.Law.{Capped, Bent, Held}
+use Rattle.hyd_spec.specs.Law.{PowerLaw, Capped, Bent, Held}
 
 -- A loss: a lesser flow loses no more, a greater one no less; a flow that loses at most some head is at most one that
 -- loses at least that head; and each flow loses at least 0.
@@ -35,6 +36,10 @@ HasPositiveNumbers (Valve diameter k us) = (0 < billionths diameter) × (0 < bil
 HasPositiveNumbers (Pump flow drop thirds unit) = 0 < unsigned_abs drop.nano
 HasPositiveNumbers (Emitter coefficient unit) = ⊤
 HasPositiveNumbers (PressureDemand demand minimum required us) = 0 < unsigned_abs (required.nano -ℤ minimum.nano)
+
+-- The numbers of a pipe with Hazen-Williams losses that have to be above 0 for that.
+abbrev pub HasPositivePipe : HazenWilliamsPipe → Type 0
+HasPositivePipe pipe = (0 < billionths pipe.length) × (0 < billionths pipe.diameter)
 
 -- A capacity that encloses the loss of such numbers.
 pub record IsSoundCapacity (capacity : Capacity) : Type 0 where
@@ -59,11 +64,12 @@ pub record IsLaw (at_least at_most : Relation) (low high : ℤ → ℤ) : Type 0
 abbrev pub AreInOrder : List Knot → Type 0
 AreInOrder knots = AllPairs (λ (a b : Knot). (a.place ≤ℤ b.place) × (a.value ≤ℤ b.value)) knots
 
--- Each capacity in a law is sound, each lift has a denominator above 0, the knots of straight lines are in order, and a
--- least flow is at most the greatest one.
+-- Each capacity in a law is sound, or made of its pipe's numbers where it is one by powers, each lift has a denominator
+-- above 0, the knots of straight lines are in order, and a least flow is at most the greatest one.
 abbrev pub IsSoundLaw : Law → Type 0
 IsSoundLaw Shut = ⊤
 IsSoundLaw (QuadraticLaw capacity) = IsSoundCapacity capacity
+IsSoundLaw (PowerLaw capacity) = IsPowerMade capacity
 IsSoundLaw LinearLaw = ⊤
 IsSoundLaw (Lifted lift law) = (0 < lift.den) × IsSoundLaw law
 IsSoundLaw (ForwardOnly law) = IsSoundLaw law

@@ -8,14 +8,15 @@ ghost use Rattle.hyd_net.specs.ListView.{ListView};
 ghost use Rattle.hyd_net.specs.NetworkRanges.{HasSizes};
 ghost use Rattle.hyd_net.specs.RoundedFileNumbers.{IsKindMade};
 ghost use Rattle.hyd_spec.specs.ProgramTypes.{Origin, Capacity, Pattern, HeadPoint, LinkKind, LinkState};
+ghost use Rattle.hyd_spec.specs.ProgramTypes.{HazenWilliamsPipe};
 ghost use Rattle.hyd_spec_certificates.specs.Interval.{Interval};
 ghost use Rattle.hyd_spec_certificates.specs.StatusesOfLinks.{status_of, StatusHolds};
 ghost use Rattle.hyd_spec.specs.Law.{Law, ForwardOnly, ReverseOnly, Held, loss_at_most, loss_at_least, flow_at_least};
-ghost use Rattle.hyd_spec.specs.Law.{flow_at_most};
+ghost use Rattle.hyd_spec.specs.Law.{flow_at_most, pipe_loses_at_most, pipe_loses_at_least};
 ghost use Rattle.hyd_spec_certificates.specs.EnclosingFunctions.{low, high, root_down, root_up, DemandLaw, demand_low};
 ghost use Rattle.hyd_spec_certificates.specs.EnclosingFunctions.{demand_high, emitter_low, emitter_high};
 ghost use Rattle.hyd_theorems_on_definitions.specs.SoundLawsAndGrids.{IsLossLaw, HasPositiveNumbers, IsLaw, IsSoundLaw};
-ghost use Rattle.hyd_theorems_on_definitions.specs.SoundLawsAndGrids.{AreRising};
+ghost use Rattle.hyd_theorems_on_definitions.specs.SoundLawsAndGrids.{AreRising, HasPositivePipe};
 ghost use Rattle.hyd_theorems_on_definitions.specs.SoundLawsAndGrids.{IsSoundDemand};
 ghost use Rattle.hyd_theorems_on_definitions.specs.LyingInIntervals.{LiesIn};
 
@@ -24,6 +25,8 @@ ghost use Rattle.hyd_theorems_on_definitions.specs.LyingInIntervals.{LiesIn};
 pub fn losses()
     ensures each { (origin : Origin) → HasPositiveNumbers origin
         → IsLossLaw (loss_at_most origin) (loss_at_least origin) }
+    ensures pipes { (pipe : HazenWilliamsPipe) → HasPositivePipe pipe
+        → IsLossLaw (pipe_loses_at_most pipe) (pipe_loses_at_least pipe) }
 {}
 
 /// Each sound law of a link is a law, and its enclosing functions enclose it.

@@ -9,7 +9,8 @@ use Rattle.hyd_net.specs.declared.refusal_cause.Cause.{Cause}
 use Rattle.hyd_net.specs.declared.refusal_cause.Cause.TheVariants.{Limit}
 use Rattle.hyd_spec_input.specs.SingleRows.{IsWrongByItself}
 use Rattle.hyd_spec_input.specs.Faults.{IsWrongWithOthers, NoneIs, IsFirst, line_cause, lack, IsFaultOf, IsFault}
-use Rattle.hyd_spec_input.specs.Faults.{HasNoFault}
+use Rattle.hyd_spec_input.specs.Faults.{HasNoFault, IsWrongAlone}
+use Rattle.hyd_theorems_on_input.proofs.FormulaInForce.{none_by_itself}
 
 -- a row that is wrong is one of the rows
 record HasRow (rows : List Row) (k : ℕ) : Type 0 where
@@ -54,13 +55,14 @@ fault_or_none text never =
     ] in
     let of : (line : ℕ) (cause : Cause) → IsFaultOf items line cause → ⊥ = λ line cause f. never line cause
     (inr (short, f)) in
-    let by_itself : NoneIs (IsWrongByItself rows) = none_is rows (IsWrongByItself rows)
+    let alone : NoneIs (IsWrongAlone items) = none_is rows (IsWrongAlone items)
     (λ k cause w. record { row = w.row; row_is = w.row_is }) (λ line cause f. of line cause (inl f)) in
     let lines : fault_in items ≡ None = no_such (fault_in items) (λ fault is. of fault.line (line_cause fault.cause)
-    (inr (by_itself, inl (record { fault = fault; fault_is = is; line_is = refl; cause_is = refl })))) in
+    (inr (alone, inl (record { fault = fault; fault_is = is; line_is = refl; cause_is = refl })))) in
+    let by_itself : NoneIs (IsWrongByItself rows) = none_by_itself items lines alone in
     let with_others : NoneIs (IsWrongWithOthers rows) = none_is rows (IsWrongWithOthers rows)
     (λ k cause w. record { row = w.row; row_is = w.row_is }) (λ line cause f. of line cause (inr (
-      by_itself,
+      alone,
       inr (
         lines,
         inl f,
@@ -71,5 +73,5 @@ fault_or_none text never =
       lines = lines;
       by_itself = by_itself;
       with_others = with_others;
-      whole = no_lack (lack rows) (λ cause is. of 0 cause (inr (by_itself, inr (lines, inr (with_others, refl, is)))));
+      whole = no_lack (lack rows) (λ cause is. of 0 cause (inr (alone, inr (lines, inr (with_others, refl, is)))));
     }

@@ -1,6 +1,7 @@
 pub mod ListsByPlace
 pub mod NoEmptyWords
 pub mod RowsWithoutFault
+pub mod FormulaInForce
 pub mod OccurrencesOfNames
 pub mod Names
 pub mod OptionsAndTimesInForce

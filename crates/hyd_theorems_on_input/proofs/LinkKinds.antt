@@ -19,13 +19,15 @@ use Rattle.hyd_spec_lines.specs.Lines.{Row}
 use Rattle.hyd_spec_lines.specs.declared.section.Section.{Section}
 use Rattle.hyd_spec_lines.specs.declared.section.Section.TheVariants.{Pipes, Pumps, Valves}
 use Rattle.hyd_net.specs.NumberRanges.{Lies, IsUpTo}
-use Rattle.hyd_net.specs.NetworkRanges.{HasSizes, IsPipe, IsValve, IsValveOrigin, IsPumpOrigin}
+use Rattle.hyd_net.specs.NetworkRanges.{HasSizes, IsPipe, IsPipeLoss, IsValve, IsValveOrigin, IsPumpOrigin}
 use Rattle.hyd_net.specs.Sound as sound
 use Rattle.hyd_net.specs.Curves.{IsPumpCurve, IsLossCurve}
-use Rattle.hyd_net.specs.RoundedFileNumbers.{IsKindMade, IsValveMade}
+use Rattle.hyd_net.specs.RoundedFileNumbers.{IsKindMade, IsLossMade, IsValveMade}
 use Rattle.hyd_net.specs.ControlsAndRules.{node_count}
 use Rattle.hyd_net.specs.declared.refusal_cause.Cause.TheVariants.{Syntax, Range, Unsupported}
 use Rattle.hyd_net.specs.declared.links.Link.{Link}
+use Rattle.hyd_net.specs.declared.links.PipeLoss.{PipeLoss}
+use Rattle.hyd_net.specs.declared.links.PipeLoss.TheVariants.{Manning, HazenWilliams}
 use Rattle.hyd_net.specs.declared.links.LinkKind.{LinkKind}
 use Rattle.hyd_net.specs.declared.links.LinkKind.TheVariants.{Pipe, CheckPipe, Pump, CurvePump, Tcv, Fcv, Gpv}
 use Rattle.hyd_net.specs.declared.links.OpenValve.{OpenValve}
@@ -37,7 +39,7 @@ use Rattle.hyd_spec_input.specs.Columns.{unless, needed, optional, ends, id, one
 use Rattle.hyd_spec_input.specs.Columns.{supported, word, or_empty, amount, units}
 use Rattle.hyd_spec_input.specs.NodeAndLinkRows as alone
 use Rattle.hyd_spec_input.specs.SectionsAndTables.{Point, place, is_of, is_link, curve_named}
-use Rattle.hyd_spec_input.specs.OptionsAndTimesInForce.{unit}
+use Rattle.hyd_spec_input.specs.OptionsAndTimesInForce.{unit, has_hazen_williams}
 use Rattle.hyd_spec_input.specs.Curves.{drop_of, is_bent, is_within, is_flow, is_pump_curve, square, are_flows}
 use Rattle.hyd_spec_input.specs.Curves.{has_shutoff, is_pump_bend, head_point, head_points, begins_at_0, is_valve_bend}
 use Rattle.hyd_spec_input.specs.Curves.{begins_forward}
@@ -53,7 +55,7 @@ use Rattle.hyd_theorems_on_input.proofs.ListsByPlace.{match_all}
 use Rattle.hyd_theorems_on_input.proofs.RowsWithoutFault.{AreRight, right_alone, right_among, or_none, all_none}
 use Rattle.hyd_theorems_on_input.proofs.RowsWithoutFault.{unless_none}
 use Rattle.hyd_theorems_on_input.proofs.RowsWithoutFault.{needed_none, optional_none, lies, within, amount_or_is}
-use Rattle.hyd_theorems_on_input.proofs.RowsWithoutFault.{section_is}
+use Rattle.hyd_theorems_on_input.proofs.RowsWithoutFault.{section_is, pipe_right}
 use Rattle.hyd_theorems_on_input.proofs.OccurrencesOfNames.{number_inside, number_names, itself}
 use Rattle.hyd_theorems_on_input.proofs.Names.{First, Second, Third, one_of_three, link_stands, link_alone, node_length}
 use Rattle.hyd_theorems_on_input.proofs.PatternsAndCurvesByNumber.{may_have_pattern, has_bend}
@@ -115,11 +117,11 @@ ends_right rows p right of =
 
 -- ---- pipes
 
--- a pipe's numbers, in billionths
-pub record PipeNumbers (words : List (List ℕ)) : Type 0 where
+-- a pipe's numbers, in billionths; its roughness has a range by itself where losses aren't by Hazen-Williams
+pub record PipeNumbers (by_power : Bool) (words : List (List ℕ)) : Type 0 where
   pub long : Lies (pos 1) (units (10 ^ 6)) (amount 3 words)
   pub across : Lies (pos 1) (units (10 ^ 4)) (amount 4 words)
-  pub rough : Lies (pos 1) (units 10) (amount 5 words)
+  pub rough : by_power ≡ false → Lies (pos 1) (units 10) (amount 5 words)
   pub fittings : IsUpTo (10 ^ 6) (alone.pipe_minor words)
 
 no_minor : IsUpTo (10 ^ 6) (pos 0)
@@ -134,46 +136,86 @@ minor_right words e = elim (cases_Bool (alone.has_status_alone words)) [
       within (pos 0) (units (10 ^ 6)) w right))
 ]
 
-pub pipe_numbers : (words : List (List ℕ)) → alone.pipe words ≡ None → PipeNumbers words
-pipe_numbers words e =
+rough_of : (by_power : Bool) (words : List (List ℕ)) → needed (alone.roughness by_power) 5 words ≡ None
+    → by_power ≡ false → Lies (pos 1) (units 10) (amount 5 words)
+rough_of true words e formula = absurd (true≢false formula)
+rough_of false words e formula = within _ _ (word 5 words) (needed_none (above_0_to 10) 5 words e).right
+
+-- a Hazen-Williams coefficient that is right with the other rows
+pub coefficient_right : (by_power : Bool) (n : ℤ) → others.coefficient by_power n ≡ None → by_power ≡ true
+    → Lies (pos 1) (units (10 ^ 4)) n
+coefficient_right true n e formula = lies (pos 1) (units (10 ^ 4)) n (unless_none _ _ e)
+coefficient_right false n e formula = absurd (true≢false (sym formula))
+
+pub pipe_numbers : (by_power : Bool) (words : List (List ℕ)) → alone.pipe_by by_power words ≡ None
+    → PipeNumbers by_power words
+pipe_numbers by_power words e =
     let each = all_none (alone.link_ends words ∷ needed (above_0_to (10 ^ 6)) 3 words ∷ needed (above_0_to (10 ^ 4)) 4
     words
-    ∷ needed (above_0_to 10) 5 words ∷ optional (alone.minor_or_status words) 6 words
+    ∷ needed (alone.roughness by_power) 5 words ∷ optional (alone.minor_or_status words) 6 words
     ∷ optional (one_of alone.pipe_statuses) 7 words ∷ ends 8 words ∷ []) e in
     record {
       long = within _ _ (word 3 words) (needed_none (above_0_to (10 ^ 6)) 3 words each.1.0).right;
       across = within _ _ (word 4 words) (needed_none (above_0_to (10 ^ 4)) 4 words each.1.1.0).right;
-      rough = within _ _ (word 5 words) (needed_none (above_0_to 10) 5 words each.1.1.1.0).right;
+      rough = rough_of by_power words each.1.1.1.0;
       fittings = minor_right words each.1.1.1.1.0;
     }
 
-pipe_origin : (unit : FlowUnit) (words : List (List ℕ)) (cap : Capacity) → PipeNumbers words
+pipe_origin : (unit : FlowUnit) (words : List (List ℕ)) (cap : Capacity) → PipeNumbers false words
     → project.IsPipeOf (is_us_unit unit) (amount 3 words) (amount 4 words) (amount 5 words) (alone.pipe_minor words)
     cap → IsPipe unit cap.origin
 pipe_origin unit words cap own made = subst (λ (o : Origin). IsPipe unit o) (sym made.origin) (record {
   long = rw made.l_is own.long;
   across = rw made.d_is own.across;
-  rough = rw made.n_is own.rough;
+  rough = rw made.n_is (own.rough refl);
   fittings = rw made.k_is own.fittings;
   same_system = refl;
 })
+
+-- what is lost in a pipe is in range, and made of its numbers
+record LossRight (unit : FlowUnit) (loss : PipeLoss) : Type 0 where
+  pub sizes : IsPipeLoss unit loss
+  pub made : IsLossMade loss
+
+pipe_loss : (rows : List Row) (row : Row) (loss : PipeLoss)
+    → alone.pipe_by (has_hazen_williams rows) row.words ≡ None
+    → others.coefficient (has_hazen_williams rows) (amount 5 row.words) ≡ None
+    → project.IsPipeRow rows row loss → LossRight (unit rows) loss
+pipe_loss rows row (Manning cap) e among is =
+    record {
+      sizes = pipe_origin (unit rows) row.words cap (pipe_numbers false row.words (rw is.0 at e)) is.1;
+      made = is.1.made;
+    }
+pipe_loss rows row (HazenWilliams cap) e among is =
+    let own = pipe_numbers (has_hazen_williams rows) row.words e in
+    record {
+      sizes = record {
+        long = rw is.1.length_is own.long;
+        across = rw is.1.diameter_is own.across;
+        coefficient = rw is.1.coefficient_is (coefficient_right _ (amount 5 row.words) among is.0);
+        fittings = rw is.1.minor_is own.fittings;
+        same_system = is.1.us_is;
+      };
+      made = is.1.made;
+    }
 
 -- what a link is made of is in range, and made of its numbers
 pub record KindRight (p : Project) (unit : FlowUnit) (kind : LinkKind) : Type 0 where
   pub sizes : HasSizes unit p.patterns.list p.bends.list kind
   pub made : IsKindMade unit kind
 
-pipe_kind : (rows : List Row) (p : Project) (row : Row) (kind : LinkKind) → alone.pipe row.words ≡ None
-    → IsPipeKind rows row kind → KindRight p (unit rows) kind
-pipe_kind rows p row (Pipe cap) e is =
-    record { sizes = pipe_origin (unit rows) row.words cap (pipe_numbers row.words e) is.1; made = is.1.made }
-pipe_kind rows p row (CheckPipe cap) e is =
-    record { sizes = pipe_origin (unit rows) row.words cap (pipe_numbers row.words e) is.1; made = is.1.made }
-pipe_kind rows p row (Pump cap shutoff head pattern) e is = absurd is
-pipe_kind rows p row (CurvePump bend pattern) e is = absurd is
-pipe_kind rows p row (Tcv valve) e is = absurd is
-pipe_kind rows p row (Fcv valve) e is = absurd is
-pipe_kind rows p row (Gpv bend) e is = absurd is
+pipe_kind : (rows : List Row) (p : Project) (row : Row) (kind : LinkKind)
+    → alone.pipe_by (has_hazen_williams rows) row.words ≡ None
+    → others.coefficient (has_hazen_williams rows) (amount 5 row.words) ≡ None → IsPipeKind rows row kind → KindRight p (unit rows) kind
+pipe_kind rows p row (Pipe loss) e among is =
+    let right = pipe_loss rows row loss e among is.1 in record { sizes = right.sizes; made = right.made }
+pipe_kind rows p row (CheckPipe loss) e among is =
+    let right = pipe_loss rows row loss e among is.1 in record { sizes = right.sizes; made = right.made }
+pipe_kind rows p row (Pump cap shutoff head pattern) e among is = absurd is
+pipe_kind rows p row (CurvePump bend pattern) e among is = absurd is
+pipe_kind rows p row (Tcv valve) e among is = absurd is
+pipe_kind rows p row (Fcv valve) e among is = absurd is
+pipe_kind rows p row (Gpv bend) e among is = absurd is
 
 -- ---- pumps
 
@@ -407,7 +449,8 @@ kind_right : (rows : List Row) (p : Project) (k : ℕ) (row : Row) (kind : LinkK
     → IsKind rows row kind → KindRight p (unit rows) kind
 kind_right rows p k row kind right of at link is =
     elim (one_of_three (is_of Pipes row) (is_of Pumps row) (is_of Valves row) link) [
-      | First section ↦ pipe_kind rows p row kind (right_alone rows Pipes k row right at section)
+      | First section ↦ pipe_kind rows p row kind (pipe_right rows k row (right.by_itself k row at) section)
+          (or_none (others.ends rows k row) _ (right_among rows Pipes k row right at section)).1
           (as_pipe rows row kind section is)
       | Second section ↦ pump_kind rows p row kind of (pump_right rows k row right at section)
           (as_pump rows row kind section is)

@@ -229,7 +229,7 @@ node_new rows right = record {
 pub ends_right : (rows : List Row) (k : ℕ) (row : Row) → AreRight rows → slice_get rows k ≡ Some row
     → is_link row ≡ true → others.ends rows k row ≡ None
 ends_right rows k row right is link = elim (one_of_three (is_of Pipes row) (is_of Pumps row) (is_of Valves row) link) [
-  | First of ↦ right_among rows Pipes k row right is of
+  | First of ↦ (or_none (others.ends rows k row) _ (right_among rows Pipes k row right is of)).0
   | Second of ↦ (all_none (others.pump_faults rows k row) (right_among rows Pumps k row right is of)).0
   | Third of ↦ (all_none (others.valve_faults rows k row) (right_among rows Valves k row right is of)).0
 ]

@@ -6,12 +6,12 @@ use Rattle.std.proofs.lemmas.Bool.{leb-true}
 use Rattle.std.proofs.lemmas.List.Elements.{filter_passes}
 use Rattle.hyd_spec_lines.specs.WordsOfLines.{words_in, body, is_blank}
 use Rattle.hyd_spec_lines.specs.Lines.{Row, items_of, rows_in, given, kind_of, given_under, section_of, sections_of}
-use Rattle.hyd_spec_lines.specs.Lines.{given_by, through_fault, is_heading, heading, lines_before_end}
+use Rattle.hyd_spec_lines.specs.Lines.{given_by, is_heading, heading, lines_before_end}
 use Rattle.hyd_spec_lines.specs.declared.fault.LexFault.{LexFault}
 use Rattle.hyd_spec_lines.specs.declared.section.Kind.{Kind}
 use Rattle.hyd_spec_lines.specs.declared.section.Kind.TheVariants.{Nothing, Wrong, Row as RowOf, Opens}
 use Rattle.hyd_spec_lines.specs.declared.section.Region.{Region}
-use Rattle.hyd_spec_lines.specs.declared.section.Region.TheVariants.{BeforeHeadings}
+use Rattle.hyd_spec_lines.specs.declared.section.Region.TheVariants.{BeforeHeadings, PassedOver}
 
 -- each word of a row has a byte
 abbrev pub HasWords : Row → Type 0
@@ -49,7 +49,8 @@ under_gives region number (line ∷ lines) =
 section_gives : (kind : Kind) (number : ℕ) (line : List ℕ) (lines : List (List ℕ))
     → GiveWords (section_of kind number line lines)
 section_gives Nothing number line lines = tt
-section_gives (Wrong cause) number line lines = (tt, tt)
+section_gives (Wrong cause) number line lines =
+    (tt, under_gives PassedOver (number + 1) (before_first is_heading lines))
 section_gives (RowOf section) number line lines = tt
 section_gives (Opens region) number line lines = under_gives region (number + 1) (before_first is_heading lines)
 
@@ -66,8 +67,7 @@ sections_give number (line ∷ lines) =
     (section_gives (heading line) number line lines))
     (sections_give (number + 1) lines)
 
-rows_of_items : (items : List (Result Row LexFault)) → GiveWords items
-    → AllByRecursion HasWords (rows_in (through_fault items))
+rows_of_items : (items : List (Result Row LexFault)) → GiveWords items → AllByRecursion HasWords (rows_in items)
 rows_of_items [] h = tt
 rows_of_items (Ok row ∷ items) h = (h.0, rows_of_items items h.1)
 rows_of_items (Err fault ∷ items) h = tt

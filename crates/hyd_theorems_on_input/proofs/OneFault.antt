@@ -1,15 +1,17 @@
 -- A text has one fault at most, and a text without a fault has none.
 use Rattle.std.proofs.Common.{◌≡◌, ℕ, ◌<◌, ◌≤◌, ◌^◌, List, length, Option, Some, None, sym, ap, ◌∙◌, subst, arith, inl}
 use Rattle.std.proofs.Common.{inr}
-use Rattle.std.specs.Prelude.{slice_get, Result}
-use Rattle.hyd_spec_lines.specs.Lines.{Row, items_of, rows_in, fault_in}
+use Rattle.std.specs.Prelude.{slice_get, Result, Bool}
+use Rattle.hyd_spec_lines.specs.Lines.{Row, items_of, rows_in, all_rows_in, fault_in}
 use Rattle.hyd_spec_lines.specs.declared.fault.LexFault.{LexFault}
 use Rattle.hyd_net.specs.declared.refusal_cause.Cause.{Cause}
 use Rattle.hyd_spec_input.specs.SingleRows as itself
-use Rattle.hyd_spec_input.specs.SingleRows.{IsWrongByItself}
+use Rattle.hyd_spec_input.specs.SingleRows.{IsWrongBy, IsWrongByItself}
 use Rattle.hyd_spec_input.specs.FaultsWithOtherRows as others
 use Rattle.hyd_spec_input.specs.Faults.{IsWrongWithOthers, NoneIs, IsFirst, line_cause, IsLineFault, lack, IsLater}
-use Rattle.hyd_spec_input.specs.Faults.{IsFaultOf, IsFault, HasNoFault}
+use Rattle.hyd_spec_input.specs.Faults.{IsFaultOf, IsFault, HasNoFault, IsWrongAlone}
+use Rattle.hyd_spec_input.specs.OptionsAndTimesInForce.{has_hazen_williams}
+use Rattle.hyd_theorems_on_input.proofs.FormulaInForce.{none_alone_again}
 use Rattle.hyd_lemmas.proofs.BooleanTests.{equal_by_order}
 
 -- two faults have the same line and cause
@@ -46,11 +48,12 @@ never_both o a e f = cc
 same_row : (rows : List Row) (k : ℕ) (a b : Row) → slice_get rows k ≡ Some a → slice_get rows k ≡ Some b → a ≡ b
 same_row rows k a b e f = cc
 
-one_by_itself : (rows : List Row) (k : ℕ) (a b : Cause) → IsWrongByItself rows k a → IsWrongByItself rows k b → a ≡ b
-one_by_itself rows k a b f g =
+one_by_itself : (by_power : Bool) (rows : List Row) (k : ℕ) (a b : Cause) → IsWrongBy by_power rows k a
+    → IsWrongBy by_power rows k b → a ≡ b
+one_by_itself by_power rows k a b f g =
     let row : f.row ≡ g.row = same_row rows k f.row g.row f.row_is g.row_is in
-    same_cause (itself.row_fault rows k g.row) a b
-    (subst (λ (r : Row). itself.row_fault rows k r ≡ Some a) row f.fault) g.fault
+    same_cause (itself.row_fault_by by_power rows k g.row) a b
+    (subst (λ (r : Row). itself.row_fault_by by_power rows k r ≡ Some a) row f.fault) g.fault
 
 one_with_others : (rows : List Row) (k : ℕ) (a b : Cause) → IsWrongWithOthers rows k a → IsWrongWithOthers rows k b
     → a ≡ b
@@ -114,11 +117,12 @@ one_of_items items line other cause second f g =
     let rows = rows_in items in
     elim f [
       | inl x ↦ (elim g [
-        | inl y ↦ one_first rows (IsWrongByItself rows) line other cause second (one_by_itself rows) x y
-        | inr y ↦ absurd (none_first rows (IsWrongByItself rows) line cause y.0 x)
+        | inl y ↦ one_first rows (IsWrongAlone items) line other cause second
+            (one_by_itself (has_hazen_williams (all_rows_in items)) rows) x y
+        | inr y ↦ absurd (none_first rows (IsWrongAlone items) line cause y.0 x)
       ])
       | inr x ↦ (elim g [
-        | inl y ↦ absurd (none_first rows (IsWrongByItself rows) other second x.0 y)
+        | inl y ↦ absurd (none_first rows (IsWrongAlone items) other second x.0 y)
         | inr y ↦ (elim x.1 [
           | inl l ↦ (elim y.1 [
             | inl m ↦ one_line_fault items line other cause second l m
@@ -149,7 +153,7 @@ none_of_items : (items : List (Result Row LexFault)) (line : ℕ) (cause : Cause
     → NoneIs (IsWrongByItself (rows_in items)) → NoneIs (IsWrongWithOthers (rows_in items))
     → lack (rows_in items) ≡ None → IsFaultOf items line cause → ⊥
 none_of_items items line cause lines by_itself with_others whole f = elim f [
-  | inl x ↦ none_first (rows_in items) (IsWrongByItself (rows_in items)) line cause by_itself x
+  | inl x ↦ none_first (rows_in items) (IsWrongAlone items) line cause (none_alone_again items lines by_itself) x
   | inr x ↦ (elim x.1 [
     | inl l ↦ no_line_fault items line cause lines l
     | inr l ↦ (elim l.1 [

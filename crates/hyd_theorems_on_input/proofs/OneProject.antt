@@ -16,6 +16,8 @@ use Rattle.hyd_num.specs.Numeral.{nano_of}
 use Rattle.hyd_num.specs.QuotientsAndRoots.{IsFloor}
 use Rattle.hyd_num.specs.FileQuantity.{is_us_unit, head_ticks, flow_ticks}
 use Rattle.hyd_num.proofs.Floors.{one_ceiling, one_floor}
+use Rattle.hyd_spec_power_laws.specs.declared.power_capacities.PowerCapacity.{PowerCapacity}
+use Rattle.hyd_power_capacities.proofs.OnePowerCapacity as power
 use Rattle.hyd_spec_lines.specs.WordsOfLines.{is_keyword}
 use Rattle.hyd_spec_lines.specs.Lines.{Row}
 use Rattle.hyd_spec_lines.specs.declared.section.Section.TheVariants.{Junctions, Reservoirs, Tanks, Pipes, Pumps}
@@ -31,6 +33,8 @@ use Rattle.hyd_net.specs.declared.nodes.Junction.{Junction}
 use Rattle.hyd_net.specs.declared.nodes.Reservoir.{Reservoir}
 use Rattle.hyd_net.specs.declared.nodes.Tank.{Tank}
 use Rattle.hyd_net.specs.declared.links.Link.{Link}
+use Rattle.hyd_net.specs.declared.links.PipeLoss.{PipeLoss}
+use Rattle.hyd_net.specs.declared.links.PipeLoss.TheVariants.{Manning, HazenWilliams}
 use Rattle.hyd_net.specs.declared.links.LinkKind.{LinkKind}
 use Rattle.hyd_net.specs.declared.links.LinkKind.TheVariants.{Pipe, CheckPipe, Pump, CurvePump, Tcv, Fcv, Gpv}
 use Rattle.hyd_net.specs.declared.links.LinkState.{LinkState}
@@ -60,7 +64,9 @@ use Rattle.hyd_spec_input.specs.MeaningsAcrossRows.{emitter_of, status_row_of, p
 use Rattle.hyd_spec_input.specs.MeaningsAcrossRows.{rule_groups, clause_lines, then_lines, else_lines}
 use Rattle.hyd_spec_input.specs.FaultsWithOtherRows.{us}
 use Rattle.hyd_spec_input.specs.Project as project_of
-use Rattle.hyd_spec_input.specs.Project.{Where, IsOptions, IsTimes, IsEmitter, IsEmitterOf, IsPipeOf, IsPipeKind}
+use Rattle.hyd_spec_input.specs.Project.{Where, IsOptions, IsTimes, IsEmitter, IsEmitterOf, IsPipeOf, IsPipeRow}
+use Rattle.hyd_spec_input.specs.Project.{IsPowerPipeOf}
+use Rattle.hyd_spec_input.specs.Project.{IsPipeKind}
 use Rattle.hyd_spec_input.specs.Project.{IsPumpOf, IsShutoffOf, pump_points, IsPumpKind, IsValveOf, IsOpenValve}
 use Rattle.hyd_spec_input.specs.Project.{IsValveKind, speed_state, open_state, IsThrottle, IsNumberState, IsState}
 use Rattle.hyd_spec_input.specs.Project.{IsStateOf, IsOwnState, IsStart, IsKind, IsLink, IsWhen, IsWhat, IsValue}
@@ -206,6 +212,22 @@ one_pipe u l d n k a b f g =
     λ i. PipeOrigin (long i) (across i) (rough i) (minor i) u in
     one_capacity a b (f.origin ∙ origins ∙ sym g.origin) f.made g.made
 
+one_power_pipe : (u : Bool) (l d n k : ℤ) (a b : PowerCapacity) → IsPowerPipeOf u l d n k a
+    → IsPowerPipeOf u l d n k b → a ≡ b
+one_power_pipe u l d n k a b f g =
+    let long = Decimal-equal a.pipe.length b.pipe.length (f.length_is ∙ sym g.length_is) in
+    let across = Decimal-equal a.pipe.diameter b.pipe.diameter (f.diameter_is ∙ sym g.diameter_is) in
+    let rough = Decimal-equal a.pipe.coefficient b.pipe.coefficient (f.coefficient_is ∙ sym g.coefficient_is) in
+    let minor = Decimal-equal a.pipe.minor b.pipe.minor (f.minor_is ∙ sym g.minor_is) in
+    let system = f.us_is ∙ sym g.us_is in
+    power.one_capacity a b (λ i. record {
+      length = long i;
+      diameter = across i;
+      coefficient = rough i;
+      minor = minor i;
+      us = system i;
+    }) f.made g.made
+
 one_valve : (u : Bool) (d k : ℤ) (a b : Capacity) → IsValveOf u d k a → IsValveOf u d k b
     → a ≡ b
 one_valve u d k a b f g =
@@ -248,12 +270,19 @@ one_shutoff_head (a ∷ b ∷ points) (FourThirds h) t f g = absurd f
 one_shutoff_head (a ∷ b ∷ points) (Given h) (FourThirds t) f g = absurd g
 one_shutoff_head (a ∷ b ∷ points) (Given h) (Given t) f g = ap Given (Decimal-equal h t (f ∙ sym g))
 
+one_loss : (rows : List Row) (row : Row) (a b : PipeLoss) → IsPipeRow rows row a → IsPipeRow rows row b → a ≡ b
+one_loss rows row (Manning a) (Manning b) f g = ap Manning (one_pipe _ _ _ _ _ a b f.1 g.1)
+one_loss rows row (Manning a) (HazenWilliams b) f g = absurd (true≢false (sym g.0 ∙ f.0))
+one_loss rows row (HazenWilliams a) (Manning b) f g = absurd (true≢false (sym f.0 ∙ g.0))
+one_loss rows row (HazenWilliams a) (HazenWilliams b) f g =
+    ap HazenWilliams (one_power_pipe _ _ _ _ _ a b f.1 g.1)
+
 one_pipe_kind : (rows : List Row) (row : Row) (a b : LinkKind) → IsPipeKind rows row a → IsPipeKind rows row b
     → a ≡ b
-one_pipe_kind rows row (Pipe a) (Pipe b) f g = ap Pipe (one_pipe _ _ _ _ _ a b f.1 g.1)
+one_pipe_kind rows row (Pipe a) (Pipe b) f g = ap Pipe (one_loss rows row a b f.1 g.1)
 one_pipe_kind rows row (Pipe a) (CheckPipe b) f g = absurd (true≢false (sym g.0 ∙ f.0))
 one_pipe_kind rows row (CheckPipe a) (Pipe b) f g = absurd (true≢false (sym f.0 ∙ g.0))
-one_pipe_kind rows row (CheckPipe a) (CheckPipe b) f g = ap CheckPipe (one_pipe _ _ _ _ _ a b f.1 g.1)
+one_pipe_kind rows row (CheckPipe a) (CheckPipe b) f g = ap CheckPipe (one_loss rows row a b f.1 g.1)
 one_pipe_kind rows row (Pipe a) _ f g = absurd g
 one_pipe_kind rows row (CheckPipe a) _ f g = absurd g
 one_pipe_kind rows row _ _ f g = absurd f

@@ -1,6 +1,6 @@
 -- A row of a text without a fault: it is right by itself and with the others, and each thing that is asked of it holds.
 use Rattle.std.proofs.Common.{◌≡◌, ℕ, ◌+◌, ◌≤◌, Bool, true, false, List, [], ◌∷◌, length, take, drop, Option, Some}
-use Rattle.std.proofs.Common.{None, refl, sym, ap, ◌∙◌, subst, inl}
+use Rattle.std.proofs.Common.{None, refl, sym, ap, ◌∙◌, subst, inl, ◌^◌}
 use Rattle.std.specs.Prelude.{slice_get, ◌&&◌, ◌==◌, ℤ, if◌then◌else◌}
 use Rattle.std.specs.List.{All, AllByRecursion}
 use Rattle.std.proofs.lemmas.Bool.{and_parts, eqb-true}
@@ -18,10 +18,14 @@ use Rattle.hyd_net.specs.NumberRanges.{Lies}
 use Rattle.hyd_net.specs.declared.refusal_cause.Cause.{Cause}
 use Rattle.hyd_spec_input.specs.Columns.{Column, or_else, first, unless, of_needed, needed, of_word, optional, or_empty}
 use Rattle.hyd_spec_input.specs.Columns.{word, number, number_where, number_within, nano_or, amount_or}
+use Rattle.hyd_spec_input.specs.Columns.{above_0_to, one_of, ends}
+use Rattle.hyd_spec_input.specs.NodeAndLinkRows.{link_ends, minor_or_status, pipe_statuses, pipe, pipe_by}
+use Rattle.hyd_spec_input.specs.OptionsAndTimesInForce.{has_hazen_williams}
 use Rattle.hyd_spec_input.specs.SectionsAndTables.{place, is_of, words_of}
 use Rattle.hyd_spec_input.specs.SingleRows as itself
 use Rattle.hyd_spec_input.specs.FaultsWithOtherRows as others
-use Rattle.hyd_spec_input.specs.Faults.{HasNoFault}
+use Rattle.hyd_spec_input.specs.SingleRows.{IsWrongByItself}
+use Rattle.hyd_spec_input.specs.Faults.{HasNoFault, NoneIs}
 use Rattle.hyd_theorems_on_input.proofs.ListsByPlace.{all_at}
 
 -- ---- several faults, of which none is there
@@ -137,6 +141,60 @@ has_place Times = refl
 pub section_is : (section : Section) (row : Row) → is_of section row ≡ true → row.section ≡ section
 section_is section row e = sym (has_place row.section) ∙ ap at_place (eqb-true _ _ e) ∙ has_place section
 
+-- ---- pipes
+
+any_number : (o : Option (List ℕ)) → of_needed (above_0_to 10) o ≡ None → of_needed number o ≡ None
+any_number None e = absurd (let x : ⊥ = cc in x)
+any_number (Some w) e = (or_none (number w) _ e).0
+
+-- a fourth thing that is asked in place of another one
+fourth : (a b c x y : Option Cause) (rest : List (Option Cause)) → (x ≡ None → y ≡ None)
+    → first (a ∷ b ∷ c ∷ x ∷ rest) ≡ None → first (a ∷ b ∷ c ∷ y ∷ rest) ≡ None
+fourth None None None x y rest h e = let both = or_none x (first rest) e in rw (h both.0) both.1
+fourth None None (Some cause) x y rest h e = absurd (let z : ⊥ = cc in z)
+fourth None (Some cause) c x y rest h e = absurd (let z : ⊥ = cc in z)
+fourth (Some cause) b c x y rest h e = absurd (let z : ⊥ = cc in z)
+
+-- Manning's coefficient is a number too
+right_by_any : (by_power : Bool) (words : List (List ℕ)) → pipe_by by_power words ≡ None → pipe words ≡ None
+right_by_any true words e = e
+right_by_any false words e =
+    fourth (link_ends words) (needed (above_0_to (10 ^ 6)) 3 words) (needed (above_0_to (10 ^ 4)) 4 words)
+    (needed (above_0_to 10) 5 words) (needed number 5 words)
+    (optional (minor_or_status words) 6 words ∷ optional (one_of pipe_statuses) 7 words ∷ ends 8 words ∷ [])
+    (any_number (slice_get words 5)) e
+
+by_section : (section : Section) (by_power : Bool) (earlier : List (List (List ℕ))) (words : List (List ℕ))
+    (later : List (List (List ℕ))) → (if place section == place Pipes then pipe_by by_power words
+    else itself.section_fault section earlier words later) ≡ None
+    → itself.section_fault section earlier words later ≡ None
+by_section Pipes by_power earlier words later e = right_by_any by_power words e
+by_section _ by_power earlier words later e = e
+
+-- a row that is right by itself is so as one of its section
+right_in_section : (rows : List Row) (k : ℕ) (row : Row) → itself.row_fault rows k row ≡ None
+    → itself.section_fault row.section (words_of Rules (take k rows)) row.words
+    (words_of Rules (drop (k + 1) rows)) ≡ None
+right_in_section rows k row e = by_section row.section (has_hazen_williams rows) _ row.words _ e
+
+pub none_alone : (rows : List Row) (k : ℕ) (row : Row) → NoneIs (IsWrongByItself rows) → slice_get rows k ≡ Some row
+    → itself.section_fault row.section (words_of Rules (take k rows)) row.words
+    (words_of Rules (drop (k + 1) rows)) ≡ None
+none_alone rows k row right is =
+    right_in_section rows k row (none_from (itself.row_fault rows k row)
+    (λ cause f. right k cause (record { row = row; row_is = is; fault = f })))
+
+-- a pipe is right by the formula in force
+pub pipe_right : (rows : List Row) (k : ℕ) (row : Row) → itself.row_fault rows k row ≡ None → is_of Pipes row ≡ true
+    → pipe_by (has_hazen_williams rows) row.words ≡ None
+pipe_right rows k row e of =
+    let P : Section → Type 0 = λ s. (if place s == place Pipes then pipe_by (has_hazen_williams rows) row.words
+    else itself.section_fault s (words_of Rules (take k rows)) row.words (words_of Rules (drop (k + 1) rows)))
+    ≡ None in
+    subst P (section_is Pipes row of) e
+
+-- ---- all sections
+
 -- what is asked of a row of a section, by itself and with the others
 pub right_alone : (rows : List Row) (section : Section) (k : ℕ) (row : Row) → AreRight rows
     → slice_get rows k ≡ Some row → is_of section row ≡ true
@@ -145,7 +203,7 @@ pub right_alone : (rows : List Row) (section : Section) (k : ℕ) (row : Row) �
 right_alone rows section k row right is of =
     let P : Section → Type 0 = λ s. itself.section_fault s (words_of Rules (take k rows)) row.words
     (words_of Rules (drop (k + 1) rows)) ≡ None in
-    subst P (section_is section row of) (right.by_itself k row is)
+    subst P (section_is section row of) (right_in_section rows k row (right.by_itself k row is))
 
 pub right_among : (rows : List Row) (section : Section) (k : ℕ) (row : Row) → AreRight rows
     → slice_get rows k ≡ Some row → is_of section row ≡ true

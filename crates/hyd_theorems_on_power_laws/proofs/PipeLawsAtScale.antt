@@ -2,16 +2,15 @@
 use Rattle.std.proofs.Common.{◌≡◌, ℕ, ◌*◌, ◌<◌, ◌≤◌, ℤ, pos, negsuc, refl, mul-pos}
 use Rattle.hyd_spec_power_laws.specs.declared.power_capacities.PowerCapacity.{PowerCapacity}
 use Rattle.hyd_spec_power_laws.specs.PowerCapacities.{IsMade}
-use Rattle.hyd_spec_pipe_laws.specs.PipeLaws.{pipe_loses_at_most, pipe_loses_at_least, pipe_flow_at_least}
-use Rattle.hyd_spec_pipe_laws.specs.PipeLaws.{pipe_flow_at_most}
+use Rattle.hyd_spec.specs.Law.{PowerLaw, flow_at_least, flow_at_most, pipe_loses_at_most, pipe_loses_at_least}
 use Rattle.hyd_spec_pipe_laws.specs.FlowsAtScale.{flow_down_at, flow_up_at, power_low_at, power_high_at}
 use Rattle.hyd_power_laws.specs.LawsOfPowers.{EnclosesLaw}
 use Rattle.hyd_power_capacities.proofs.CapacitiesEncloseLosses.{encloses_law}
 use Rattle.hyd_power_capacities.proofs.LossesInTicks.{exact_constant, exact_minor, at_most_in_feet, at_least_in_feet}
 use Rattle.hyd_theorems_on_definitions.specs.SoundLawsAndGrids.{IsLaw}
 use Rattle.hyd_theorems_on_power_laws.proofs.EnclosingAtScale.{down-encloses, up-encloses}
-use Rattle.hyd_theorems_on_power_laws.proofs.PipeLaws.{IsLossLaw-pipe, positive-made, renamed}
-use Rattle.hyd_theorems_on_power_laws.proofs.SignedLaws.{signed, EncloseLoss, IsLaw-signed}
+use Rattle.hyd_theorems_on_definitions.proofs.PipeLaws.{IsLossLaw-pipe, positive-made, renamed}
+use Rattle.hyd_theorems_on_definitions.proofs.SignedLaws.{signed, EncloseLoss, IsLaw-signed}
 use Rattle.hyd_theorems_on_power_laws.proofs.TestsAtScale as at
 
 module _ (S : ℕ) (positive : 0 < S) (c : PowerCapacity) (made : IsMade c) where
@@ -60,10 +59,10 @@ module _ (S : ℕ) (positive : 0 < S) (c : PowerCapacity) (made : IsMade c) wher
   high-signed_at (pos d) = refl
   high-signed_at (negsuc d) = refl
 
-  pub IsLaw-power_at : IsLaw (λ k. pipe_flow_at_least c.pipe (S * k)) (λ k. pipe_flow_at_most c.pipe (S * k))
+  pub IsLaw-power_at : IsLaw (λ k. flow_at_least (PowerLaw c) (S * k)) (λ k. flow_at_most (PowerLaw c) (S * k))
       (power_low_at S c) (power_high_at S c)
   IsLaw-power_at =
-      renamed (λ k. pipe_flow_at_least c.pipe (S * k)) (λ k. pipe_flow_at_most c.pipe (S * k))
+      renamed (λ k. flow_at_least (PowerLaw c) (S * k)) (λ k. flow_at_most (PowerLaw c) (S * k))
       (signed (flow_down_at S c.low c.minor) (flow_up_at S c.high c.minor))
       (signed (flow_up_at S c.high c.minor) (flow_down_at S c.low c.minor)) (power_low_at S c) (power_high_at S c)
       low-signed_at high-signed_at

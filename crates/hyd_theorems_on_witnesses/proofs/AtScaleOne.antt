@@ -4,11 +4,13 @@ use Rattle.std.specs.Int.{int_max, int_min}
 use Rattle.hyd_num.specs.Rational.{floor, ceiling}
 use Rattle.hyd_spec.specs.Scale.{at_scale}
 use Rattle.hyd_spec.specs.Law.{Law, Shut, QuadraticLaw, LinearLaw, Lifted, ForwardOnly, ReverseOnly, Capped, Bent, Held}
+use Rattle.hyd_spec.specs.Law.{PowerLaw}
 use Rattle.hyd_spec.specs.ProgramTypes.{Capacity}
 use Rattle.hyd_num.specs.BinaryNumbers.{numerator, denominator}
 use Rattle.hyd_spec_certificates.specs.EnclosingFunctions.{root_down, root_up, quadratic_low, quadratic_high, low, high}
 use Rattle.hyd_spec_witnesses.specs.EnclosingFunctionsAtScale.{quadratic_low_at, quadratic_high_at, low_at, high_at}
 use Rattle.hyd_num.proofs.Integers.{one_times}
+use Rattle.hyd_theorems_on_power_laws.proofs.AtScaleOne as power
 
 one-fold : (N d : ℕ) → (1 * N) * d ≡ N * d
 one-fold N d = omega arith
@@ -25,6 +27,7 @@ quad-high c (negsuc d) = ap (λ (n : ℕ). neg_ℤ (pos (root_down n (denominato
 pub low-at-one : (law : Law) (d : ℤ) → low_at 1 law d ≡ low law d
 low-at-one Shut d = refl
 low-at-one (QuadraticLaw c) d = quad-low c d
+low-at-one (PowerLaw c) d = power.low-at-one c d
 low-at-one LinearLaw d = refl
 low-at-one (Lifted lift law) d = ap (λ (z : ℤ). low_at 1 law (d +ℤ z)) (one_times (floor lift))
     ∙ low-at-one law (d +ℤ floor lift)
@@ -41,6 +44,7 @@ low-at-one (Held least greatest law) d =
 pub high-at-one : (law : Law) (d : ℤ) → high_at 1 law d ≡ high law d
 high-at-one Shut d = refl
 high-at-one (QuadraticLaw c) d = quad-high c d
+high-at-one (PowerLaw c) d = power.high-at-one c d
 high-at-one LinearLaw d = refl
 high-at-one (Lifted lift law) d = ap (λ (z : ℤ). high_at 1 law (d +ℤ z)) (one_times (ceiling lift))
     ∙ high-at-one law (d +ℤ ceiling lift)

@@ -9,7 +9,7 @@ use Rattle.hyd_num.specs.Rational.{Rational, floor, ceiling}
 use Rattle.hyd_net.specs.Curves.{Knot, value_at}
 use Rattle.hyd_spec.specs.Scale.{at_scale, tolerance}
 use Rattle.hyd_spec.specs.Law.{Relation, Loss, Law, Shut, QuadraticLaw, LinearLaw, Lifted, ForwardOnly, ReverseOnly}
-use Rattle.hyd_spec.specs.Law.{Capped}
+use Rattle.hyd_spec.specs.Law.{Capped, PowerLaw}
 use Rattle.hyd_spec.specs.ProgramTypes.{Capacity}
 use Rattle.hyd_num.specs.BinaryNumbers.{numerator, denominator}
 use Rattle.hyd_spec.specs.Law.{Bent, Held, loss_at_most, loss_at_least, Follows}
@@ -22,6 +22,7 @@ use Rattle.hyd_theorems_on_definitions.proofs.LossLaws.{IsLossLaw-origin}
 use Rattle.hyd_num.proofs.Integers.{times_plus, times_rises, times_reflects, times_times, one_times}
 use Rattle.hyd_lemmas.proofs.Integers.{exchanged, floor_low, ceiling_high, floor_greatest, ceiling_least}
 use Rattle.hyd_lemmas.proofs.Integers.{floor_at_most_ceiling}
+use Rattle.hyd_theorems_on_power_laws.proofs.PipeLawsAtScale.{IsLaw-power_at}
 use Rattle.hyd_theorems_on_definitions.proofs.ValuesAtTwoScales.{Leads}
 use Rattle.hyd_theorems_on_definitions.proofs.RisingLines.{value-den, value-rises}
 use Rattle.hyd_theorems_on_definitions.proofs.LinkLaws.{IsLaw-shut, IsLaw-forward, IsLaw-reverse, IsLaw-capped}
@@ -337,6 +338,7 @@ pub IsLaw-at : (S : ℕ) → 0 < S → (law : Law) → IsSoundLaw law
     → IsLaw (λ k. flow_at_least law (S * k)) (λ k. flow_at_most law (S * k)) (low_at S law) (high_at S law)
 IsLaw-at S some Shut sound = IsLaw-shut
 IsLaw-at S some (QuadraticLaw capacity) sound = IsLaw-quad S some capacity sound
+IsLaw-at S some (PowerLaw capacity) sound = IsLaw-power_at S some capacity sound
 IsLaw-at S some LinearLaw sound = IsLaw-passed 8026822656 (10 ^ 6) (omega arith)
 IsLaw-at S some (Lifted lift law) sound = IsLaw-lifted S some lift law (low_at S law) (high_at S law) sound.0
     (IsLaw-at S some law sound.1)

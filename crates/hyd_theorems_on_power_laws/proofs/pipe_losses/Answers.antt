@@ -1,9 +1,6 @@
-use Rattle.hyd_theorems_on_power_laws.proofs.PipeLaws.{IsLossLaw-pipe, positive-made}
+use Rattle.hyd_theorems_on_definitions.proofs.PipeLaws.{positive-made}
 use Rattle.hyd_theorems_on_power_laws.proofs.SharpEnds.{sharp-made}
 use Rattle.hyd_theorems_on_power_laws.proofs.pipe_losses.Goals as goal
-
-pub returns-clause-loss : goal.returns-clause-loss
-returns-clause-loss c = IsLossLaw-pipe
 
 pub returns-clause-numbers : goal.returns-clause-numbers
 returns-clause-numbers c = positive-made

@@ -2,30 +2,35 @@ use Rattle.std.proofs.Common.{length, subst, sym, ◌∙◌}
 use Rattle.hyd_spec_input.specs.Faults.{IsWrongWithOthers}
 use Rattle.hyd_rows_and_tables.specs.FirstWrongRow.{HasFound}
 use Rattle.hyd_rows_and_tables.specs.RowsOfLines.{rows_at}
-use Rattle.hyd_inp.proofs.FaultFromFindings.{fault_alone, none_alone, fault_of_lines, fault_among, none_among}
+use Rattle.hyd_inp.proofs.FaultFromFindings.{fault_alone, none_alone, none_by_rows, fault_of_lines, fault_among, none_among}
 use Rattle.hyd_inp.proofs.FaultFromFindings.{fault_of_all}
 use Rattle.hyd_inp.proofs.FaultFromFindings.{no_fault}
 use Rattle.hyd_inp.proofs.first_fault.fault_of.Goals as goal
 
 pub returns-in-Some-clause-fault : goal.returns-in-Some-clause-fault
 returns-in-Some-clause-fault c =
-    fault_alone c.args.text.now.text c.args.lines.now c.in-Some.found c.requires.rows c.in-Some.ensures
+    fault_alone c.args.text.now.text c.args.lines.now c.is_by_power-by_power.result c.in-Some.found
+    c.is_by_power-by_power.ensures c.requires.rows c.in-Some.ensures
 
 pub returns-in-Some-end-clause-fault : goal.returns-in-Some-end-clause-fault
 returns-in-Some-end-clause-fault c =
     let text = c.args.text.now.text in
     let lines = c.args.lines.now in
     fault_of_lines text lines c.in-Some-end.fault c.line_cause.result c.requires.rows
-    (none_alone text lines c.in_default.ensures) (sym c.in-Some-end.is ∙ c.requires.end) c.line_cause.ensures
+    (none_alone text lines c.is_by_power-by_power.result c.is_by_power-by_power.ensures c.in_default.ensures) (sym c.in-Some-end.is ∙ c.requires.end) c.line_cause.ensures
 
 pub first_with_others-requires-clause-right : goal.first_with_others-requires-clause-right
-first_with_others-requires-clause-right c = none_alone c.args.text.now.text c.args.lines.now c.in_default.ensures
+first_with_others-requires-clause-right c =
+    let text = c.args.text.now.text in
+    let lines = c.args.lines.now in
+    none_by_rows text lines c.requires.rows (sym c.in_default-end.is ∙ c.requires.end)
+    (none_alone text lines c.is_by_power-by_power.result c.is_by_power-by_power.ensures c.in_default.ensures)
 
 pub returns-in-Some-2-clause-fault : goal.returns-in-Some-2-clause-fault
 returns-in-Some-2-clause-fault c =
     let text = c.args.text.now.text in
     let lines = c.args.lines.now in
-    fault_among text lines c.in-Some-2.found c.requires.rows (none_alone text lines c.in_default.ensures)
+    fault_among text lines c.in-Some-2.found c.requires.rows (none_alone text lines c.is_by_power-by_power.result c.is_by_power-by_power.ensures c.in_default.ensures)
     (sym c.in_default-end.is ∙ c.requires.end)
     (subst (HasFound (rows_at text lines) (IsWrongWithOthers (rows_at text lines)) (length lines)) c.in-Some-2.is
     c.in_ok-found.ensures)
@@ -34,7 +39,7 @@ pub returns-in-Some-lack-clause-fault : goal.returns-in-Some-lack-clause-fault
 returns-in-Some-lack-clause-fault c =
     let text = c.args.text.now.text in
     let lines = c.args.lines.now in
-    fault_of_all text lines c.in-Some-lack.cause c.requires.rows (none_alone text lines c.in_default.ensures)
+    fault_of_all text lines c.in-Some-lack.cause c.requires.rows (none_alone text lines c.is_by_power-by_power.result c.is_by_power-by_power.ensures c.in_default.ensures)
     (sym c.in_default-end.is ∙ c.requires.end)
     (none_among text lines (subst (HasFound (rows_at text lines) (IsWrongWithOthers (rows_at text lines))
     (length lines)) c.in_default-2.is c.in_ok-found.ensures)) c.in-Some-lack.ensures
@@ -43,7 +48,7 @@ pub returns-in-None-clause-none : goal.returns-in-None-clause-none
 returns-in-None-clause-none c =
     let text = c.args.text.now.text in
     let lines = c.args.lines.now in
-    no_fault text lines c.requires.short c.requires.rows (none_alone text lines c.in_default.ensures)
+    no_fault text lines c.requires.short c.requires.rows (none_alone text lines c.is_by_power-by_power.result c.is_by_power-by_power.ensures c.in_default.ensures)
     (sym c.in_default-end.is ∙ c.requires.end)
     (none_among text lines (subst (HasFound (rows_at text lines) (IsWrongWithOthers (rows_at text lines))
     (length lines)) c.in_default-2.is c.in_ok-found.ensures)) c.in-None.ensures

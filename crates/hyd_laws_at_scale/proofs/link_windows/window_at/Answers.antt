@@ -2,6 +2,7 @@ use Rattle.std.proofs.Common.{w64, SFits, sym, subst, rules}
 use Rattle.std.proofs.lemmas.Int.{to_z-of_z}
 use Rattle.hyd_spec.specs.DemandsHeadsAndPumpLifts.{lift_of}
 use Rattle.hyd_spec.specs.Law.{QuadraticLaw, LinearLaw, Lifted as LiftedLaw, Capped as CappedLaw, Bent as BentLaw}
+use Rattle.hyd_spec.specs.Law.{PowerLaw}
 use Rattle.hyd_law.specs.KnotsOfStraightLines.{places}
 use Rattle.hyd_law.specs.declared.link_law_kinds.LinkLaw.{LinkLaw}
 use Rattle.hyd_period_network.specs.ExactLaw.{exact_law}
@@ -101,6 +102,22 @@ returns-in-LinearLimitOneWay c =
     c.one_way-in-LinearLimitOneWay.result)
     (sym c.in-LinearLimitOneWay.is)
     (c.one_way-in-LinearLimitOneWay.ensures S (CappedLaw c.in-LinearLimitOneWay.law.inner.cap LinearLaw) c.args.d inner)
+
+pub returns-in-Power : goal.returns-in-Power
+returns-in-Power c =
+    let e = to_z-of_z w64 c.args.d c.ranges.d in
+    subst (λ (x : LinkLaw). IsAnswer (parts_of c.args.scale) (exact_law x) c.args.d c.power.result)
+    (sym c.in-Power.is)
+    (rw e at c.power.ensures)
+
+pub returns-in-PowerOneWay : goal.returns-in-PowerOneWay
+returns-in-PowerOneWay c =
+    let S = parts_of c.args.scale in
+    let e = to_z-of_z w64 c.args.d c.ranges.d in
+    subst (λ (x : LinkLaw). IsAnswer (parts_of c.args.scale) (exact_law x) c.args.d c.one_way-in-PowerOneWay.result)
+    (sym c.in-PowerOneWay.is)
+    (c.one_way-in-PowerOneWay.ensures S (PowerLaw c.in-PowerOneWay.law.inner.cap) c.args.d
+    (rw e at c.power-in-PowerOneWay.ensures))
 
 pub returns-in-Bent : goal.returns-in-Bent
 returns-in-Bent c =

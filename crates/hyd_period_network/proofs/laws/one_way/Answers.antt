@@ -1,10 +1,10 @@
 use Rattle.std.proofs.Common.{subst}
 use Rattle.hyd_law.specs.declared.link_law_kinds.LinkLaw.{LinkLaw}
 use Rattle.hyd_law.specs.declared.link_law_kinds.LinkLaw.TheVariants.{QuadOneWay, LinearOneWay, Pump, LimitOneWay}
-use Rattle.hyd_law.specs.declared.link_law_kinds.LinkLaw.TheVariants.{LinearLimitOneWay}
+use Rattle.hyd_law.specs.declared.link_law_kinds.LinkLaw.TheVariants.{LinearLimitOneWay, PowerOneWay}
 use Rattle.hyd_period_network.specs.LawsInSettings.{Stands}
 use Rattle.hyd_period_network.proofs.LawsStandForExactLaws.{still_shut, quad_one_way, linear_one_way, limit_one_way}
-use Rattle.hyd_period_network.proofs.LawsStandForExactLaws.{linear_limit_one_way}
+use Rattle.hyd_period_network.proofs.LawsStandForExactLaws.{linear_limit_one_way, power_one_way, power_again}
 use Rattle.hyd_period_network.proofs.LawsStandForExactLaws.{quad_again, linear_again, pump_again, limit_again}
 use Rattle.hyd_period_network.proofs.LawsStandForExactLaws.{linear_limit_again}
 use Rattle.hyd_period_network.proofs.LawsStandForExactLaws.{shut_one_way, against, against_least, against_most}
@@ -30,6 +30,10 @@ returns-in-Limit-clause-stands c of s = limit_one_way c.args.forward c.in-Limit.
 pub returns-in-LinearLimit-clause-stands : goal.returns-in-LinearLimit-clause-stands
 returns-in-LinearLimit-clause-stands c of s = linear_limit_one_way c.args.forward c.in-LinearLimit.inner
     of (subst (λ (l : LinkLaw). Stands l of) c.in-LinearLimit.is s)
+
+pub returns-in-Power-clause-stands : goal.returns-in-Power-clause-stands
+returns-in-Power-clause-stands c of s = power_one_way c.args.forward c.in-Power.inner
+    of (subst (λ (l : LinkLaw). Stands l of) c.in-Power.is s)
 
 pub returns-then-is_same_way-clause-stands : goal.returns-then-is_same_way-clause-stands
 returns-then-is_same_way-clause-stands c of s = quad_again c.args.forward c.in-QuadOneWay.law
@@ -91,6 +95,18 @@ returns-else-is_same_way-5-clause-stands c of s = shut_one_way c.args.forward
     x a c.if-is_same_way-5.ensures.opposite) (λ d. against c.in-LinearLimitOneWay.law.forward c.args.forward _
     c.if-is_same_way-5.ensures.opposite) (λ d. against c.in-LinearLimitOneWay.law.forward c.args.forward _
     c.if-is_same_way-5.ensures.opposite) (subst (λ (l : LinkLaw). Stands l of) c.in-LinearLimitOneWay.is s)
+
+pub returns-then-is_same_way-6-clause-stands : goal.returns-then-is_same_way-6-clause-stands
+returns-then-is_same_way-6-clause-stands c of s = power_again c.args.forward c.in-PowerOneWay.law
+    of c.if-is_same_way-6.ensures.same (subst (λ (l : LinkLaw). Stands l of) c.in-PowerOneWay.is s)
+
+pub returns-else-is_same_way-6-clause-stands : goal.returns-else-is_same_way-6-clause-stands
+returns-else-is_same_way-6-clause-stands c of s = shut_one_way c.args.forward (PowerOneWay c.in-PowerOneWay.law)
+    (record {}) of (λ S x a. against_least c.in-PowerOneWay.law.forward c.args.forward _ S x a
+    c.if-is_same_way-6.ensures.opposite) (λ S x a. against_most c.in-PowerOneWay.law.forward c.args.forward _ S x a
+    c.if-is_same_way-6.ensures.opposite) (λ d. against c.in-PowerOneWay.law.forward c.args.forward _
+    c.if-is_same_way-6.ensures.opposite) (λ d. against c.in-PowerOneWay.law.forward c.args.forward _
+    c.if-is_same_way-6.ensures.opposite) (subst (λ (l : LinkLaw). Stands l of) c.in-PowerOneWay.is s)
 
 pub returns-in-Bent-clause-stands : goal.returns-in-Bent-clause-stands
 returns-in-Bent-clause-stands c of s = bent_one_way c.args.forward c.in-Bent.held c.one_way_held.result

@@ -1,12 +1,11 @@
-use Rattle.hyd_period_network.proofs.LawsStandForExactLaws.{shut_represents, quad_represents, check_represents}
+use Rattle.hyd_period_network.proofs.LawsStandForExactLaws.{shut_represents}
 use Rattle.hyd_period_network.proofs.laws.open_law.Goals as goal
 
 pub returns-in-Pipe : goal.returns-in-Pipe
-returns-in-Pipe c us bends = rw c.in-Pipe.is (quad_represents c.in-Pipe.cap (rw c.in-Pipe.is at c.requires.made))
+returns-in-Pipe c us bends = rw c.in-Pipe.is c.pipe_law.ensures
 
 pub returns-in-CheckPipe : goal.returns-in-CheckPipe
-returns-in-CheckPipe c us bends = rw c.in-CheckPipe.is (check_represents c.in-CheckPipe.cap
-    (rw c.in-CheckPipe.is at c.requires.made))
+returns-in-CheckPipe c us bends = rw c.in-CheckPipe.is c.check_law.ensures
 
 pub returns-in-Pump : goal.returns-in-Pump
 returns-in-Pump c us bends = rw c.in-Pump.is (shut_represents (record {}))

@@ -24,8 +24,8 @@ unfolding nothing
 link_fault-cause-requires-clause-right c =
     let text = c.args.text.now.text in
     let lines = c.args.lines.now in
-    link_is_right (rows_at text lines) c.args.place _ c.requires.right
-    (row_at text lines c.args.place nothing c.requires.within)
+    rw c.requires.tables.by_power_is (link_is_right (rows_at text lines) c.args.place _ c.requires.right
+    (row_at text lines c.args.place nothing c.requires.within))
 
 pub link_fault-cause-requires-clause-even : goal.link_fault-cause-requires-clause-even
 link_fault-cause-requires-clause-even c =

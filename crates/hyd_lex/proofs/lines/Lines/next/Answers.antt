@@ -2,7 +2,7 @@ use Rattle.std.proofs.Common.{◌≡◌, ◌+◌, [], drop, refl, sym, ap, ◌�
 use Rattle.std.proofs.lemmas.List.{length-drop, drop_all}
 use Rattle.hyd_spec_lines.specs.WordsOfLines.{text_lines}
 use Rattle.hyd_lex.specs.RemainingRows.{items}
-use Rattle.hyd_lex.proofs.RowsByLine.{at_nothing, at_item, nothing_after_end, row_is, stands_after, line_at_place}
+use Rattle.hyd_lex.proofs.RowsByLine.{at_nothing, at_item, row_is, stands_after, line_at_place}
 use Rattle.hyd_lex.proofs.lines.Lines.next.Goals as goal
 
 pub loop-self-init : goal.loop-self-init
@@ -56,10 +56,6 @@ returns-in-Wrong-clause-some c =
     at_item c.args.self.now s.text.now s.at c.first_line-used.result.1 s.number s.region _ _ _ _
     c.loop-self.invariant c.first_line-used.ensures.lines
     c.kind_of-kind.ensures c.region_after-self-inside.ensures (rw c.in-Wrong.is refl)
-
-pub returns-in-Wrong-clause-fault : goal.returns-in-Wrong-clause-fault
-returns-in-Wrong-clause-fault c =
-    rw (c.region_after-self-inside.ensures, c.in-Wrong.is) (nothing_after_end _ _)
 
 pub invariant_of-self-in-Row : goal.invariant_of-self-in-Row
 invariant_of-self-in-Row c =

@@ -1,0 +1,4 @@
+pub mod OpenReportLine
+pub mod OpenReport
+pub mod ClaimsOfOpenLines
+pub mod PromisesOfOpenReports

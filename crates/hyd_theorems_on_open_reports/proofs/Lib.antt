@@ -1,0 +1,5 @@
+mod KnownLines
+mod QuietChanges
+mod OpenLinesHold
+mod EveryLineHolds
+mod OneOpenReport

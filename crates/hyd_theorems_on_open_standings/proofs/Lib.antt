@@ -1,0 +1,3 @@
+pub mod StocksInOrder
+pub mod WhatEndsLeave
+pub mod StandingsAreFirm
