@@ -6,6 +6,7 @@ ghost use Rattle.std.specs.Prelude.{◌≡◌, length};
 use crate::flows::add_flows;
 use crate::number_lists::{copy, sum_of_magnitudes};
 use crate::outflows::put_outflows;
+use crate::settling::settle;
 use crate::tangent::{PIECES, Tangent};
 use crate::ways::Ways;
 use hyd_laws_at_scale::Scale;
@@ -117,8 +118,8 @@ impl Approach {
         copy(&self.trial, &mut self.heads);
     }
 
-    /// Goes from where the heads begin to the least misses that it finds.
-    pub(crate) fn go(&mut self, net: &Net, ways: &[Ways], scale: Scale) {
+    // Goes from where the heads begin by Newton steps to the least misses that it finds.
+    fn descend(&mut self, net: &Net, ways: &[Ways], scale: Scale) {
         copy(&self.heads, &mut self.trial);
         copy(&self.heads, &mut self.best);
         put_misses(net, ways, scale, &self.heads, &mut self.misses);
@@ -140,5 +141,11 @@ impl Approach {
                 return;
             }
         }
+    }
+    /// Goes from where the heads begin to the least misses that it finds.
+    pub(crate) fn go(&mut self, net: &Net, ways: &[Ways], scale: Scale) {
+        self.descend(net, ways, scale);
+        put_misses(net, ways, scale, &self.best, &mut self.misses);
+        settle(net, ways, scale, &mut self.best, &mut self.misses);
     }
 }

@@ -13,6 +13,7 @@ mod number_lists;
 mod outflows;
 mod paths;
 mod search;
+mod settling;
 mod slopes;
 mod tangent;
 mod values;

@@ -1,0 +1,2 @@
+pub mod OneFront
+pub mod OneAnswer
