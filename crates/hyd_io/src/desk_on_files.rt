@@ -19,13 +19,13 @@ use std::rt::{Clock, Files};
 /// opened and created, and, where a file tells its own bytes, what is left in the one and held by the
 /// other. Any name may be opened and created.
 ///
-/// No file is lost by it. It creates neither over the file that it has opened nor over the one that it created last, nor
-/// over the one that standard output goes into, whatever names they are given: they are told by device and number
-/// there. Nor does it open the one that standard output goes into. And of a file that is there and not empty it looks at
-/// the first line: it is emptied where that is the header of a certificate, as `HYDCERT 1 20 3`, or of a witness, as
-/// `HYDWIT 1 2 20 30 3`, or, where the desk has neither opened nor created anything yet and so begins a network, where
-/// its first bytes are a heading of an input file; else it stays as it is, and `create` fails. A device or a pipe is
-/// never emptied.
+/// No file is lost by it. It creates neither over the file that it has opened nor over the one that standard output goes
+/// into, whatever names they are given: they are told by device and number there. Nor does it open the one that standard
+/// output goes into. And of a file that is there and not empty it looks at the first line: it is emptied where that is
+/// the header of a certificate, as `HYDCERT 1 20 3`, or of a witness, as `HYDWIT 1 2 20 30 3`, or, where the desk has
+/// neither opened nor created anything yet and so begins a network, where its first bytes are a heading of an input file;
+/// else it stays as it is, and `create` fails. The file that it created last is one like others, so that what was begun
+/// can be written anew. A device or a pipe is never emptied, and not created twice in a row.
 ///
 /// It says its sentences on standard error, each behind `hyd: `, and shows how far a work is where standard error is a
 /// terminal.

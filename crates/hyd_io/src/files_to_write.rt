@@ -172,22 +172,38 @@ fn open_to_write<R: Files>(rt: &R, name: &str) -> io::Result<R::File> {
     options.open(rt, name)
 }
 
-// Empties a file that was just opened, if its front is one of those that may go. That is the last step, so that a file
-// that can't be written is left as it was.
-fn empty<F: Read + Seek + OpenFile>(file: &mut F, content: Content) -> io::Result<()> {
+// Empties a file that was just opened, if its front is one of those that may go; else fails with the refusal. That is the
+// last step, so that a file that can't be written is left as it was.
+fn empty<F: Read + Seek + OpenFile>(
+    file: &mut F,
+    content: Content,
+    refusal: io::Error,
+) -> io::Result<()> {
     let front = front_of(file)?;
     if !may_be_emptied(content, &front) {
-        return Err(io::Error::new(
-            ErrorKind::AlreadyExists,
-            "it holds something else, which isn't overwritten",
-        ));
+        return Err(refusal);
     }
     file.seek(SeekFrom::Start(0))?;
     file.set_len(0)
 }
 
-/// Opens an empty file of this name to be written. One that is there is emptied, if it is neither of the two that are
-/// open nor the one that standard output goes into, nor begins otherwise than what may go; else it stays as it is.
+// Why a file that is open by another name stays as it is.
+fn open_already() -> io::Error {
+    io::Error::new(ErrorKind::ResourceBusy, "it is open by another name")
+}
+
+// Why a file with this front stays as it is: of the one that was created last its being open is said.
+fn holds_something_else(is_created_last: bool) -> io::Error {
+    if is_created_last {
+        open_already()
+    } else {
+        io::Error::new(ErrorKind::AlreadyExists, "it holds something else, which isn't overwritten")
+    }
+}
+
+/// Opens an empty file of this name to be written. One that is there is emptied, if it is neither the one that is read
+/// nor the one that standard output goes into, nor begins otherwise than what may go; else it stays as it is. So does a
+/// pipe or a device that was created last: what went there can't be taken back.
 pub(crate) fn create_file<R: Files>(
     rt: &R,
     name: &str,
@@ -197,14 +213,15 @@ pub(crate) fn create_file<R: Files>(
 ) -> io::Result<R::File> {
     let mut file = open_to_write(rt, name)?;
     let found = file.metadata()?;
-    if is_open(input, &found)? || is_open(output, &found)? {
-        return Err(io::Error::new(ErrorKind::ResourceBusy, "it is open by another name"));
+    let is_created_last = is_open(output, &found)?;
+    if is_open(input, &found)? || is_created_last && !found.is_file() {
+        return Err(open_already());
     }
     if is_standard_output(rt, &found) {
         return Err(goes_there());
     }
     if found.is_file() && found.len() > 0 {
-        empty(&mut file, content)?;
+        empty(&mut file, content, holds_something_else(is_created_last))?;
     }
     Ok(file)
 }

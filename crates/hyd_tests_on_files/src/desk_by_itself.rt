@@ -109,7 +109,7 @@ fn try_bytes<R: Files + Print + Eprint + Clock + Drop>(
     }
 }
 
-/// The file that is read isn't created over, nor the one that was created last, by whatever name.
+/// The file that is read isn't created over, by whatever name. The one that was created last is made anew.
 fn try_itself<R: Files + Print + Eprint + Clock + Drop>(
     alloc: Global,
     desk: &mut FileDesk<R>,
@@ -117,8 +117,8 @@ fn try_itself<R: Files + Print + Eprint + Clock + Drop>(
     desk.open("made.tmp")?;
     refuse(desk, "./made.tmp")?;
     refuse(desk, "folder/../made.tmp")?;
-    make(desk, "folder/made.tmp", SHORT)?;
-    refuse(desk, "folder/./made.tmp")?;
+    make(desk, "folder/made.tmp", varied(alloc, 1)?.as_slice())?;
+    make(desk, "folder/./made.tmp", SHORT)?;
     expect(alloc, desk, "made.tmp", SHORT)?;
     expect(alloc, desk, "folder/made.tmp", SHORT)
 }
