@@ -197,7 +197,10 @@ fn holds_something_else(is_created_last: bool) -> io::Error {
     if is_created_last {
         open_already()
     } else {
-        io::Error::new(ErrorKind::AlreadyExists, "it holds something else, which isn't overwritten")
+        io::Error::new(
+            ErrorKind::AlreadyExists,
+            "it holds something else, which isn't overwritten",
+        )
     }
 }
 
