@@ -1,9 +1,12 @@
 -- The standing at which a run begins.
-use Rattle.std.proofs.Common.{◌≡◌, false, sym, subst, arith, map}
+use Rattle.std.proofs.Common.{◌≡◌, ℕ, ◌<◌, List, length, false, sym, ◌∙◌, subst, arith, map}
+use Rattle.std.specs.Prelude.{slice_index_or}
+use Rattle.std.proofs.lemmas.List.{same_lists, length-map}
 use Rattle.hyd_net.specs.Sound.{IsSound}
-use Rattle.hyd_spec.specs.ProgramTypes.{Project}
+use Rattle.hyd_spec.specs.ProgramTypes.{Project, Link, LinkState}
 use Rattle.hyd_spec_certificates.specs.SpansAsIntervals.{levels_of}
 use Rattle.hyd_spec_certificates.specs.RecordAndStanding.{initial_standing}
+use Rattle.hyd_lemmas.proofs.ListsOptionsAndResults.{item_there, mapped}
 use Rattle.hyd_theorems_on_histories.specs.Agreement.{IsKept}
 use Rattle.hyd_theorems_on_histories.proofs.AgreementAfterPeriod.{kept_at_start}
 use Rattle.hyd_theorems_on_nesting.specs.StandingsOfRuns.{IsTidy}
@@ -40,3 +43,16 @@ module _ (project : Project) (here : Here) (number : here.number ≡ 0) (time : 
     few = omega (arith, number, time);
     unfinished = λ e. omega (arith, number, time);
   }
+
+-- each link is in the state in which it starts
+pub starts-are : (project : Project) (states : List LinkState) → length states ≡ length project.links.list
+    → ((k : ℕ) (link : Link) (state : LinkState) → k < length project.links.list
+    → slice_index_or states k state ≡ (slice_index_or project.links.list k link).start)
+    → states ≡ map (λ (link : Link). link.start) project.links.list
+starts-are project states long are =
+    same_lists states (map (λ (link : Link). link.start) project.links.list)
+    (long ∙ sym (length-map project.links.list (λ (link : Link). link.start)))
+    (λ k d lt.
+    let within : k < length project.links.list = omega (arith, long, lt) in
+    let link = (item_there project.links.list k within).0 in
+    are k link d within ∙ sym (mapped (λ (l : Link). l.start) project.links.list k d link within))

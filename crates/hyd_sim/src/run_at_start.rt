@@ -1,12 +1,15 @@
 //! The opening of a run.
 #![tactic(auto)]
 
-ghost use Rattle.std.specs.Prelude.{◌≡◌, length, map, None, IfOk};
+ghost use Rattle.std.specs.Prelude.{◌≡◌, false, length, map, None, IfOk};
 ghost use Rattle.hyd_net.specs.Sound.{IsSound};
 ghost use Rattle.hyd_spec_certificates.specs.RecordAndStanding.{initial_standing};
+ghost use Rattle.hyd_spec_certificates.specs.SpansAsIntervals.{levels_of};
+ghost use Rattle.hyd_tank.specs.StockIntervals.{volumes_of};
 ghost use Rattle.hyd_cert.specs.RecordView.{header_of};
-ghost use Rattle.hyd_period_end.specs.EndOfPeriod.{HasRoom as HasCloseRoom};
+ghost use Rattle.hyd_period_end.specs.EndOfPeriod.{HasRoom as HasCloseRoom, AreKeptIn};
 ghost use Rattle.hyd_period_facts.specs.ReservedMemory.{HasRoom};
+ghost use Rattle.hyd_period_facts.specs.RoomForStocks.{HasRoom as HasNextRoom};
 ghost use Rattle.hyd_period_network.specs.NetsSetToPeriods.{IsNetOf};
 ghost use Rattle.hyd_sim.specs.RunView.{IsStanding, header_for, standing_for, standing_of};
 
@@ -31,6 +34,49 @@ fn starts(alloc: Global, project: &Project) -> Result<Vec<LinkState>, OutOfMemor
         states.push(links[place].start)?;
     }
     Ok(states)
+}
+
+// Puts the states in which links start.
+fn put_starts(project: &Project, states: &mut [LinkState])
+    requires { length states.old ≡ length project.now.links.list }
+    ensures { states.new ≡ map (λ link. link.start) project.now.links.list }
+{
+    let links = project.links.as_slice();
+    for place in 0..states.len() {
+        states[place] = links[place].start;
+    }
+}
+
+// Puts a network's start into a standing that has room for it.
+fn put_start(project: &Project, standing: &mut Standing)
+    requires sound { IsSound project.now }
+    requires room { HasNextRoom project.now standing.old.stocks }
+    requires each { length standing.old.commanded.items ≡ length project.now.links.list }
+    ensures number { standing.new.number ≡ 0 }
+    ensures time { standing.new.time ≡ 0 }
+    ensures levels { map levels_of standing.new.stocks.levels.list ≡ (initial_standing project.now).levels }
+    ensures volumes { map volumes_of standing.new.stocks.volumes.list ≡ (initial_standing project.now).volumes }
+    ensures tanks { standing.new.stocks.tanks.list ≡ (initial_standing project.now).tanks }
+    ensures commanded { standing.new.commanded.items ≡ (initial_standing project.now).commanded }
+    ensures finished { standing.new.finished ≡ false }
+    ensures held { AreKeptIn project.now standing.new.stocks }
+    ensures room { HasNextRoom project.now standing.new.stocks }
+{
+    standing.stocks.begin(project);
+    put_starts(project, &mut standing.commanded);
+    standing.number = 0;
+    standing.time = 0;
+    standing.finished = false;
+}
+
+// Makes a standing of a run the one at which it begins.
+fn begin(project: &Project, standing: &mut Standing)
+    requires sound { IsSound project.now }
+    requires standing { IsStanding project.now standing.old }
+    ensures initial { standing_for standing.new ≡ initial_standing project.now }
+    ensures standing { IsStanding project.now standing.new }
+{
+    put_start(project, standing);
 }
 
 // The standing at which a run begins.
@@ -152,5 +198,16 @@ impl Sim {
             close: parts.period.close,
             stopped: None,
         })
+    }
+
+    /// Stands at its start again. It takes no memory.
+    pub fn begin(&mut self)
+        ensures standing { standing_of self.new ≡ initial_standing self.old.project }
+        ensures running { self.new.stopped ≡ None }
+        ensures project { self.new.project ≡ self.old.project }
+        ensures settings { self.new.settings ≡ self.old.settings }
+    {
+        begin(&self.project, &mut self.standing);
+        self.stopped = None;
     }
 }
