@@ -9,14 +9,14 @@ use Rattle.hyd_io.proofs.MovedBytesLemmas.{prepend_known-prepend_known}
 use Rattle.hyd_io.specs.declared.desk.Faults.{Faults}
 use Rattle.hyd_spec_certificates.specs.CertificateText.{line, head_lines}
 use Rattle.hyd_theorems_on_definitions.proofs.CertificateLines.{decimal-same}
-use Rattle.hyd_cert.specs.TextsWithoutLine.{HasNo}
+use Rattle.hyd_line_reader.specs.TextsWithoutLine.{HasNo}
 use Rattle.hyd_cert.specs.Lines.{Header, header_words}
 use Rattle.hyd_cert.specs.Faults.{IsLineFault}
 use Rattle.hyd_cert.specs.PlacesWithFlows.{IsFlowsHeaderLine, IsFlowsLine, IsNameLine, held_lines, with_flows}
 use Rattle.hyd_cert.specs.ReaderWithFlows.{LacksFlowsHeader, OnRefusal, HasOtherCounts}
 use Rattle.hyd_cert.specs.declared.answers_of_reader.CertFault.{CertFault}
 use Rattle.hyd_cert.specs.declared.answers_of_reader.CertFault.TheVariants.{Read, Grammar, Count}
-use Rattle.hyd_cert.proofs.SplitTexts.{split-same}
+use Rattle.hyd_line_reader.proofs.SplitTexts.{split-same}
 use Rattle.hyd_cert.proofs.LineLemmas.{wide_free, has_no_append, joined_pieces, number_piece}
 use Rattle.hyd_cert.proofs.LineLemmas.{piece_line}
 

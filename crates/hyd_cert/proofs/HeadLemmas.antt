@@ -17,7 +17,7 @@ use Rattle.hyd_cert.specs.declared.answers_of_reader.CertFault.{CertFault}
 use Rattle.hyd_cert.specs.declared.answers_of_reader.CertFault.TheVariants.{Read, Grammar, Count}
 use Rattle.hyd_spec_certificates.specs.CertificateText.{words}
 use Rattle.hyd_theorems_on_definitions.proofs.CertificateLines.{header-short}
-use Rattle.hyd_cert.specs.TextsWithoutLine.{HasNo}
+use Rattle.hyd_line_reader.specs.TextsWithoutLine.{HasNo}
 use Rattle.hyd_cert.proofs.LineLemmas.{header_is_line}
 use Rattle.hyd_cert.specs.PeriodOrEndLine.{IsPeriodOrEnd}
 use Rattle.hyd_cert.specs.Lines.{Header, IsHeaderLine, IsHeadLine, IsPeriodLine, IsEndLine, end_word}

@@ -1,8 +1,6 @@
 pub mod TextsAtFault
 pub mod HeadLemmas
 pub mod LineLemmas
-pub mod Numerals
-pub mod SplitTexts
 pub mod CertificatesLineByLine
 pub mod WholeTextLemmas
 pub mod VectorLemmas

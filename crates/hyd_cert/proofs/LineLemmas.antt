@@ -9,7 +9,7 @@ use Rattle.std.proofs.lemmas.Str.Parse.{digit_from_value}
 use Rattle.std.proofs.lemmas.Int.{ints}
 use Rattle.std.proofs.lemmas.List.{append_cancel_left}
 use Rattle.hyd_spec_certificates.specs.Certificate.{IsInBox}
-use Rattle.hyd_cert.specs.TextsWithoutLine.{HasNo}
+use Rattle.hyd_line_reader.specs.TextsWithoutLine.{HasNo}
 use Rattle.hyd_io.specs.DeskBytes.{prepend_known}
 use Rattle.hyd_io.specs.declared.desk.Faults.{Faults}
 use Rattle.hyd_cert.specs.declared.answers_of_reader.CertFault.{CertFault}
@@ -20,8 +20,8 @@ use Rattle.hyd_cert.specs.Faults.{IsFront, IsLineFault}
 use Rattle.hyd_cert.specs.PeriodOrEndLine.{IsPeriodOrEnd}
 use Rattle.hyd_cert.specs.Lines.{Header, IsHeadLine, IsPeriodLine, IsEndLine, IsHeaderLine, end_word}
 use Rattle.hyd_lemmas.proofs.ListsOptionsAndResults.{same_item}
-use Rattle.hyd_cert.proofs.Numerals.{short_numeral}
-use Rattle.hyd_cert.proofs.SplitTexts.{split-same, has_none}
+use Rattle.hyd_line_reader.proofs.Numerals.{short_numeral}
+use Rattle.hyd_line_reader.proofs.SplitTexts.{split-same, has_none}
 
 -- ---- numerals have digits alone
 

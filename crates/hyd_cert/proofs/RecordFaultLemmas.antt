@@ -21,7 +21,7 @@ use Rattle.hyd_cert.specs.declared.answers_of_reader.CertFault.TheVariants.{Read
 use Rattle.hyd_cert.specs.declared.answers_of_reader.CertNext.{CertNext}
 use Rattle.hyd_cert.specs.declared.answers_of_reader.Stand.{Stand}
 use Rattle.hyd_cert.specs.declared.answers_of_reader.Stand.TheVariants as stand
-use Rattle.hyd_cert.proofs.SplitTexts.{split-same}
+use Rattle.hyd_line_reader.proofs.SplitTexts.{split-same}
 use Rattle.hyd_cert.proofs.HeadLemmas.{place_head, period_is}
 use Rattle.hyd_cert.proofs.TextsAtFault.{stands_alone, may_stand, next_same, has_rest}
 use Rattle.hyd_cert.proofs.VectorLemmas.{row_text}

@@ -8,12 +8,12 @@ use Rattle.std.proofs.lemmas.Bool.Decides.{Decides-ltb}
 use Rattle.hyd_spec_certificates.specs.CertificateText.{words, line_feeds}
 use Rattle.hyd_cert.specs.Lines.{Header, IsHeaderLine, end_word}
 use Rattle.hyd_io.specs.DeskBytes.{prepend_known}
-use Rattle.hyd_cert.specs.TextsWithoutLine.{HasNo}
+use Rattle.hyd_line_reader.specs.TextsWithoutLine.{HasNo}
 use Rattle.hyd_cert.specs.PlacesOfLines.{Place, First, Between, Head, Over, CanStand, MayStand, IsFault, here, later}
 use Rattle.hyd_cert.specs.PlacesOfLines.{front_at, heads_in, place_after, Goes, ends, goes}
 use Rattle.hyd_lemmas.proofs.ListsOptionsAndResults.{same_item}
 use Rattle.hyd_theorems_on_definitions.proofs.CertificateLines.{decimal-same}
-use Rattle.hyd_cert.proofs.SplitTexts.{split-same}
+use Rattle.hyd_line_reader.proofs.SplitTexts.{split-same}
 use Rattle.std.proofs.lemmas.Bool.{eqb-true}
 use Rattle.std.proofs.lemmas.List.{append_cancel_left}
 use Rattle.hyd_cert.specs.PlacesOfLines.{Lacks}

@@ -4,13 +4,13 @@ use Rattle.std.proofs.Common.{◌++◌, Option, Some, refl, sym, ap, ap₂, subs
 use Rattle.std.proofs.lemmas.Bool.{eqb-true}
 use Rattle.hyd_spec_certificates.specs.CertificateText.{line_feeds}
 use Rattle.hyd_cert.specs.Lines.{Header, IsHeaderLine}
-use Rattle.hyd_cert.specs.TextsWithoutLine.{HasNo}
+use Rattle.hyd_line_reader.specs.TextsWithoutLine.{HasNo}
 use Rattle.hyd_cert.specs.PlacesOfLines.{Place, First, Between, MayStand, IsFault, here, later, Lacks, CanStand, Goes}
 use Rattle.hyd_cert.specs.PlacesOfLines.{goes}
 use Rattle.hyd_cert.specs.Faults.{HasOtherHeader}
 use Rattle.hyd_cert.specs.FaultyLine.{IsCertificate, IsLines, HasFirstLine, ended, unended, IsFirstFault}
 use Rattle.hyd_lemmas.proofs.BooleanTests.{equal_by_order}
-use Rattle.hyd_cert.proofs.SplitTexts.{split-same, has_none}
+use Rattle.hyd_line_reader.proofs.SplitTexts.{split-same, has_none}
 use Rattle.hyd_cert.proofs.LineLemmas.{header_is_line}
 use Rattle.hyd_cert.proofs.TextsAtFault.{HasRest, between_goes, can_go_on, FaultFrom, fault_from, later_fault}
 use Rattle.hyd_cert.proofs.TextsAtFault.{no_certificate, GoesOn, opened, has_rest, header_same, goes_behind}

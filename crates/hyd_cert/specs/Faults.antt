@@ -5,7 +5,7 @@ use Rattle.hyd_io.specs.declared.desk.Faults.{Faults}
 use Rattle.hyd_io.specs.DeskCounts.{with_read_fault}
 use Rattle.hyd_spec_certificates.specs.RecordAndStanding.{Record}
 use Rattle.hyd_spec_certificates.specs.CertificateText.{IsRow, record_text}
-use Rattle.hyd_cert.specs.TextsWithoutLine.{HasNo}
+use Rattle.hyd_line_reader.specs.TextsWithoutLine.{HasNo}
 use Rattle.hyd_cert.specs.Lines.{Header, IsHeaderLine}
 use Rattle.hyd_cert.specs.PlacesOfLines.{Place, First, Lacks, IsFault, heads_in, place_after}
 use Rattle.hyd_cert.specs.ReaderView.{lead}

@@ -5,7 +5,7 @@ use Rattle.hyd_spec.specs.Lists.{joined}
 use Rattle.hyd_io.specs.DeskBytes.{prepend_known}
 use Rattle.hyd_spec_certificates.specs.RecordAndStanding.{Record}
 use Rattle.hyd_spec_certificates.specs.CertificateText.{IsCertificateText, record_text, line_feeds}
-use Rattle.hyd_cert.specs.TextsWithoutLine.{HasNo}
+use Rattle.hyd_line_reader.specs.TextsWithoutLine.{HasNo}
 use Rattle.hyd_cert.specs.Lines.{Header, header_text}
 use Rattle.hyd_cert.specs.PlacesOfLines.{heads_in}
 

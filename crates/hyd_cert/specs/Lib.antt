@@ -1,4 +1,3 @@
-pub mod TextsWithoutLine
 pub mod Faults
 pub mod Lines
 pub mod PeriodOrEndLine

@@ -7,7 +7,6 @@
 mod answers_of_reader;
 mod certificate_version;
 mod flow_part;
-mod line_reader;
 mod lines;
 mod lines_with_flows;
 mod named_vectors;
@@ -15,7 +14,6 @@ mod reader;
 mod reader_with_flows;
 mod record;
 mod theorems_on_texts_and_faults;
-mod words;
 mod writer;
 mod writer_with_flows;
 

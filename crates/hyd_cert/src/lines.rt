@@ -8,7 +8,7 @@ ghost use Rattle.hyd_cert.specs.PeriodOrEndLine.{next_text, NextFits, IsPeriodOr
 ghost use Rattle.hyd_cert.specs.Lines.{Header, IsHeadLine, IsPeriodLine, IsEndLine, IsHeaderLine, end_word};
 
 use crate::answers_of_reader::EndLine;
-use crate::words::{after, head, is_number, small_number, split_word};
+use hyd_line_reader::{after, head, is_number, small_number, split_word};
 
 /// What a PERIOD line says.
 #[derive(Clone, Copy, Drop)]

@@ -5,7 +5,7 @@ ghost use Rattle.hyd_cert.specs.Lines.{Header};
 ghost use Rattle.hyd_cert.specs.PlacesWithFlows.{IsFlowsHeaderLine, IsFlowsLine, IsNameLine};
 
 use crate::flow_part::MOST_NAMES;
-use crate::words::{after, is_number, small_number, split_word};
+use hyd_line_reader::{after, is_number, small_number, split_word};
 
 /// Whether the line is a header line of version 3, of counts of any size.
 pub(crate) fn is_flows_header_line(line: &[u8]) -> bool

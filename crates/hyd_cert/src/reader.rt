@@ -8,7 +8,7 @@ ghost use Rattle.hyd_io.specs.DeskCounts.{with_read_fault};
 ghost use Rattle.hyd_io.specs.LeftAsItWas.{KeepsOutput};
 ghost use Rattle.hyd_spec_certificates.specs.Certificate.{IsInBox};
 ghost use Rattle.hyd_spec_certificates.specs.CertificateText.{IsRow, record_text, end_line};
-ghost use Rattle.hyd_cert.specs.TextsWithoutLine.{HasNo};
+ghost use Rattle.hyd_line_reader.specs.TextsWithoutLine.{HasNo};
 ghost use Rattle.hyd_cert.specs.Lines.{Header, IsHeadLine, header_text};
 ghost use Rattle.hyd_cert.specs.PeriodOrEndLine.{next_text, NextFits, IsPeriodOrEnd};
 ghost use Rattle.hyd_cert.specs.PlacesOfLines.{First, Between, front_of, heads_in, head_text};
@@ -25,12 +25,12 @@ ghost use Rattle.hyd_cert.specs.declared.answers_of_reader.Stand.TheVariants as 
 
 use crate::answers_of_reader::{CertFault, CertNext, EndLine, Stand};
 use crate::flow_part::FlowPart;
-use crate::line_reader::Source;
 use crate::lines::{Next, head_line, is_header_line, period_or_end};
 use crate::reader_with_flows::{read_entry, read_first_entry};
 use crate::record::{Record, has_small_counts};
 use crate::writer::{front_of, is_header_of};
 use hyd_io::Desk;
+use hyd_line_reader::Source;
 use std::marker::Model;
 
 /// The lines of a text, and how many were passed.

@@ -10,33 +10,12 @@ ghost use Rattle.hyd_cert.specs.RecordView.{header_of, row_of};
 ghost use Rattle.hyd_io.specs.Output.{OnCert};
 ghost use Rattle.hyd_io.specs.TextPutIn.{Puts};
 
-use crate::line_reader::LINE;
 use crate::record::Record;
 use hyd_io::{Desk, OutFault, Pen};
+use hyd_line_reader::{LINE, append, append_number};
 use itoa::Buffer;
 
 // ---- lines
-
-/// Appends the word to the bytes of the buffer that are used, and returns how many are then.
-pub(crate) fn append(buffer: &mut [u8; LINE], used: usize, word: &[u8]) -> usize
-    requires { used + length word.now ≤ 64 }
-    ensures used { result ≡ used + length word.now }
-    ensures text { take result buffer.new ≡ take used buffer.old ++ word.now }
-{
-    let end = used + word.len();
-    buffer[used..end].copy_from_slice(word);
-    end
-}
-
-/// Appends a number below 2^32.
-pub(crate) fn append_number(buffer: &mut [u8; LINE], used: usize, number: u32) -> usize
-    requires { used ≤ 54 }
-    ensures used { result ≤ used + 10 }
-    ensures text { take result buffer.new ≡ take used buffer.old ++ decimal number }
-{
-    let mut digits = Buffer::new();
-    append(buffer, used, digits.format(number).as_bytes())
-}
 
 /// Makes the header line of the record's text, without its line feed, and returns its length.
 fn make_header(buffer: &mut [u8; LINE], row: &Record) -> usize

@@ -12,11 +12,11 @@ ghost use Rattle.hyd_io.specs.Output.{OnCert};
 ghost use Rattle.hyd_io.specs.TextPutIn.{Puts};
 
 use crate::flow_part::FlowPart;
-use crate::line_reader::LINE;
 use crate::named_vectors::NamedVectors;
 use crate::record::Record;
-use crate::writer::{append, append_number, make_header_of, put_head_line};
+use crate::writer::{make_header_of, put_head_line};
 use hyd_io::{Desk, OutFault, Pen};
+use hyd_line_reader::{LINE, append, append_number};
 use hyd_spec_certificates::Side;
 
 /// The version of certificate texts with flows.

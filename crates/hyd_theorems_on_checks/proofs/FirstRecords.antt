@@ -9,7 +9,7 @@ use Rattle.hyd_spec_certificates.specs.RecordAndStanding.{Record, Vectors}
 use Rattle.hyd_spec_certificates.specs.CertificateText.{words, line, header_line, period_line, head_lines, vectors_text}
 use Rattle.hyd_spec_certificates.specs.CertificateText.{record_text, end_line, IsRow, IsCertificateText}
 use Rattle.hyd_theorems_on_definitions.proofs.CertificateLines.{contents-same}
-use Rattle.hyd_cert.specs.TextsWithoutLine.{HasNo}
+use Rattle.hyd_line_reader.specs.TextsWithoutLine.{HasNo}
 use Rattle.hyd_cert.specs.Lines.{Header, header_words, header_text}
 use Rattle.hyd_cert.specs.PlacesOfLines.{Place, First, Between, Head, Over, CanStand, front_of, Goes, ends, goes}
 use Rattle.hyd_cert.specs.FaultyLine.{IsCertificate, IsLines}

@@ -15,10 +15,10 @@ use Rattle.hyd_spec_certificates.specs.CertificateText.{certificate_text, IsCert
 use Rattle.hyd_spec_flows.specs.FlowParts.{NamedLink, FlowPart}
 use Rattle.hyd_spec_flows.specs.FlowTexts.{Entry, IsEntry, IsPart, IsNamed, IsTextWithFlows, flows_version, entry_text}
 use Rattle.hyd_spec_flows.specs.FlowTexts.{part_text, named_text, name_line, flows_line}
-use Rattle.hyd_cert.specs.TextsWithoutLine.{HasNo}
+use Rattle.hyd_line_reader.specs.TextsWithoutLine.{HasNo}
 use Rattle.hyd_cert.specs.PlacesOfLines.{front_at, head_text}
 use Rattle.hyd_cert.specs.PlacesWithFlows.{held_lines}
-use Rattle.hyd_cert.proofs.SplitTexts.{split-same}
+use Rattle.hyd_line_reader.proofs.SplitTexts.{split-same}
 use Rattle.hyd_cert.proofs.LineLemmas.{head_free, wide_free, next_is_line}
 use Rattle.hyd_cert.proofs.CertificatesLineByLine.{by_heads, flat}
 use Rattle.hyd_cert.proofs.HeadLemmas.{period_is}

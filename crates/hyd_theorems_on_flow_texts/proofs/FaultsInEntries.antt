@@ -19,7 +19,7 @@ use Rattle.hyd_cert.specs.PlacesWithFlows.{flows_after, behind_link, held_after,
 use Rattle.hyd_cert.specs.PlacesWithFlows.{IsFlowsHeaderLine, with_flows as as_with_flows}
 use Rattle.hyd_cert.specs.ReaderWithFlows.{LacksFlowsHeader}
 use Rattle.hyd_cert.specs.FaultyLine.{IsLines, HasFirstLine, ended, unended}
-use Rattle.hyd_cert.proofs.SplitTexts.{split-same}
+use Rattle.hyd_line_reader.proofs.SplitTexts.{split-same}
 use Rattle.hyd_cert.proofs.TextsAtFault.{has_rest, no_feeds, is_lines_more}
 use Rattle.hyd_cert.proofs.WholeTextLemmas.{feeds_append}
 use Rattle.hyd_lemmas.proofs.ListsOptionsAndResults.{joined_append}

@@ -6,10 +6,10 @@ use Rattle.std.proofs.lemmas.List.{append_cancel_left}
 use Rattle.hyd_spec_certificates.specs.RecordAndStanding.{Record}
 use Rattle.hyd_spec_certificates.specs.CertificateText.{header_line, IsCertificateText}
 use Rattle.hyd_spec_flows.specs.FlowTexts.{Entry, IsTextWithFlows, flows_version, is_with_flows}
-use Rattle.hyd_cert.specs.TextsWithoutLine.{HasNo}
+use Rattle.hyd_line_reader.specs.TextsWithoutLine.{HasNo}
 use Rattle.hyd_cert.specs.Lines.{Header, header_words, IsHeaderLine}
 use Rattle.hyd_cert.specs.PlacesWithFlows.{IsFlowsHeaderLine}
-use Rattle.hyd_cert.proofs.SplitTexts.{split-same}
+use Rattle.hyd_line_reader.proofs.SplitTexts.{split-same}
 use Rattle.hyd_cert.proofs.LineLemmas.{wide_free, header_is_line, one_known, two_known}
 use Rattle.hyd_cert.proofs.FlowLineLemmas.{flows_header_parts, flows_header_is_line}
 use Rattle.hyd_theorems_on_definitions.proofs.CertificateLines.{decimal-same, header-short}

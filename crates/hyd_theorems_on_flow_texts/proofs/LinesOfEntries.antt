@@ -12,7 +12,7 @@ use Rattle.hyd_spec_certificates.specs.CertificateText.{IsVector}
 use Rattle.hyd_spec_certificates.specs.CertificateText.{IsRow, end_line}
 use Rattle.hyd_spec_flows.specs.FlowParts.{NamedLink, FlowPart}
 use Rattle.hyd_spec_flows.specs.FlowTexts.{IsNamed, IsPart, named_text, part_text}
-use Rattle.hyd_cert.specs.TextsWithoutLine.{HasNo}
+use Rattle.hyd_line_reader.specs.TextsWithoutLine.{HasNo}
 use Rattle.hyd_cert.specs.Lines.{end_word}
 use Rattle.hyd_cert.specs.PlacesOfLines.{heads_in}
 use Rattle.hyd_cert.specs.ReaderWithFlows.{part_behind, IsPartBehind, part_lines}

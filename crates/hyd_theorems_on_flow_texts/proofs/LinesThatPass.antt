@@ -13,13 +13,13 @@ use Rattle.hyd_spec_flows.specs.FlowParts.{NamedLink, FlowPart as Part}
 use Rattle.hyd_spec_flows.specs.FlowTexts.{Entry, IsEntry, IsPart, IsNamed, entry_text, part_text, named_text}
 use Rattle.hyd_spec_flows.specs.FlowTexts.{name_line}
 use Rattle.hyd_spec_flows.specs.FlowTexts.{flows_line}
-use Rattle.hyd_cert.specs.TextsWithoutLine.{HasNo}
+use Rattle.hyd_line_reader.specs.TextsWithoutLine.{HasNo}
 use Rattle.hyd_cert.specs.Faults.{IsFront}
 use Rattle.hyd_cert.specs.Lines.{Header, end_word}
 use Rattle.hyd_cert.specs.PlacesOfLines.{front_at, heads_in, head_text}
 use Rattle.hyd_cert.specs.PlacesWithFlows.{FlowPlace, Between, Head, Flows, Name, HeldHead, Over, CanFollow}
 use Rattle.hyd_cert.specs.PlacesWithFlows.{flows_after, behind_link, held_after, held_front, held_lines}
-use Rattle.hyd_cert.proofs.SplitTexts.{split-same}
+use Rattle.hyd_line_reader.proofs.SplitTexts.{split-same}
 use Rattle.hyd_cert.proofs.LineLemmas.{next_is_line, head_is_line}
 use Rattle.hyd_cert.proofs.HeadLemmas.{is_front, end_is}
 use Rattle.hyd_cert.proofs.CertificatesLineByLine.{by_heads, flat}

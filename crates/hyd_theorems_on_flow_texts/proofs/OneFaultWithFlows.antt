@@ -8,12 +8,12 @@ use Rattle.std.proofs.lemmas.List.Elements.{All-nil}
 use Rattle.hyd_spec_certificates.specs.CertificateText.{header_line, end_line, line_feeds}
 use Rattle.hyd_spec_flows.specs.FlowTexts.{IsEntry, IsTextWithFlows, with_flows, flows_version}
 use Rattle.hyd_lemmas.proofs.BooleanTests.{equal_by_order}
-use Rattle.hyd_cert.specs.TextsWithoutLine.{HasNo}
+use Rattle.hyd_line_reader.specs.TextsWithoutLine.{HasNo}
 use Rattle.hyd_cert.specs.Lines.{Header, header_words}
 use Rattle.hyd_cert.specs.FaultyLine.{IsLines, HasFirstLine, ended, unended}
 use Rattle.hyd_cert.specs.PlacesWithFlows.{IsFlowsHeaderLine}
 use Rattle.hyd_cert.specs.ReaderWithFlows.{HasOtherCounts}
-use Rattle.hyd_cert.proofs.SplitTexts.{split-same, has_none}
+use Rattle.hyd_line_reader.proofs.SplitTexts.{split-same, has_none}
 use Rattle.hyd_cert.proofs.TextsAtFault.{has_rest, no_feeds}
 use Rattle.hyd_cert.proofs.WholeTextLemmas.{feeds_append}
 use Rattle.hyd_theorems_on_flow_texts.specs.FaultyLineWithFlows.{IsCertificateWithFlows, IsSomeCertificate}

@@ -11,7 +11,7 @@ use Rattle.hyd_spec_certificates.specs.CertificateText.{IsCertificateText, IsRow
 use Rattle.hyd_spec_certificates.specs.CertificateText.{end_line, certificate_text}
 use Rattle.hyd_cert.specs.Faults.{HasOtherHeader}
 use Rattle.hyd_cert.specs.Lines.{IsHeaderLine, header_words}
-use Rattle.hyd_cert.proofs.SplitTexts.{split-same}
+use Rattle.hyd_line_reader.proofs.SplitTexts.{split-same}
 use Rattle.hyd_cert.proofs.LineLemmas.{header_is_line}
 use Rattle.hyd_cert.proofs.TextsAtFault.{has_rest, header_same}
 use Rattle.hyd_cert.proofs.HeadLemmas.{header_is}

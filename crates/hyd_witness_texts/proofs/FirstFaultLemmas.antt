@@ -8,10 +8,10 @@ use Rattle.hyd_io.specs.DeskCounts.{with_read_fault}
 use Rattle.hyd_io.specs.declared.desk.Faults.{Faults}
 use Rattle.hyd_spec_certificates.specs.CertificateText.{line_feeds}
 use Rattle.hyd_spec_witnesses.specs.FaultyLine.{IsLines, HasFirstLine, ended, unended}
-use Rattle.hyd_cert.specs.TextsWithoutLine.{HasNo}
+use Rattle.hyd_line_reader.specs.TextsWithoutLine.{HasNo}
 use Rattle.hyd_cert.specs.PlacesOfLines.{Lacks}
 use Rattle.hyd_cert.specs.Faults.{lines_on}
-use Rattle.hyd_cert.proofs.SplitTexts.{split-same, has_none}
+use Rattle.hyd_line_reader.proofs.SplitTexts.{split-same, has_none}
 use Rattle.hyd_witness_texts.specs.FirstFaults.{IsFirstFault, IsLineFault, IsTextFault}
 use Rattle.hyd_witness_texts.specs.declared.answers_of_reader.WitnessFault.{WitnessFault}
 use Rattle.hyd_witness_texts.specs.declared.answers_of_reader.WitnessFault.TheVariants.{Read, Grammar}

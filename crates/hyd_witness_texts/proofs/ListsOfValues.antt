@@ -17,7 +17,7 @@ use Rattle.hyd_cert.specs.Faults.{lines_on}
 use Rattle.hyd_lemmas.proofs.ListsOptionsAndResults.{join-more}
 use Rattle.hyd_witness_texts.specs.declared.answers_of_reader.WitnessFault.{WitnessFault}
 use Rattle.std.proofs.lemmas.Int.{ints}
-use Rattle.hyd_cert.specs.TextsWithoutLine.{HasNo}
+use Rattle.hyd_line_reader.specs.TextsWithoutLine.{HasNo}
 use Rattle.hyd_cert.specs.PlacesOfLines.{Lacks}
 use Rattle.hyd_witness_texts.specs.Lines.{IsValueLine, IsStockLine}
 use Rattle.hyd_witness_texts.specs.FirstFaults.{Begins, IsFaultAtFront, IsLineFault, IsTextFault}

@@ -12,7 +12,7 @@ use Rattle.std.proofs.Math.Nat.{pow-le-pow_right}
 use Rattle.hyd_lemmas.proofs.BooleanTests.{equal_by_order}
 use Rattle.hyd_io.proofs.MovedBytesLemmas.{take-drop}
 use Rattle.hyd_spec_witnesses.specs.WitnessText.{IsValue}
-use Rattle.hyd_cert.proofs.Numerals.{own, wide_numeral, wide_zero, digits_spell}
+use Rattle.hyd_line_reader.proofs.Numerals.{own, wide_numeral, wide_zero, digits_spell}
 
 -- ---- numbers below 10^25
 

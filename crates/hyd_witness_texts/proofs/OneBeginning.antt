@@ -11,8 +11,8 @@ use Rattle.hyd_spec_witnesses.specs.MetPeriods.{Moment}
 use Rattle.hyd_spec_witnesses.specs.WitnessText.{Counts, IsMoment, IsScale, IsValue, AreValues, moment_line}
 use Rattle.hyd_spec_witnesses.specs.WitnessText.{moment_text, value_lines, stock_line, stock_lines, witness_header}
 use Rattle.hyd_theorems_on_definitions.proofs.CertificateLines.{decimal-same}
-use Rattle.hyd_cert.specs.TextsWithoutLine.{HasNo}
-use Rattle.hyd_cert.proofs.SplitTexts.{split-same}
+use Rattle.hyd_line_reader.specs.TextsWithoutLine.{HasNo}
+use Rattle.hyd_line_reader.proofs.SplitTexts.{split-same}
 use Rattle.hyd_cert.proofs.LineLemmas.{wide_free}
 use Rattle.hyd_witness_texts.specs.Lines.{header_words}
 use Rattle.hyd_witness_texts.specs.PartsOfWitness.{LacksMoment, lists_text}

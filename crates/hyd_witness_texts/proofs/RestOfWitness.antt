@@ -12,7 +12,7 @@ use Rattle.hyd_spec_witnesses.specs.MetPeriods.{Moment}
 use Rattle.hyd_spec_witnesses.specs.WitnessText.{Counts, IsMoment, IsScale, moment_line, moment_text}
 use Rattle.hyd_spec_witnesses.specs.WitnessText.{witness_end, witness_header}
 use Rattle.hyd_spec_witnesses.specs.FaultyLine.{IsLines, IsWitness, IsFaultyLine}
-use Rattle.hyd_cert.specs.TextsWithoutLine.{HasNo}
+use Rattle.hyd_line_reader.specs.TextsWithoutLine.{HasNo}
 use Rattle.hyd_cert.specs.PlacesOfLines.{Lacks}
 use Rattle.hyd_cert.specs.Lines.{IsPeriodLine}
 use Rattle.hyd_cert.proofs.HeadLemmas.{period_is}

@@ -8,10 +8,10 @@ use Rattle.std.proofs.lemmas.List.{append_cancel_left}
 use Rattle.std.proofs.Math.Nat.{pow-le-pow_right}
 use Rattle.hyd_spec_certificates.specs.CertificateText.{words}
 use Rattle.hyd_spec_witnesses.specs.WitnessText.{Counts, IsScale, IsValue}
-use Rattle.hyd_cert.specs.TextsWithoutLine.{HasNo}
+use Rattle.hyd_line_reader.specs.TextsWithoutLine.{HasNo}
 use Rattle.hyd_cert.specs.Lines.{IsPeriodLine}
 use Rattle.hyd_theorems_on_definitions.proofs.CertificateLines.{decimal-same}
-use Rattle.hyd_cert.proofs.SplitTexts.{split-same, has_none}
+use Rattle.hyd_line_reader.proofs.SplitTexts.{split-same, has_none}
 use Rattle.hyd_cert.proofs.LineLemmas.{IsPiece, joined_pieces, number_piece, piece_line, wide_free, next_is_line}
 use Rattle.hyd_witness_texts.specs.Lines.{IsHeaderLine, IsValueLine, IsStockLine, header_words}
 use Rattle.hyd_witness_texts.specs.PeriodOrEndLine.{IsPeriodOrEnd, end_words}

@@ -8,8 +8,8 @@ ghost use Rattle.hyd_witness_texts.specs.MomentView.{counts_in};
 
 use crate::counts::{NetworkCounts, has_small_counts};
 use crate::numbers_read::scale;
-use crate::words::{after, split_word};
 use crate::writer::{ROOM, append_counts};
+use hyd_line_reader::{after, split_word};
 
 /// The scale that the line says, if it is a header line with these counts.
 pub(crate) fn header_scale(line: &[u8], counts: &NetworkCounts) -> Option<u32>

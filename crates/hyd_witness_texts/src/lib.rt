@@ -6,7 +6,6 @@
 mod answers_of_reader;
 mod counts;
 mod header_line;
-mod line_reader;
 mod lines;
 mod lines_of_text;
 mod lists_of_moment;
@@ -15,7 +14,6 @@ mod numbers_read;
 mod period_or_end_line;
 mod reader;
 mod theorems_on_readings;
-mod words;
 mod writer;
 
 pub use answers_of_reader::{Reached, Stand, WitnessFault, WitnessNext};

@@ -7,7 +7,7 @@ ghost use Rattle.hyd_spec_witnesses.specs.WitnessText.{IsValue};
 ghost use Rattle.hyd_witness_texts.specs.Lines.{IsValueLine, IsStockLine};
 
 use crate::numbers_read::value;
-use crate::words::{after, split_word};
+use hyd_line_reader::{after, split_word};
 
 /// The value of a line with that key.
 pub(crate) fn value_line(line: &[u8], key: u8) -> Option<i128>

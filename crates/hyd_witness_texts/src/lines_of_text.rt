@@ -9,7 +9,7 @@ ghost use Rattle.hyd_io.specs.LeftAsItWas.{KeepsOutput};
 ghost use Rattle.hyd_spec_certificates.specs.CertificateText.{line};
 ghost use Rattle.hyd_spec_witnesses.specs.WitnessText.{IsScale, IsValue, value_lines, stock_line, stock_lines};
 ghost use Rattle.hyd_spec_witnesses.specs.WitnessText.{witness_header};
-ghost use Rattle.hyd_cert.specs.TextsWithoutLine.{HasNo};
+ghost use Rattle.hyd_line_reader.specs.TextsWithoutLine.{HasNo};
 ghost use Rattle.hyd_cert.specs.Faults.{lines_on};
 ghost use Rattle.hyd_witness_texts.specs.MomentView.{counts_in};
 ghost use Rattle.hyd_witness_texts.specs.Lines.{IsHeaderLine, IsValueLine, IsStockLine};
@@ -20,10 +20,10 @@ ghost use Rattle.hyd_witness_texts.specs.PartsOfWitness.{AreValueLines, AreStock
 use crate::answers_of_reader::WitnessFault;
 use crate::counts::{NetworkCounts, has_small_counts};
 use crate::header_line::header_scale;
-use crate::line_reader::Source;
 use crate::lines::{stock_line, value_line};
 use crate::period_or_end_line::{Next, period_or_end};
 use hyd_io::Desk;
+use hyd_line_reader::Source;
 
 /// The lines of a text, and how many were passed.
 #[derive(Drop)]

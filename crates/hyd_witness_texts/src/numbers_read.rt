@@ -6,7 +6,7 @@ ghost use Rattle.std.specs.Fmt.{signed_decimal};
 ghost use Rattle.std.specs.Str.Parse.{AllDigits, digits_value};
 ghost use Rattle.hyd_spec_witnesses.specs.WitnessText.{IsScale, IsValue};
 
-use crate::words::split_word;
+use hyd_line_reader::split_word;
 
 /// The greatest magnitude of a value.
 const VALUE_LIMIT: u128 = 1_000_000_000_000_000_000_000_000;

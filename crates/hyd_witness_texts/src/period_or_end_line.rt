@@ -6,7 +6,7 @@ ghost use Rattle.hyd_cert.specs.Lines.{IsPeriodLine};
 ghost use Rattle.hyd_witness_texts.specs.PeriodOrEndLine.{next_text, NextFits, IsPeriodOrEnd, end_words};
 
 use crate::numbers_read::{small_number, three_numbers};
-use crate::words::after;
+use hyd_line_reader::after;
 
 /// What a PERIOD line says.
 #[derive(Clone, Copy, Drop)]

@@ -15,12 +15,12 @@ ghost use Rattle.hyd_witness_texts.specs.declared.answers_of_reader.Stand.TheVar
 
 use crate::answers_of_reader::{Reached, Stand, WitnessFault, WitnessNext};
 use crate::counts::{NetworkCounts, has_small_counts, is_small};
-use crate::line_reader::Source;
 use crate::lines_of_text::Lines;
 use crate::lists_of_moment::read_lists;
 use crate::moment::Moment;
 use crate::period_or_end_line::Next;
 use hyd_io::Desk;
+use hyd_line_reader::Source;
 use std::marker::Model;
 
 /// A reader of a witness of a network. Contracts see the network's counts, where it stands, how many lines it passed

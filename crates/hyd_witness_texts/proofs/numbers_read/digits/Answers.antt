@@ -1,6 +1,6 @@
 use Rattle.std.proofs.Common.{arith}
 use Rattle.std.proofs.lemmas.Str.Parse.{digit_at}
-use Rattle.hyd_cert.proofs.Numerals.{digits_more, value_more}
+use Rattle.hyd_line_reader.proofs.Numerals.{digits_more, value_more}
 use Rattle.hyd_witness_texts.proofs.Numerals.{front_fits}
 use Rattle.hyd_witness_texts.proofs.numbers_read.digits.Goals as goal
 

@@ -1,6 +1,6 @@
 use Rattle.std.proofs.Common.{sym, ◌∙◌, arith, length}
 use Rattle.std.proofs.lemmas.Bool.{eqb-true}
-use Rattle.hyd_cert.proofs.Numerals.{wide_numeral, some_length}
+use Rattle.hyd_line_reader.proofs.Numerals.{wide_numeral, some_length}
 use Rattle.hyd_witness_texts.proofs.Numerals.{few_digits, zero_some, zero_fits, zero_none, digits_some, digits_fit}
 use Rattle.hyd_witness_texts.proofs.Numerals.{digits_none}
 use Rattle.hyd_witness_texts.proofs.numbers_read.number.Goals as goal

@@ -1,7 +1,0 @@
-use Rattle.std.proofs.Common.{take}
-use Rattle.hyd_cert.specs.TextsWithoutLine.{HasNo}
-use Rattle.hyd_witness_texts.proofs.words.split_word.Given as goal
-
--- no space so far
-abbrev pub invariant-loop-i : goal.invariant-loop-i
-invariant-loop-i l = HasNo 32 (take l.i l.text)
