@@ -286,10 +286,3 @@ pub none_of_both : (line : List ℕ) → ((l : List ℕ) → IsPeriodLine l → 
     → ((l : List ℕ) → IsEndLine l → line ≢ l) → (l : List ℕ) → IsPeriodOrEnd l → line ≢ l
 none_of_both line a b l (inl p) e = a l p e
 none_of_both line a b l (inr p) e = b l p e
-
--- a text of which something is held isn't at its end
-pub not_over : (held : List ℕ) (rest : Option (List ℕ)) → 0 < length held → prepend_known held rest ≢ Some []
-not_over held None some e = absurd (cc)
-not_over [] (Some rest) some e = absurd (omega arith)
-not_over (c ∷ held) (Some rest) some e = let same : c ∷ (held ++ rest) ≡ [] = same_item _ (c ∷ (held ++ rest)) [] e in
-    absurd (cc)

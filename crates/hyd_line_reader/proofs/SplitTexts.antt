@@ -152,3 +152,10 @@ pub line_free : (held : List ℕ) (k n : ℕ) → n < length (take k held) → H
     → HasNo 10 (take n held)
 line_free held k n within free = let l = length-take k held in let low : n ≤ k = omega (arith, l) in
     subst (HasNo 10) (take_shorter n k held low) free
+
+-- a text of which something is held isn't at its end
+pub not_over : (held : List ℕ) (rest : Option (List ℕ)) → 0 < length held → prepend_known held rest ≢ Some []
+not_over held None some e = absurd (cc)
+not_over [] (Some rest) some e = absurd (omega arith)
+not_over (c ∷ held) (Some rest) some e = let same : c ∷ (held ++ rest) ≡ [] = same_item _ (c ∷ (held ++ rest)) [] e in
+    absurd (cc)

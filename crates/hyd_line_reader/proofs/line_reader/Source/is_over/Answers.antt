@@ -1,5 +1,5 @@
 use Rattle.std.proofs.Common.{◌<◌, List, ℕ, length, sym, ◌∙◌, subst}
-use Rattle.hyd_line_reader.proofs.LineLemmas.{not_over}
+use Rattle.hyd_line_reader.proofs.SplitTexts.{not_over}
 use Rattle.hyd_line_reader.proofs.Numerals.{some_length}
 use Rattle.hyd_line_reader.proofs.line_reader.Source.is_over.Goals as goal
 
