@@ -3,8 +3,8 @@
 
 It starts at the contract of `tool` (crates/hyd_cli/src/whole_command.rt) and at the ghost items of the trait `Desk`, which say what a desk
 is, and follows each name through the modules that define it, item by item. It prints each crate with its modules that are reached, and
-how many of a module's items are; with --items their names. Then it says which of these modules docs/DEFINITIONS.md doesn't name, and
-which it names though they aren't reached. The status is 1 where it says either.
+how many of a module's items are; with --items their names. Then it says which of these modules docs/DEFINITIONS.md doesn't name; the
+status is 1 where there is one.
 
 It reads texts and proves nothing. What a source declares (a struct, an enum and its variants) counts as reached with the name; so do the
 contracts that a module cites as `contracts`. A variable with the name of a definition counts as that definition, so more may be
