@@ -1,1 +1,3 @@
 pub mod FillingTank
+pub mod CurvedTank
+pub mod VillageOpenly

@@ -260,7 +260,7 @@ module _ (project : Project) (sound : IsSound project) (left : Standing) (start 
       (plain.text-is project sound left so_far.namings so_far.is_run so_far.parts fit text
       (end_line left.number finished) (text-is-as now left.number finished end false has_none))))
 
-  refused-end : (now : CheckMoment) (line : ℕ) → IsOtherEnd project left at now → line ≡ now.reader.line
+  pub refused-end : (now : CheckMoment) (line : ℕ) → IsOtherEnd project left at now → line ≡ now.reader.line
       → Ends (conclusion_line project left.number (OtherEnd line)) ends.Refused
   refused-end now line other number =
       let last = conclusion_line project left.number (OtherEnd line) in
@@ -292,7 +292,7 @@ module _ (project : Project) (sound : IsSound project) (left : Standing) (start 
   one-read entry now to =
       begins-as-read project now (all ++ (entry ∷ [])) text (behind-more project start now all entry text to told)
 
-  refused-record : (cause : CertRefused) (now : CheckMoment) → IsRefusedNext project left cause at now
+  pub refused-record : (cause : CertRefused) (now : CheckMoment) → IsRefusedNext project left cause at now
       → Ends (conclusion_line project left.number (Refused cause)) ends.Refused
   refused-record cause now next =
       let last = conclusion_line project left.number (Refused cause) in
@@ -310,7 +310,7 @@ module _ (project : Project) (sound : IsSound project) (left : Standing) (start 
       (fit-as flag false has_none (fit-at now read.keeps)) text cause next.entry next.refused read.fits.row
       (begins-as flag false (all ++ (next.entry ∷ [])) has_none b)))
 
-  refused-part : (period : ℕ) (cause : FlowFails) (now : CheckMoment)
+  pub refused-part : (period : ℕ) (cause : FlowFails) (now : CheckMoment)
       → IsPartRefusedNext project left period cause at now
       → Ends (conclusion_line project left.number (RefusedPart period cause)) ends.Refused
   refused-part period cause now next =
@@ -510,7 +510,7 @@ module _ (project : Project) (sound : IsSound project) (left : Standing) (start 
         (λ has_none. either-way (is_with_flows text) (Naming last ends.Refused) (Plainly last ends.Refused)
         (λ has_flows. no-header has_none has_flows) (λ e. plain-first has_none))
 
-  refused-grammar : (now : CheckMoment) (line : ℕ) → IsGrammarFault project line at now
+  pub refused-grammar : (now : CheckMoment) (line : ℕ) → IsGrammarFault project line at now
       → Ends (conclusion_line project left.number (Grammar line)) ends.Refused
   refused-grammar now line found = by (stands-at project start at all text so_far.read told)
     where
@@ -520,7 +520,7 @@ module _ (project : Project) (sound : IsSound project) (left : Standing) (start 
 
   -- ---- header lines
 
-  refused-counts : (now : CheckMoment) (line : ℕ) → IsCountsFault project line at now
+  pub refused-counts : (now : CheckMoment) (line : ℕ) → IsCountsFault project line at now
       → Ends (conclusion_line project left.number (Counts line)) ends.Refused
   refused-counts now line found = by (stands-at project start at all text so_far.read told)
     where

@@ -6,8 +6,10 @@ use Rattle.std.proofs.lemmas.Option.{same_Some}
 use Rattle.std.proofs.lemmas.Slice.Eq.{bytes_eq-Decides}
 use Rattle.hyd_command_words.specs.OptionsAndNames.{Word, Said, said}
 use Rattle.hyd_command_words.specs.CommandGrammar.{RunOrder, GenOrder, TwoFiles, run, check, gen, order_of, Order}
-use Rattle.hyd_command_words.specs.CommandGrammar.{FireOrder, ClosuresOrder, MeetOrder, fire, closures, meet}
-use Rattle.hyd_command_words.specs.CommandGrammar.{fire_command, meet_command, meet_order}
+use Rattle.hyd_command_words.specs.CommandGrammar.{FireOrder, ClosuresOrder, fire, closures}
+use Rattle.hyd_command_words.specs.CommandGrammar.{WitnessOrder, MeetOrder, witness, meet}
+use Rattle.hyd_command_words.specs.CommandGrammar.{fire_command, witness_command, witness_order, meet_command}
+use Rattle.hyd_command_words.specs.CommandGrammar.{meet_order}
 use Rattle.hyd_command_words.specs.CommandGrammar.{closures_command, fire_order, closures_order, has_rounds_at_most}
 use Rattle.hyd_command_words.specs.CommandGrammar.{rounds_of}
 use Rattle.hyd_command_words.specs.CommandGrammar.{run_order, run_command, check_command, gen_command, gen_order}
@@ -15,13 +17,14 @@ use Rattle.hyd_command_words.specs.CommandGrammar.{differing}
 use Rattle.hyd_command_words.specs.CommandGrammar.{two_files, seed_of, junctions_of, has_names_alone}
 use Rattle.std.specs.Prelude.{codes}
 use Rattle.hyd_command_words.specs.CommandView.{order_seen, run_seen, files_seen, gen_seen, fire_seen, closures_seen}
-use Rattle.hyd_command_words.specs.CommandView.{meet_seen}
+use Rattle.hyd_command_words.specs.CommandView.{witness_seen, meet_seen}
 use Rattle.hyd_command_words.specs.declared.command.Command.{Command}
-use Rattle.hyd_command_words.specs.declared.command.Command.TheVariants.{Run, Check, Gen, Fire, Closures, Meet}
+use Rattle.hyd_command_words.specs.declared.command.Command.TheVariants.{Run, Check, Gen, Fire, Closures, Witness, Meet}
 use Rattle.hyd_command_words.specs.declared.command.Files.{Files}
 use Rattle.hyd_command_words.specs.declared.command.GenWords.{GenWords}
 use Rattle.hyd_command_words.specs.declared.command.FireWords.{FireWords}
 use Rattle.hyd_command_words.specs.declared.command.ClosuresWords.{ClosuresWords}
+use Rattle.hyd_command_words.specs.declared.command.WitnessWords.{WitnessWords}
 use Rattle.hyd_command_words.specs.declared.command.MeetWords.{MeetWords}
 use Rattle.hyd_command_words.specs.declared.command.RunWords.{RunWords}
 
@@ -97,26 +100,35 @@ not_closures : (s : Said) (order : GenOrder) → closures_command s ≡ Some (ge
 not_closures s order e = not_by_rounds (has_rounds_at_most s) (rounds_of s.sweeps_values) closures
     (λ n. closures_order n s.names) order (λ x h. cc) e
 
+not_witness : (b : Bool) (found : Option WitnessOrder) (order : GenOrder)
+    → (if b then option_map witness found else None) ≡ Some (gen order) → ⊥
+not_witness true None order e = cc
+not_witness true (Some found) order e = cc
+not_witness false found order e = cc
+
 not_meet : (b : Bool) (found : Option MeetOrder) (order : GenOrder)
     → (if b then option_map meet found else None) ≡ Some (gen order) → ⊥
 not_meet true None order e = cc
 not_meet true (Some found) order e = cc
 not_meet false found order e = cc
 
-by_name : (is_run is_check is_gen_word is_fire is_closures is_meet : Bool) (s : Said) (order : GenOrder)
+by_name : (is_run is_check is_gen_word is_fire is_closures is_witness is_meet : Bool) (s : Said) (order : GenOrder)
     → (if is_run then run_command s else (if is_check then check_command s
     else (if is_gen_word then gen_command s else (if is_fire then fire_command s
-    else (if is_closures then closures_command s else (if is_meet then meet_command s else None)))))) ≡ Some (gen order)
+    else (if is_closures then closures_command s else (if is_witness then witness_command s
+    else (if is_meet then meet_command s else None))))))) ≡ Some (gen order)
     → order.files.net ≢ order.files.cert
-by_name true b c d f g s order e = absurd (not_run (run_order s) order e)
-by_name false true c d f g s order e = absurd (not_check (has_names_alone s) (two_files s.names) order e)
-by_name false false true d f g s order e =
+by_name true b c d f w g s order e = absurd (not_run (run_order s) order e)
+by_name false true c d f w g s order e = absurd (not_check (has_names_alone s) (two_files s.names) order e)
+by_name false false true d f w g s order e =
     gen_apart s.names order (is_gen (has_names_alone s) (gen_order s.names) order e)
-by_name false false false true f g s order e = absurd (not_fire s order e)
-by_name false false false false true g s order e = absurd (not_closures s order e)
-by_name false false false false false true s order e =
+by_name false false false true f w g s order e = absurd (not_fire s order e)
+by_name false false false false true w g s order e = absurd (not_closures s order e)
+by_name false false false false false true g s order e =
+    absurd (not_witness (has_names_alone s) (witness_order s.names) order e)
+by_name false false false false false false true s order e =
     absurd (not_meet (has_names_alone s) (meet_order s.names) order e)
-by_name false false false false false false s order e = absurd (cc)
+by_name false false false false false false false s order e = absurd (cc)
 
 -- the two names of `gen` differ
 pub names_apart : (words : List Word) (order : GenOrder) → order_of words ≡ Some (gen order)
@@ -124,7 +136,8 @@ pub names_apart : (words : List Word) (order : GenOrder) → order_of words ≡ 
 names_apart [] order e = absurd (cc)
 names_apart (word ∷ behind) order e =
     by_name (bytes_eq word (codes "run")) (bytes_eq word (codes "check")) (bytes_eq word (codes "gen"))
-    (bytes_eq word (codes "fire")) (bytes_eq word (codes "closures")) (bytes_eq word (codes "meet")) (said behind) order e
+    (bytes_eq word (codes "fire")) (bytes_eq word (codes "closures")) (bytes_eq word (codes "witness"))
+    (bytes_eq word (codes "meet")) (said behind) order e
 
 -- ---- the command that was found is the one that was asked for
 
@@ -157,6 +170,12 @@ pub same_closures : (words : ClosuresWords) (found : Option Command) (order : Cl
     → order ≡ closures_seen words
 same_closures words found order is asked =
     let known : Some (closures (closures_seen words)) ≡ Some (closures order) = rw is at asked in
+    cc
+
+pub same_witness : (words : WitnessWords) (found : Option Command) (order : WitnessOrder)
+    → found ≡ Some (Witness words) → option_map order_seen found ≡ Some (witness order) → order ≡ witness_seen words
+same_witness words found order is asked =
+    let known : Some (witness (witness_seen words)) ≡ Some (witness order) = rw is at asked in
     cc
 
 pub same_meet : (words : MeetWords) (found : Option Command) (order : MeetOrder) → found ≡ Some (Meet words)

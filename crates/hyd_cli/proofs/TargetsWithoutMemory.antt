@@ -1,11 +1,12 @@
 -- A check, a question about a target or a witness for which memory ran out has left all as it was.
-use Rattle.std.proofs.Common.{◌≡◌, ◌≢◌, inl, refl}
+use Rattle.std.proofs.Common.{inl, refl}
 use Rattle.hyd_io.specs.declared.desk.Openings.{Openings}
-use Rattle.hyd_command_words.specs.CommandGrammar.{TwoFiles, FireOrder, ClosuresOrder, MeetOrder}
+use Rattle.hyd_command_words.specs.CommandGrammar.{TwoFiles, FireOrder, ClosuresOrder, WitnessOrder, MeetOrder}
 use Rattle.hyd_command_answers.specs.DeskContents.{Seen, IsUntouched}
-use Rattle.hyd_command_answers.specs.declared.status.Status.TheVariants.{OutOfMemory, InputRefused}
+use Rattle.hyd_command_answers.specs.declared.status.Status.TheVariants.{OutOfMemory}
 use Rattle.hyd_target_commands.specs.CommandsOnTargets.{DoesFire, DoesClosures}
 use Rattle.hyd_witness_commands.specs.CommandMeet.{DoesMeet}
+use Rattle.hyd_written_witnesses.specs.CommandWitness.{DoesWitness}
 use Rattle.hyd_cli.specs.Commands.{DoesCheck}
 use Rattle.hyd_cli.proofs.CheckLemmas.{prints_nothing}
 
@@ -38,6 +39,17 @@ closes_nothing order same openings = record {
   closes = λ text told none. untouched same;
   only_prints = prints_nothing same;
   once = inl refl;
+}
+
+pub searches_nothing : (order : WitnessOrder) (same : Seen) (openings : Openings)
+    → DoesWitness order OutOfMemory same same openings openings
+searches_nothing order same openings = record {
+  refused = λ text line why told fault. untouched same;
+  searches = λ text certificate told none told_too. untouched same;
+  not_refused = λ text told none. λ e. cc;
+  holds = tt;
+  others = λ other apart. refl;
+  opens_in_turn = inl refl;
 }
 
 pub meets_nothing : (order : MeetOrder) (same : Seen) (openings : Openings)

@@ -2,7 +2,7 @@
 -- refused, and what is left whatever the text was.
 -- Source: this program's.
 use Rattle.std.specs.Prelude.{ℕ, List, [], ◌∷◌, Option, Some, None, IsTrue, Bool, ⊤}
-use Rattle.hyd_command_words.specs.CommandGrammar.{Order, run, check, gen, fire, closures, meet}
+use Rattle.hyd_command_words.specs.CommandGrammar.{Order, run, check, gen, fire, closures, witness, meet}
 use Rattle.hyd_cli.specs.WordsAndUsageLine.{usage_line}
 use Rattle.hyd_command_answers.specs.declared.status.Status.{Status}
 use Rattle.hyd_command_answers.specs.declared.status.Status.TheVariants.{OutOfMemory, Usage, ReadFault, WriteFault}
@@ -11,11 +11,13 @@ use Rattle.hyd_command_answers.specs.DeskContents.{Seen, IsUntouched, OnlyPrinte
 use Rattle.hyd_command_answers.specs.FaultsAndRefusals.{PrintsRefusal}
 use Rattle.hyd_target_commands.specs.CommandsOnTargets.{LeavesNet}
 use Rattle.hyd_naming_command.specs.NamingAnswers.{LeavesNaming}
+use Rattle.hyd_written_witnesses.specs.CommandWitness.{LeavesSearch}
 
 -- ---- names
 
 -- What a command asks of the desk: `run` opens NET and creates CERT, `check` opens both, `gen` creates both, `fire` and
--- `closures` open NET, and `meet` opens NET and FILE. Words that aren't a command ask for nothing.
+-- `closures` open NET, `witness` opens NET and CERT and creates OUT, and `meet` opens NET and FILE. Words that aren't a
+-- command ask for nothing.
 abbrev pub MayUse : (may_open may_create : List ℕ → Bool) → Option Order → Type 0
 MayUse may_open may_create None = ⊤
 MayUse may_open may_create (Some (run order)) = IsTrue (may_open order.files.net) × IsTrue (may_create order.files.cert)
@@ -24,6 +26,8 @@ MayUse may_open may_create (Some (gen order)) = IsTrue (may_create order.files.n
     order.files.cert)
 MayUse may_open may_create (Some (fire order)) = IsTrue (may_open order.net)
 MayUse may_open may_create (Some (closures order)) = IsTrue (may_open order.net)
+MayUse may_open may_create (Some (witness order)) =
+    IsTrue (may_open order.files.net) × IsTrue (may_open order.files.cert) × IsTrue (may_create order.out)
 MayUse may_open may_create (Some (meet order)) = IsTrue (may_open order.net) × IsTrue (may_open order.witness)
 
 -- ---- words that aren't a command
@@ -69,4 +73,5 @@ Leaves (Some (check files)) status before now = LeavesCheck status before now
 Leaves (Some (gen order)) status before now = LeavesRun status before now
 Leaves (Some (fire order)) status before now = LeavesNet status before now
 Leaves (Some (closures order)) status before now = LeavesNet status before now
+Leaves (Some (witness order)) status before now = LeavesSearch status before now
 Leaves (Some (meet order)) status before now = LeavesNet status before now

@@ -1,8 +1,6 @@
 -- What the answers of the command `run` mean.
 -- Source: this program's.
 use Rattle.std.specs.Prelude.{◌≡◌, ℕ, ◌⊎◌, List, ⊤, MatchOption}
-use Rattle.hyd_io.specs.declared.desk.Openings.{Openings}
-use Rattle.hyd_io.specs.DeskCounts.{with_opened, with_created}
 use Rattle.hyd_io.specs.DeskBytes.{where_told, append_known, file_at}
 use Rattle.hyd_spec.specs.ProgramTypes.{Project}
 use Rattle.hyd_spec_reports.specs.PromisesOfRunsAndChecks.{Outcome, RunWrites, RunBreaksOff, outcome_number}
@@ -11,10 +9,10 @@ use Rattle.hyd_sim.specs.declared.settings.Settings.{Settings}
 use Rattle.hyd_command_words.specs.CommandGrammar.{RunOrder}
 use Rattle.hyd_command_answers.specs.Statuses.{number_of}
 use Rattle.hyd_command_answers.specs.declared.status.Status.{Status}
-use Rattle.hyd_command_answers.specs.declared.status.Status.TheVariants.{Done, OutOfMemory, Usage, ReadFault, WriteFault}
-use Rattle.hyd_command_answers.specs.declared.status.Status.TheVariants.{InputRefused, Undecided, RoundsSpent, Demand}
-use Rattle.hyd_command_answers.specs.declared.status.Status.TheVariants.{CertificateRefused, Stalled}
-use Rattle.hyd_command_answers.specs.DeskContents.{Seen, IsUntouched, FilesStay}
+use Rattle.hyd_command_answers.specs.declared.status.Status.TheVariants.{Done, OutOfMemory, ReadFault, WriteFault}
+use Rattle.hyd_command_answers.specs.declared.status.Status.TheVariants.{Undecided, RoundsSpent, Demand}
+use Rattle.hyd_command_answers.specs.declared.status.Status.TheVariants.{Stalled}
+use Rattle.hyd_command_answers.specs.DeskContents.{Seen, IsUntouched}
 use Rattle.hyd_command_answers.specs.FaultsAndRefusals.{OfNetwork}
 
 -- What an order asks a run for.

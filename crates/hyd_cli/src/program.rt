@@ -2,7 +2,8 @@
 
 ghost use Rattle.std.specs.Prelude.{◌≡◌, ◌≢◌, Some, None, IfOk, IsOk, IsErr, map, string_bytes};
 ghost use Rattle.hyd_command_words.specs.CommandGrammar.{Order, RunOrder, GenOrder, TwoFiles, order_of, run, check};
-ghost use Rattle.hyd_command_words.specs.CommandGrammar.{gen, FireOrder, ClosuresOrder, MeetOrder, fire, closures, meet};
+ghost use Rattle.hyd_command_words.specs.CommandGrammar.{gen, FireOrder, ClosuresOrder, fire, closures};
+ghost use Rattle.hyd_command_words.specs.CommandGrammar.{WitnessOrder, MeetOrder, witness, meet};
 ghost use Rattle.hyd_cli.specs.WordsAndUsageLine.{words_behind_name};
 ghost use Rattle.hyd_command_answers.specs.DeskContents.{seen};
 ghost use Rattle.hyd_cli.specs.Answers.{MayUse, Leaves, AnswersUsage};
@@ -10,6 +11,7 @@ ghost use Rattle.hyd_command_answers.specs.FaultsAndRefusals.{HasCause};
 ghost use Rattle.hyd_cli.specs.Commands.{DoesRun, DoesCheck, DoesGen};
 ghost use Rattle.hyd_target_commands.specs.CommandsOnTargets.{DoesFire, DoesClosures};
 ghost use Rattle.hyd_witness_commands.specs.CommandMeet.{DoesMeet};
+ghost use Rattle.hyd_written_witnesses.specs.CommandWitness.{DoesWitness};
 ghost use Rattle.hyd_command_answers.specs.declared.status.Status.TheVariants.{Usage};
 
 use crate::standard_error::say_why;
@@ -61,6 +63,9 @@ pub fn start<D: Desk>(alloc: Global, given: io::Result<Args>, desk: &mut D) -> S
         (D.openings desk.old) (D.openings desk.new) }
     ensures closes { (order : ClosuresOrder) → order_of (words_behind_name given) ≡ Some (closures order) → DoesClosures order
         result (seen D.files D.written D.printed desk.old) (seen D.files D.written D.printed desk.new)
+        (D.openings desk.old) (D.openings desk.new) }
+    ensures witnesses { (order : WitnessOrder) → order_of (words_behind_name given) ≡ Some (witness order) → DoesWitness
+        order result (seen D.files D.written D.printed desk.old) (seen D.files D.written D.printed desk.new)
         (D.openings desk.old) (D.openings desk.new) }
     ensures meets { (order : MeetOrder) → order_of (words_behind_name given) ≡ Some (meet order) → DoesMeet order result
         (seen D.files D.written D.printed desk.old) (seen D.files D.written D.printed desk.new)

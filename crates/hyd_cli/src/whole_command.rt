@@ -2,7 +2,8 @@
 
 ghost use Rattle.std.specs.Prelude.{◌≡◌, ◌≢◌, Option, Some, None, map, option_map, string_bytes};
 ghost use Rattle.hyd_command_words.specs.CommandGrammar.{Order, RunOrder, GenOrder, TwoFiles, order_of, run, check};
-ghost use Rattle.hyd_command_words.specs.CommandGrammar.{gen, FireOrder, ClosuresOrder, MeetOrder, fire, closures, meet};
+ghost use Rattle.hyd_command_words.specs.CommandGrammar.{gen, FireOrder, ClosuresOrder, fire, closures};
+ghost use Rattle.hyd_command_words.specs.CommandGrammar.{WitnessOrder, MeetOrder, witness, meet};
 ghost use Rattle.hyd_command_words.specs.CommandView.{order_seen};
 ghost use Rattle.hyd_command_answers.specs.DeskContents.{seen};
 ghost use Rattle.hyd_cli.specs.Answers.{MayUse, Leaves};
@@ -11,6 +12,7 @@ ghost use Rattle.hyd_cli.specs.Answers.{AnswersUsage};
 ghost use Rattle.hyd_cli.specs.Commands.{DoesRun, DoesCheck, DoesGen};
 ghost use Rattle.hyd_target_commands.specs.CommandsOnTargets.{DoesFire, DoesClosures};
 ghost use Rattle.hyd_witness_commands.specs.CommandMeet.{DoesMeet};
+ghost use Rattle.hyd_written_witnesses.specs.CommandWitness.{DoesWitness};
 ghost use Rattle.hyd_command_answers.specs.declared.status.Status.TheVariants.{Usage};
 
 use crate::command_check::check_files;
@@ -23,6 +25,7 @@ use hyd_command_words::Command;
 use hyd_io::Desk;
 use hyd_target_commands::{close_pipes, find_bracket};
 use hyd_witness_commands::meet_file;
+use hyd_written_witnesses::write_witness;
 use std::alloc::Global;
 
 /// Runs the command of the words after the program's name.
@@ -36,19 +39,22 @@ use std::alloc::Global;
 ///   pressure P there.
 /// - `closures NET P [--sweeps N]` reads the network of NET, and prints which junctions keep the pressure P while each
 ///   pipe is shut alone.
+/// - `witness NET CERT OUT` reads NET and CERT, accepts its records as `check` does, looks for a period of exact heads,
+///   flows and levels for each, and writes them to OUT.
 /// - `meet NET FILE` reads both, and prints whether each period of the witness in FILE is met, or the first that isn't.
 ///
-/// NET, CERT and FILE are each opened or created once at most. What is created, CERT of a check, and FILE, wait until all
-/// memory is taken that the command needs. `gen` replaces NET before CERT is created, and leaves CERT as it was unless NET
-/// holds the whole text.
+/// Each file is opened or created once at most, but for CERT and OUT of `witness`, which opens the one and creates the
+/// other up to three times in turn. What is created, CERT of a check and of `witness`, and FILE, wait until all memory is
+/// taken that the command needs. `gen` replaces NET before CERT is created, and leaves CERT as it was unless NET holds the
+/// whole text.
 ///
 /// - `Usage`: the words aren't a command.
 /// - `InputRefused`: the text of the network has a fault (one of more than 64 MiB among them), J is no junction of it, or
 ///   a name of `--flows` is no link between two junctions.
-/// - `Done`: the run finished, the certificate was accepted, the lines of `fire` or `closures` were printed, or all
-///   periods of a witness are met.
+/// - `Done`: the run finished, the certificate was accepted, the lines of `fire` or `closures` were printed, a witness
+///   was found, or all periods of one are met.
 /// - `Undecided`, `RoundsSpent`, `Demand`: how a run was stopped; `Demand` of `fire` and `closures` too; `Undecided` of
-///   `meet` where a period isn't met.
+///   `witness` where no period was found for a record, and of `meet` where a period isn't met.
 /// - `CertificateRefused`: the certificate's lines, a record, the part behind one or its END line aren't right, or a line
 ///   of a witness.
 /// - `OutOfMemory`: nothing was created, written or printed.
@@ -76,6 +82,9 @@ pub fn tool<D: Desk>(alloc: Global, words: &[String], desk: &mut D) -> Status
         (D.openings desk.old) (D.openings desk.new) }
     ensures closes { (order : ClosuresOrder) → order_of (map string_bytes words.now) ≡ Some (closures order) → DoesClosures order
         result (seen D.files D.written D.printed desk.old) (seen D.files D.written D.printed desk.new)
+        (D.openings desk.old) (D.openings desk.new) }
+    ensures witnesses { (order : WitnessOrder) → order_of (map string_bytes words.now) ≡ Some (witness order) → DoesWitness
+        order result (seen D.files D.written D.printed desk.old) (seen D.files D.written D.printed desk.new)
         (D.openings desk.old) (D.openings desk.new) }
     ensures meets { (order : MeetOrder) → order_of (map string_bytes words.now) ≡ Some (meet order) → DoesMeet order result
         (seen D.files D.written D.printed desk.old) (seen D.files D.written D.printed desk.new)
@@ -114,6 +123,9 @@ fn carry_out<D: Desk>(alloc: Global, found: Option<Command<'_>>, desk: &mut D) -
     ensures closes { (order : ClosuresOrder) → option_map order_seen found.entry ≡ Some (closures order) → DoesClosures order
         result (seen D.files D.written D.printed desk.old) (seen D.files D.written D.printed desk.new)
         (D.openings desk.old) (D.openings desk.new) }
+    ensures witnesses { (order : WitnessOrder) → option_map order_seen found.entry ≡ Some (witness order) → DoesWitness
+        order result (seen D.files D.written D.printed desk.old) (seen D.files D.written D.printed desk.new)
+        (D.openings desk.old) (D.openings desk.new) }
     ensures meets { (order : MeetOrder) → option_map order_seen found.entry ≡ Some (meet order) → DoesMeet order result
         (seen D.files D.written D.printed desk.old) (seen D.files D.written D.printed desk.new)
         (D.openings desk.old) (D.openings desk.new) }
@@ -124,6 +136,7 @@ fn carry_out<D: Desk>(alloc: Global, found: Option<Command<'_>>, desk: &mut D) -
         Some(Command::Gen(words)) => generate_network(alloc, &words, desk),
         Some(Command::Fire(words)) => find_bracket(alloc, &words, desk),
         Some(Command::Closures(words)) => close_pipes(alloc, &words, desk),
+        Some(Command::Witness(words)) => write_witness(alloc, &words, desk),
         Some(Command::Meet(words)) => meet_file(alloc, &words, desk),
         None => refuse_words(desk),
     }

@@ -7,7 +7,7 @@ use Rattle.hyd_command_words.specs.ClapParser.{said_of}
 use Rattle.clap.specs.Walk.{Held, Row, Waiting, Walk, positional, settled_rows, walked}
 use Rattle.hyd_command_words.specs.OptionsAndNames.{Word, Part, Said, name, wrong, said_by}
 use Rattle.hyd_command_words.specs.CommandGrammar.{Order, order_named, run_command, check_command, gen_command}
-use Rattle.hyd_command_words.specs.CommandGrammar.{fire_command, closures_command, meet_command}
+use Rattle.hyd_command_words.specs.CommandGrammar.{fire_command, closures_command, witness_command, meet_command}
 use Rattle.hyd_command_words.proofs.SaidLemmas.{joined, joined_assoc, part_first}
 use Rattle.hyd_command_words.proofs.MatchRowLemmas.{rules, name_used}
 use Rattle.hyd_command_words.proofs.WalkSteps.{shape, Pending, held, at, IsWhole, IsFault, turn, step, name_held}
@@ -66,23 +66,28 @@ fails_here w word rest target h none = λ named.
 
 -- what is said fits behind no name
 pub fits_none : (s : Said) → run_command s ≡ None → check_command s ≡ None → gen_command s ≡ None
-    → fire_command s ≡ None → closures_command s ≡ None → meet_command s ≡ None → IsNoOrder s
-fits_none s run check gen fire closures meet word =
+    → fire_command s ≡ None → closures_command s ≡ None → witness_command s ≡ None → meet_command s ≡ None
+    → IsNoOrder s
+fits_none s run check gen fire closures witness meet word =
     go (bytes_eq word (codes "run")) (bytes_eq word (codes "check")) (bytes_eq word (codes "gen"))
-    (bytes_eq word (codes "fire")) (bytes_eq word (codes "closures")) (bytes_eq word (codes "meet"))
+    (bytes_eq word (codes "fire")) (bytes_eq word (codes "closures")) (bytes_eq word (codes "witness"))
+    (bytes_eq word (codes "meet"))
   where
-    go : (a b c d e f : Bool) → cond a (run_command s) (cond b (check_command s) (cond c (gen_command s)
-        (cond d (fire_command s) (cond e (closures_command s) (cond f (meet_command s) None))))) ≡ None
-    go true b c d e f = run
-    go false true c d e f = check
-    go false false true d e f = gen
-    go false false false true e f = fire
-    go false false false false true f = closures
-    go false false false false false true = meet
-    go false false false false false false = refl
+    go : (a b c d e f g : Bool) → cond a (run_command s) (cond b (check_command s) (cond c (gen_command s)
+        (cond d (fire_command s) (cond e (closures_command s) (cond f (witness_command s)
+        (cond g (meet_command s) None)))))) ≡ None
+    go true b c d e f g = run
+    go false true c d e f g = check
+    go false false true d e f g = gen
+    go false false false true e f g = fire
+    go false false false false true f g = closures
+    go false false false false false true g = witness
+    go false false false false false false true = meet
+    go false false false false false false false = refl
 
 pub wrong_is_none : (s : Said) → s.has_wrong ≡ true → IsNoOrder s
-wrong_is_none s e = fits_none s (rw e refl) (rw e refl) (rw e refl) (rw e refl) (rw e refl) (rw e refl)
+wrong_is_none s e = fits_none s (rw e refl) (rw e refl) (rw e refl) (rw e refl) (rw e refl)
+    (rw e refl) (rw e refl)
 
 pub wrong_word : (s : Said) (ps : List Part) → s.has_wrong ≡ false → IsNoOrder (joined s (said_by (wrong ∷ ps)))
 wrong_word s ps e = wrong_is_none (joined s (said_by (wrong ∷ ps))) (rw e refl)

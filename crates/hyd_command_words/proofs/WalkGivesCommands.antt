@@ -208,7 +208,7 @@ no_run_within {X = X} true (Some y) x f e = ap (λ (p : Option X). option_map ru
 -- neither what a wrong value is for, nor where no value is taken
 pub no_order_by : (s : Said) → run_command s ≡ None → has_names_alone s ≡ false → fire_command s ≡ None
     → closures_command s ≡ None → IsNoOrder s
-no_order_by s e h fire closures = fits_none s e (rw h refl) (rw h refl) fire closures (rw h refl)
+no_order_by s e h fire closures = fits_none s e (rw h refl) (rw h refl) fire closures (rw h refl) (rw h refl)
 
 pub no_rounds : {X : Type 0} (b : Bool) (o : Option ℕ) (f : ℕ → Option X) → o ≡ None
     → cond b (option_and_then f o) None ≡ None

@@ -1,5 +1,5 @@
 -- The commands, and which words are one: the name of a command, then its options and names.
-use Rattle.std.specs.Prelude.{ℕ, ◌-◌, ◌^◌, nat_le, ◌==◌, Bool, not, ◌&&◌, List, [], ◌∷◌, length, Option, Some, None}
+use Rattle.std.specs.Prelude.{ℕ, ◌-◌, ◌^◌, nat_le, ◌==◌, Bool, not, ◌&&◌, ◌||◌, List, [], ◌∷◌, length, Option, Some, None}
 use Rattle.std.specs.Prelude.{unsigned_abs}
 use Rattle.std.specs.Prelude.{option_map, option_and_then, bytes_eq, codes, if◌then◌else◌, ℤ, pos, ◌*ℤ◌, int_lt, int_le}
 use Rattle.std.specs.List.{list_all}
@@ -41,6 +41,11 @@ pub record ClosuresOrder : Type 0 where
   pub pressure : ℤ
   pub rounds : ℕ
 
+-- `witness`: its files, and OUT, that of the witness
+pub record WitnessOrder : Type 0 where
+  pub files : TwoFiles
+  pub out : Word
+
 -- `meet`: its file, and that of the witness
 pub record MeetOrder : Type 0 where
   pub net : Word
@@ -53,6 +58,7 @@ pub data Order : Type 0 where
   gen : GenOrder → Order
   fire : FireOrder → Order
   closures : ClosuresOrder → Order
+  witness : WitnessOrder → Order
   meet : MeetOrder → Order
 
 -- ---- numbers
@@ -146,13 +152,24 @@ closures_order rounds (net ∷ pressure ∷ []) =
     option_map (λ p. record { net = net; pressure = p; rounds = rounds }) (pressure_of pressure)
 closures_order rounds names = None
 
+-- NET, CERT and OUT, no two of which are the same
+abbrev pub witness_of : (net cert out : Word) → Option WitnessOrder
+witness_of net cert out =
+    if bytes_eq net out || bytes_eq cert out then None
+    else option_map (λ f. record { files = f; out = out }) (differing net cert)
+
+-- three of them and no more
+abbrev pub witness_order : List Word → Option WitnessOrder
+witness_order (net ∷ cert ∷ out ∷ []) = witness_of net cert out
+witness_order names = None
+
 -- NET and FILE, which differ
 abbrev pub meet_of : Word → Word → Option MeetOrder
-meet_of net witness = if bytes_eq net witness then None else Some (record { net = net; witness = witness })
+meet_of net file = if bytes_eq net file then None else Some (record { net = net; witness = file })
 
 -- two of them and no more
 abbrev pub meet_order : List Word → Option MeetOrder
-meet_order (net ∷ witness ∷ []) = meet_of net witness
+meet_order (net ∷ file ∷ []) = meet_of net file
 meet_order names = None
 
 -- ---- commands
@@ -210,6 +227,10 @@ closures_command s =
     then option_and_then (λ n. option_map closures (closures_order n s.names)) (rounds_of s.sweeps_values)
     else None
 
+-- `witness NET CERT OUT`
+abbrev pub witness_command : Said → Option Order
+witness_command s = if has_names_alone s then option_map witness (witness_order s.names) else None
+
 -- `meet NET FILE`
 abbrev pub meet_command : Said → Option Order
 meet_command s = if has_names_alone s then option_map meet (meet_order s.names) else None
@@ -222,8 +243,9 @@ order_named word s =
     else (if bytes_eq word (codes "gen") then gen_command s
     else (if bytes_eq word (codes "fire") then fire_command s
     else (if bytes_eq word (codes "closures") then closures_command s
+    else (if bytes_eq word (codes "witness") then witness_command s
     else (if bytes_eq word (codes "meet") then meet_command s
-    else None)))))
+    else None))))))
 
 -- the command of the words, if they are one
 abbrev pub order_of : List Word → Option Order

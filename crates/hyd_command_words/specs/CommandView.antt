@@ -5,7 +5,8 @@ use Rattle.hyd_command_words.specs.OptionsAndNames.{Word, Said}
 use Rattle.hyd_command_words.specs.NamesOfLinks.{names_given}
 use Rattle.hyd_command_words.specs.declared.said_words.Said.{Said as Read}
 use Rattle.hyd_command_words.specs.CommandGrammar.{Order, RunOrder, GenOrder, TwoFiles, run, check, gen}
-use Rattle.hyd_command_words.specs.CommandGrammar.{FireOrder, ClosuresOrder, MeetOrder, fire, closures, meet}
+use Rattle.hyd_command_words.specs.CommandGrammar.{FireOrder, ClosuresOrder, fire, closures}
+use Rattle.hyd_command_words.specs.CommandGrammar.{WitnessOrder, MeetOrder, witness, meet}
 use Rattle.hyd_command_words.specs.declared.command.Command.{Command}
 use Rattle.hyd_command_words.specs.declared.command.Command.TheVariants as command
 use Rattle.hyd_command_words.specs.declared.command.Files.{Files}
@@ -14,6 +15,7 @@ use Rattle.hyd_command_words.specs.declared.command.RunWords.{RunWords}
 use Rattle.hyd_command_words.specs.declared.command.GenWords.{GenWords}
 use Rattle.hyd_command_words.specs.declared.command.FireWords.{FireWords}
 use Rattle.hyd_command_words.specs.declared.command.ClosuresWords.{ClosuresWords}
+use Rattle.hyd_command_words.specs.declared.command.WitnessWords.{WitnessWords}
 use Rattle.hyd_command_words.specs.declared.command.MeetWords.{MeetWords}
 
 abbrev pub files_seen : Files → TwoFiles
@@ -42,6 +44,9 @@ fire_seen f =
 abbrev pub closures_seen : ClosuresWords → ClosuresOrder
 closures_seen c = record { net = c.net.now; pressure = c.pressure.nano; rounds = c.rounds }
 
+abbrev pub witness_seen : WitnessWords → WitnessOrder
+witness_seen w = record { files = files_seen w.files; out = w.out.now }
+
 abbrev pub meet_seen : MeetWords → MeetOrder
 meet_seen m = record { net = m.net.now; witness = m.witness.now }
 
@@ -52,6 +57,7 @@ order_seen (command.Check f) = check (files_seen f)
 order_seen (command.Gen g) = gen (gen_seen g)
 order_seen (command.Fire f) = fire (fire_seen f)
 order_seen (command.Closures c) = closures (closures_seen c)
+order_seen (command.Witness w) = witness (witness_seen w)
 order_seen (command.Meet m) = meet (meet_seen m)
 
 -- the words behind references

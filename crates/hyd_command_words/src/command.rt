@@ -76,6 +76,16 @@ pub struct ClosuresWords<'a> {
     pub ghost small: { unsigned_abs pressure.nano ≤ 10 ^ 13 },
 }
 
+/// What `witness NET CERT OUT` asks for. No two of the names are the same.
+#[derive(Clone, Copy)]
+pub struct WitnessWords<'a> {
+    /// The network and the certificate, which are both read.
+    pub files: Files<'a>,
+    /// OUT: the witness, which is written.
+    pub out: &'a str,
+    pub ghost apart: { files.cert.now ≢ out.now },
+}
+
 /// What `meet NET FILE` asks for. The names differ.
 #[derive(Clone, Copy)]
 pub struct MeetWords<'a> {
@@ -98,6 +108,8 @@ pub enum Command<'a> {
     Fire(FireWords<'a>),
     /// `closures NET P [--sweeps N]`.
     Closures(ClosuresWords<'a>),
+    /// `witness NET CERT OUT`: NET and CERT are read, and OUT is written.
+    Witness(WitnessWords<'a>),
     /// `meet NET FILE`: both files are read.
     Meet(MeetWords<'a>),
 }

@@ -1,5 +1,5 @@
 //! The words of the command line of `hyd`: `run NET CERT`, `check NET CERT`, `gen SEED JUNCTIONS NET CERT`,
-//! `fire NET J P`, `closures NET P` and `meet NET FILE`, with their options.
+//! `fire NET J P`, `closures NET P`, `witness NET CERT OUT` and `meet NET FILE`, with their options.
 //!
 //! Tested by the words of `hyd_stored_runs`.
 #![tactic(auto)]
@@ -15,6 +15,7 @@ mod said_words;
 
 pub use command::{
     ClosuresWords, Command, Files, FireWords, GenWords, LinkNames, MeetWords, RunWords,
+    WitnessWords,
 };
 pub use command_of_words::read_words;
 pub use names_of_links::MOST_NAMES;

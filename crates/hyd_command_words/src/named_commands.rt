@@ -3,9 +3,9 @@
 ghost use Rattle.std.specs.Prelude.{◌≡◌, ◌-◌, option_map, not, ◌==◌, ◌||◌};
 ghost use Rattle.hyd_command_words.specs.CommandGrammar as orders;
 ghost use Rattle.hyd_command_words.specs.CommandView.{said_seen, texts_seen, order_seen, gen_seen};
-ghost use Rattle.hyd_command_words.specs.CommandView.{files_seen, meet_seen};
+ghost use Rattle.hyd_command_words.specs.CommandView.{files_seen, witness_seen, meet_seen};
 
-use crate::command::{Command, Files, GenWords, MeetWords, RunWords};
+use crate::command::{Command, Files, GenWords, MeetWords, RunWords, WitnessWords};
 use crate::commands_on_targets::{closures_command, fire_command};
 use crate::names_of_links::flows_of;
 use crate::numbers::{number_within, rounds_of, width_of};
@@ -29,6 +29,9 @@ pub(crate) fn order_named<'a>(name: &str, said: Said<'_, 'a>) -> Option<Command<
     }
     if name == "closures" {
         return closures_command(said);
+    }
+    if name == "witness" {
+        return witness_command(said);
     }
     if name == "meet" {
         return meet_command(said);
@@ -75,6 +78,16 @@ fn gen_command<'a>(said: Said<'_, 'a>) -> Option<Command<'a>>
     Some(Command::Gen(order))
 }
 
+fn witness_command<'a>(said: Said<'_, 'a>) -> Option<Command<'a>>
+    ensures { option_map order_seen result ≡ orders.witness_command (said_seen said.entry) }
+{
+    if has_options(said) {
+        return None;
+    }
+    let order = witness_words(said.names)?;
+    Some(Command::Witness(order))
+}
+
 fn meet_command<'a>(said: Said<'_, 'a>) -> Option<Command<'a>>
     ensures { option_map order_seen result ≡ orders.meet_command (said_seen said.entry) }
 {
@@ -112,6 +125,26 @@ fn differing<'a>(net: &'a str, cert: &'a str) -> Option<Files<'a>>
         return None;
     }
     Some(Files { net, cert })
+}
+
+fn witness_words<'a>(names: &[&'a str]) -> Option<WitnessWords<'a>>
+    ensures { option_map witness_seen result ≡ orders.witness_order (texts_seen names.now) }
+{
+    match names {
+        [net, cert, out] => witness_of(net, cert, out),
+        _ => None,
+    }
+}
+
+// NET, CERT and OUT, if no two of their names are the same.
+fn witness_of<'a>(net: &'a str, cert: &'a str, out: &'a str) -> Option<WitnessWords<'a>>
+    ensures { option_map witness_seen result ≡ orders.witness_of net.now cert.now out.now }
+{
+    if net == out || cert == out {
+        return None;
+    }
+    let files = differing(net, cert)?;
+    Some(WitnessWords { files, out })
 }
 
 fn meet_words<'a>(names: &[&'a str]) -> Option<MeetWords<'a>>

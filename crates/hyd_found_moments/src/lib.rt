@@ -1,5 +1,5 @@
 //! A moment that is met as the next period of a witness, found from a record of a certificate.
-//! No command calls it as yet.
+//! Tested by the commands of `hyd_stored_runs`.
 #![tactic(auto)]
 
 mod beginnings;

@@ -18,6 +18,7 @@ fn page_of(topic: &str) -> Option<&'static str> {
         "gen" => Some(say::HELP_OF_GEN),
         "fire" => Some(say::HELP_OF_FIRE),
         "closures" => Some(say::HELP_OF_CLOSURES),
+        "witness" => Some(say::HELP_OF_WITNESS),
         "meet" => Some(say::HELP_OF_MEET),
         _ => None,
     }
@@ -29,7 +30,7 @@ fn write_page<W: fmt::Write>(topic: &str, f: &mut Formatter<W>) -> fmt::Result {
         Some(page) => f.write_str(page),
         None => write!(
             f,
-            "there is no command {topic}: those are run, check, gen, fire, closures and meet\n\n{}",
+            "there is no command {topic}: those are run, check, gen, fire, closures, witness and meet\n\n{}",
             say::HELP
         ),
     }

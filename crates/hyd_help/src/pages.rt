@@ -20,6 +20,10 @@ and proves the intervals that it prints.
       closes each pipe alone at the start, and prints the junctions that aren't
       shown to keep the pressure P
       hyd closures examples/net1.inp 20
+  hyd witness NET CERT OUT
+      looks for a witness of a certificate, exact heads and flows that are a
+      history of the network, and writes it to OUT
+      hyd witness examples/net1.inp net1.cert net1.wit
   hyd meet NET FILE
       checks a witness: exact heads and flows, period by period
       hyd meet examples/one-valve.inp examples/one-valve.wit
@@ -28,14 +32,14 @@ N is 200 where it isn't given, W is 0.01 metres.
 hyd help COMMAND explains the words of a command.
 
 Status 0: done. 2: the words aren't a command. 5: NET is refused.
-6: something can't be decided, or a period of FILE isn't met. 7: rounds are
-spent. 8: a demand is out of range. 9: CERT or FILE isn't right. 1: memory ran
-out. 3: a file couldn't be read. 4: one couldn't be written. 10: a write took
-nothing.
+6: something can't be decided, a period of FILE isn't met, or no witness was
+found. 7: rounds are spent. 8: a demand is out of range. 9: CERT or FILE isn't
+right. 1: memory ran out. 3: a file couldn't be read. 4: one couldn't be
+written. 10: a write took nothing.
 
 README.md: how to read a report. docs/ANSWERS.md: each line and status.
 docs/REFUSALS.md: what NET may have. docs/CERTIFICATES.md: what CERT is worth.
-docs/WITNESSES.md: what FILE is worth.";
+docs/WITNESSES.md: what OUT and FILE are worth.";
 
 pub(crate) const HELP_OF_RUN: &str = "run NET CERT [--sweeps N] [--width W] [--tight] [--flows IDS]
 
@@ -121,6 +125,26 @@ at most P, else UNSURE, NOCERT or ROUNDS. It writes nothing.
 
 Status 0: done. 5: NET is refused. 8: a demand is out of range. 1, 3, 4, 10:
 memory or files.";
+
+pub(crate) const HELP_OF_WITNESS: &str = "witness NET CERT OUT
+
+Looks for a witness of a certificate: for each period exact heads, flows and
+levels, so that all of them are a history of the network. It prints WITNESS and
+the number of periods, or NOWITNESS and the first period for which it found
+none. That doesn't say that there is none.
+
+  NET   the network
+  CERT  its certificate, which is checked as by hyd check: a file, since it may
+        be read three times
+  OUT   the witness, which is written. A file that is there is overwritten where
+        it is empty, a witness or a certificate other than CERT
+
+  hyd witness examples/net1.inp net1.cert net1.wit
+
+Status 0: found (WITNESS). 6: none found for a period (NOWITNESS). 9: CERT isn't
+right. With 6 and 9 OUT has the periods before it. 5: NET is refused, and OUT
+stays as it was. 1, 3, 4, 10: memory or files.
+docs/WITNESSES.md: what OUT has, and what it is worth.";
 
 pub(crate) const HELP_OF_MEET: &str = "meet NET FILE
 

@@ -26,10 +26,8 @@ pub(crate) enum WrongWord<'a> {
     TooFew(usize, Usage),
     /// A word too many for a command.
     TooMany(&'a str, Usage),
-    /// One name for the network and the certificate.
-    OneFile(&'a str),
-    /// One name for the network and the witness.
-    OneWitness(&'a str),
+    /// One name for two files: what the earlier word stands for, what the later one does, and the name.
+    OneName(&'static str, &'static str, &'a str),
 }
 
 /// The words of a command, each behind a space.
@@ -48,6 +46,14 @@ fn values_of(asked: &str) -> &'static str {
         "P" =>
             "a pressure of at most 10000 in magnitude, in the unit of NET, with a point before its decimals, as 20.5",
         _ => "another word",
+    }
+}
+
+// What a file is that isn't the first one of its command.
+fn file_named(asked: &str) -> &'static str {
+    match asked {
+        "CERT" => "the certificate",
+        _ => "the witness",
     }
 }
 
@@ -114,7 +120,7 @@ impl Display for WrongWord<'_> {
         match *self {
             WrongWord::NoCommand(word) => write!(
                 f,
-                "{word} is no command: the first word is run, check, gen, fire, closures or meet. hyd --help shows all commands"
+                "{word} is no command: the first word is run, check, gen, fire, closures, witness or meet. hyd --help shows all commands"
             ),
             WrongWord::NoOption(word, usage) => write_no_option(word, usage, f),
             WrongWord::ValueLacks(option) => write!(
@@ -133,13 +139,10 @@ impl Display for WrongWord<'_> {
             WrongWord::Twice(option) => write!(f, "{option} stands twice"),
             WrongWord::TooFew(count, usage) => write_too_few(count, usage, f),
             WrongWord::TooMany(word, usage) => write_too_many(word, usage, f),
-            WrongWord::OneFile(name) => write!(
+            WrongWord::OneName(one, other, name) => write!(
                 f,
-                "NET and CERT are both called {name}: the certificate is another file"
-            ),
-            WrongWord::OneWitness(name) => write!(
-                f,
-                "NET and FILE are both called {name}: the witness is another file"
+                "{one} and {other} are both called {name}: {} is another file",
+                file_named(other)
             ),
         }
     }

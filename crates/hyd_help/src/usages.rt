@@ -51,6 +51,12 @@ const CLOSURES: Usage = Usage {
     options: &["--sweeps"],
 };
 
+const WITNESS: Usage = Usage {
+    name: "witness",
+    words: &["NET", "CERT", "OUT"],
+    options: &[],
+};
+
 const MEET: Usage = Usage {
     name: "meet",
     words: &["NET", "FILE"],
@@ -65,8 +71,17 @@ pub(crate) fn usage_of(name: &str) -> Option<Usage> {
         "gen" => Some(GEN),
         "fire" => Some(FIRE),
         "closures" => Some(CLOSURES),
+        "witness" => Some(WITNESS),
         "meet" => Some(MEET),
         _ => None,
+    }
+}
+
+/// Whether a word stands for a file.
+pub(crate) fn is_file(asked: &str) -> bool {
+    match asked {
+        "NET" | "CERT" | "OUT" | "FILE" => true,
+        _ => false,
     }
 }
 

@@ -2,7 +2,7 @@
 
 use crate::spoken_words::{Spoken, is_repeated, spoken_in, word_at, word_count};
 use crate::texts::{GENERAL, WrongWord};
-use crate::usages::{Usage, fits, takes_value, usage_of};
+use crate::usages::{Usage, fits, is_file, takes_value, usage_of};
 use std::fmt::{self, Display, Formatter};
 
 /// Why words aren't a command, and where help is. Where nothing certain is found, the sentence is a general one.
@@ -80,18 +80,27 @@ fn count_fault<'a>(usage: Usage, words: &'a [String]) -> Option<WrongWord<'a>> {
     None
 }
 
+// What the first file of a name stands for, among those before a place.
+fn file_before(usage: Usage, words: &[String], place: usize, name: &str) -> Option<&'static str> {
+    for (before, asked) in usage.words.iter().take(place).enumerate() {
+        if is_file(asked) && word_at(words, before)? == name {
+            return Some(asked);
+        }
+    }
+    None
+}
+
 // One name for two files.
 fn name_fault<'a>(usage: Usage, words: &'a [String]) -> Option<WrongWord<'a>> {
-    let last = usage.words.len().checked_sub(1)?;
-    let name = word_at(words, last)?;
-    if word_at(words, last.checked_sub(1)?)? != name {
-        return None;
+    for (place, asked) in usage.words.iter().enumerate() {
+        let name = word_at(words, place)?;
+        if is_file(asked) {
+            if let Some(before) = file_before(usage, words, place, name) {
+                return Some(WrongWord::OneName(before, asked, name));
+            }
+        }
     }
-    match usage.words.last() {
-        Some(&"CERT") => Some(WrongWord::OneFile(name)),
-        Some(&"FILE") => Some(WrongWord::OneWitness(name)),
-        _ => None,
-    }
+    None
 }
 
 // What is wrong with the number of words, or with the names among them.

@@ -4,13 +4,14 @@
 use Rattle.std.specs.Prelude.{ℕ, ℤ, pos, Bool, true, false, List, Option, fold, if◌then◌else◌, ◌&&◌, ◌==◌}
 use Rattle.std.specs.Int.{int_max, int_min}
 use Rattle.std.specs.Option.{option_map_or}
-use Rattle.hyd_num.specs.Rational.{Rational}
+use Rattle.hyd_num.specs.Rational.{Rational, floor, ceiling}
+use Rattle.hyd_net.specs.Curves.{value_at, volume_at, volume_knots}
 use Rattle.hyd_spec.specs.Scale.{missed_stock_ticks}
-use Rattle.hyd_spec.specs.ProgramTypes.{Tank, Control, When, AtLevel}
-use Rattle.hyd_spec.specs.Tank.{Walls, Cylinder, Curve, exact_content}
+use Rattle.hyd_spec.specs.ProgramTypes.{Tank, VolumePoint, Control, When, AtLevel}
+use Rattle.hyd_spec.specs.Tank.{Walls, Cylinder, Curve, content_bounds, is_bound}
 use Rattle.hyd_spec_certificates.specs.Interval.{Interval, exactly}
-use Rattle.hyd_spec_certificates.specs.Stocks.{Stocks, lower_level, upper_level, contents_after, carried_levels}
-use Rattle.hyd_spec_certificates.specs.Stocks.{levels_at}
+use Rattle.hyd_spec_certificates.specs.Stocks.{Stocks, exact_least, exact_greatest, lower_end, upper_end, lower_level}
+use Rattle.hyd_spec_certificates.specs.Stocks.{upper_level, contents_after, carried_levels, levels_at}
 use Rattle.hyd_spec_certificates.specs.ThreeValuedLogic.{is_yes}
 use Rattle.hyd_spec_certificates.specs.Decided.{control_truth}
 
@@ -39,66 +40,94 @@ pub record Arrival : Type 0 where
   pub rising : Bool
   pub not_before : Bool
 
--- The content of a cylinder at a level, and after one second of an inflow from there on.
-abbrev pub content_of_level : ℕ → ℤ → Rational
-content_of_level area level =
-    exact_content (Cylinder area) (record { level = level; volume = pos 0 }) (pos 0) 0
+-- The volume at which a tank with a volume curve has met a level, ABOVE or BELOW, outward to whole ticks: the volume
+-- that is kept at the bound, where the level is the bound there, else that at the level on the curve.
+abbrev pub goal_volume : List VolumePoint → Tank → Bool → ℤ → Interval
+goal_volume points tank above target =
+    if is_bound tank above target then exactly (volume_at points target)
+    else let volume = value_at 1 (volume_knots points) target in
+    record { lo = floor volume; hi = ceiling volume }
 
-abbrev pub content_a_second_later : ℕ → ℤ → ℤ → Rational
-content_a_second_later area level inflow =
-    exact_content (Cylinder area) (record { level = level; volume = pos 0 }) inflow 1
+-- The stocks at which a tank has met a level: that level of a cylinder, that volume of a tank with a volume curve.
+abbrev pub goal_stocks : Walls → Tank → Bool → ℤ → Stocks
+goal_stocks (Cylinder area) tank above target = record { level = exactly target; volume = exactly (pos 0) }
+goal_stocks (Curve points) tank above target =
+    record { level = exactly target; volume = goal_volume points tank above target }
 
--- What a level that has just been reached from below leaves of an interval of the levels of a cylinder: it has come to
--- that level, and where it had not a second before, it has passed it by one second of the greatest inflow at most. Each
--- end is the level of a content, rounded outward and moved outward by the widening, in the bounds.
-abbrev pub cut_from_below : ℤ → ℕ → Tank → Interval → ℤ → Bool → Interval → Interval
-cut_from_below widening area tank inflow target not_before levels = record {
-  lo = int_max levels.lo (lower_level (Cylinder area) tank (content_of_level area target) widening);
-  hi = if not_before
-      then int_min levels.hi (upper_level (Cylinder area) tank (content_a_second_later area target inflow.hi) widening)
-      else levels.hi;
+-- The least and the greatest content of some stocks, before anything flows in.
+abbrev pub least_content : Walls → Stocks → Rational
+least_content walls stocks = exact_least walls stocks (exactly (pos 0)) 0
+
+abbrev pub greatest_content : Walls → Stocks → Rational
+greatest_content walls stocks = exact_greatest walls stocks (exactly (pos 0)) 0
+
+-- How the ends of an interval go with contents.
+pub record Ends : Type 0 where
+  pub lower : Rational → ℤ
+  pub upper : Rational → ℤ
+
+-- Ends of levels and of contents, rounded outward, moved outward by the widening and held within their bounds.
+abbrev pub level_ends : ℤ → Walls → Tank → Ends
+level_ends widening walls tank = record {
+  lower = λ x. lower_level walls tank x widening;
+  upper = λ x. upper_level walls tank x widening;
+}
+
+abbrev pub content_ends : ℤ → Walls → Tank → Ends
+content_ends widening walls tank =
+    let bounds = content_bounds walls tank in
+    record { lower = λ x. lower_end bounds bounds x x widening; upper = λ x. upper_end bounds bounds x x widening }
+
+-- What a level that has just been reached from below leaves of an interval: the content has come to the goal, and where
+-- it had not a second before, it has passed the goal by one second of the greatest inflow at most.
+abbrev pub cut_from_below : Ends → Walls → Stocks → Interval → Bool → Interval → Interval
+cut_from_below ends walls goal inflow not_before x = record {
+  lo = int_max x.lo (ends.lower (least_content walls goal));
+  hi = if not_before then int_min x.hi (ends.upper (exact_greatest walls goal inflow 1)) else x.hi;
 }
 
 -- The same of a level that has just been reached from above, by the least inflow.
-abbrev pub cut_from_above : ℤ → ℕ → Tank → Interval → ℤ → Bool → Interval → Interval
-cut_from_above widening area tank inflow target not_before levels = record {
-  lo = if not_before
-      then int_max levels.lo (lower_level (Cylinder area) tank (content_a_second_later area target inflow.lo) widening)
-      else levels.lo;
-  hi = int_min levels.hi (upper_level (Cylinder area) tank (content_of_level area target) widening);
+abbrev pub cut_from_above : Ends → Walls → Stocks → Interval → Bool → Interval → Interval
+cut_from_above ends walls goal inflow not_before x = record {
+  lo = if not_before then int_max x.lo (ends.lower (exact_least walls goal inflow 1)) else x.lo;
+  hi = int_min x.hi (ends.upper (greatest_content walls goal));
 }
 
--- What a level that has just been reached leaves of the levels.
-abbrev pub cut_by : ℤ → ℕ → Tank → Interval → Arrival → Interval → Interval
-cut_by widening area tank inflow arrival levels =
-    if arrival.rising then cut_from_below widening area tank inflow arrival.target arrival.not_before levels
-    else cut_from_above widening area tank inflow arrival.target arrival.not_before levels
+-- What a level of the tank that has just been reached leaves of an interval with such ends.
+abbrev pub cut_by : Ends → Walls → Tank → Interval → Arrival → Interval → Interval
+cut_by ends walls tank inflow arrival x =
+    let goal = goal_stocks walls tank arrival.rising arrival.target in
+    if arrival.rising then cut_from_below ends walls goal inflow arrival.not_before x
+    else cut_from_above ends walls goal inflow arrival.not_before x
 
 -- The same where some level of the tank has just been reached.
-abbrev pub cut_where_reached : ℤ → ℕ → Tank → Interval → Option Arrival → Interval → Interval
-cut_where_reached widening area tank inflow arrival levels =
-    option_map_or (λ reached. cut_by widening area tank inflow reached levels) arrival levels
+abbrev pub cut_where_reached : Ends → Walls → Tank → Interval → Option Arrival → Interval → Interval
+cut_where_reached ends walls tank inflow arrival x =
+    option_map_or (λ reached. cut_by ends walls tank inflow reached x) arrival x
 
 -- ---- stocks at the end
 
--- The carried levels at the end of a period of such lengths. The levels of a tank with a volume curve aren't cut.
+-- The carried levels at the end of a period of such lengths.
 abbrev pub carried_at_end : Walls → Tank → Stocks → Interval → ℕ → ℕ → Option Arrival → Interval
-carried_at_end (Cylinder area) tank stocks inflow shortest longest arrival =
-    cut_where_reached (pos 0) area tank inflow arrival
-    (carried_levels_over (Cylinder area) tank stocks inflow shortest longest)
-carried_at_end (Curve points) tank stocks inflow shortest longest arrival =
-    carried_levels_over (Curve points) tank stocks inflow shortest longest
+carried_at_end walls tank stocks inflow shortest longest arrival =
+    cut_where_reached (level_ends (pos 0) walls tank) walls tank inflow arrival
+    (carried_levels_over walls tank stocks inflow shortest longest)
 
--- The stocks with which the next period begins, before it is looked at what they keep: as after one length, each end
--- of the content moved outward by ten ticks, but not beyond a bound. With a curve the levels go with the volumes.
+-- The contents with which the next period begins: as after one length, each end moved outward by ten ticks, but not
+-- beyond a bound.
+abbrev pub contents_at_end : Walls → Tank → Stocks → Interval → ℕ → ℕ → Option Arrival → Interval
+contents_at_end walls tank stocks inflow shortest longest arrival =
+    cut_where_reached (content_ends (pos missed_stock_ticks) walls tank) walls tank inflow arrival
+    (contents_over (pos missed_stock_ticks) walls tank stocks inflow shortest longest)
+
+-- The stocks with which it begins, before it is looked at what they keep. With a curve the levels go with the volumes.
 abbrev pub stocks_at_end : Walls → Tank → Stocks → Interval → ℕ → ℕ → Option Arrival → Stocks
 stocks_at_end (Cylinder area) tank stocks inflow shortest longest arrival = record {
-  level = cut_where_reached (pos missed_stock_ticks) area tank inflow arrival
-      (contents_over (pos missed_stock_ticks) (Cylinder area) tank stocks inflow shortest longest);
+  level = contents_at_end (Cylinder area) tank stocks inflow shortest longest arrival;
   volume = exactly (pos 0);
 }
 stocks_at_end (Curve points) tank stocks inflow shortest longest arrival =
-    let volume = contents_over (pos missed_stock_ticks) (Curve points) tank stocks inflow shortest longest in
+    let volume = contents_at_end (Curve points) tank stocks inflow shortest longest arrival in
     record { level = levels_at points tank volume; volume = volume }
 
 -- ---- levels that are kept

@@ -1,5 +1,6 @@
-//! What holds behind each run and each network that is made: a check accepts the certificate and prints the same report,
-//! or refuses the same text; a run of what was made writes the same certificate.
+//! What holds behind each run, each network that is made and each search: a check accepts the certificate and prints the
+//! same report, or refuses the same text; a run of what was made writes the same certificate; what was written of a witness
+//! is met.
 
 use crate::files_and_words::word_at;
 use hyd_cli::{Status, tool};
@@ -21,7 +22,18 @@ pub(crate) fn holds_behind(
         let cert = word_at(words, words.len() - 1);
         return is_made(alloc, net, cert, desk);
     }
+    if word_at(words, 0) == "witness" && has_ended(status) {
+        return is_met(alloc, word_at(words, 1), word_at(words, 3), desk);
+    }
     Ok(true)
+}
+
+/// Whether a search came to its end.
+fn has_ended(status: Status) -> bool {
+    match status {
+        Status::Done | Status::Undecided | Status::CertificateRefused => true,
+        _ => false,
+    }
 }
 
 /// Whether the words or what they name were refused.
@@ -72,6 +84,12 @@ fn repeats(desk: &MemDesk, report: &[u8]) -> bool {
         Some(behind) => behind == report,
         None => false,
     }
+}
+
+/// Whether each period of a witness is met.
+fn is_met(alloc: Global, net: &str, out: &str, desk: &mut MemDesk) -> Result<bool, AllocError> {
+    let words = words_on(alloc, "meet", net, out)?;
+    Ok(tool(alloc, &words, desk) == Status::Done)
 }
 
 /// Whether a network that was made is accepted, and runs to the same certificate.

@@ -14,22 +14,24 @@ pub(crate) fn run_all(rt: &HostRuntime) -> io::Result<()> {
     Ok(())
 }
 
-/// Runs a command line: prints it, what it prints, its status and, behind a run, the bytes of CERT if there are some.
+/// Runs a command line: prints it, what it prints, its status and, behind a run or a search, the bytes of CERT or OUT if
+/// there are some.
 fn run_line(rt: &HostRuntime, line: &str) -> io::Result<()> {
     println!(rt; "$ hyd {line}")?;
     let words = words_in(rt.alloc(), line)?;
     let status = tool(rt.alloc(), &words, &mut FileDesk::new(rt.alloc(), rt));
     println!(rt; "status {}", status.number())?;
-    if word_at(&words, 0) == "run" {
-        return print_certificate(rt, &words);
+    match word_at(&words, 0) {
+        "run" => print_first(rt, &words, ".cert"),
+        "witness" => print_first(rt, &words, ".wit"),
+        _ => Ok(()),
     }
-    Ok(())
 }
 
-/// Prints the bytes of the first file whose name ends as that of a certificate.
-fn print_certificate(rt: &HostRuntime, words: &[String]) -> io::Result<()> {
+/// Prints the bytes of the first file whose name ends so.
+fn print_first(rt: &HostRuntime, words: &[String], ending: &str) -> io::Result<()> {
     for word in words {
-        if word.as_str().ends_with(".cert") {
+        if word.as_str().ends_with(ending) {
             return print_file(rt, word.as_str());
         }
     }

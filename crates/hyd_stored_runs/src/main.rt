@@ -1,6 +1,7 @@
 //! Stored runs. The program runs each command line of `commands.txt` on the files of `data/`, and prints what the command
-//! prints, its status and, behind a run, the bytes of CERT. Then it tries the cases of `cases.txt` and `faults.txt` on
-//! desks in memory, each of which has what is expected in a file beside its own, and what needs no such file.
+//! prints, its status and, behind a run or a search, the bytes of CERT or OUT. Then it tries the cases of `cases.txt` and
+//! `faults.txt` on desks in memory, each of which has what is expected in a file beside its own, and what needs no such
+//! file.
 #![tactic(auto)]
 
 mod answers;

@@ -1,6 +1,6 @@
 //! Stored sentences. `texts.txt` has texts that are refused, each with the line and the cause that the reader answers;
 //! the program prints what is said of each, of each way in which the name of a link is refused, in which a run stops,
-//! in which a certificate is refused and in which a witness isn't met or has a bad line, of each junction of
+//! in which a certificate is refused and in which a witness isn't met, has a bad line or isn't found, of each junction of
 //! `cut_off.inp` and each line of `words.txt`, of pressures below 0, the pages of help and the lines of progress. What is
 //! expected stands in `stdout`. A cause, a detail, a stop or a refusal without a case is told, and so is a text of which
 //! the reader answers another line or cause.

@@ -12,6 +12,7 @@ pub(crate) fn say_all(rt: &HostRuntime) -> io::Result<()> {
         "gen",
         "fire",
         "closures",
+        "witness",
         "meet",
         "anything else",
     ] {

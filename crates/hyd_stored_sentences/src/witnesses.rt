@@ -1,10 +1,10 @@
-//! What is said of a witness that isn't met or has a line that can't be so.
+//! What is said of a witness that isn't met or has a line that can't be so, and of a period for which none was found.
 
 ghost use Rattle.hyd_net.specs.Sound.{IsSound};
 
 use hyd_net::Project;
 use hyd_spec_witnesses::{MetClause, Unmet};
-use hyd_witness_sentences::{BadLine, UnmetPeriod};
+use hyd_witness_sentences::{BadLine, UnfoundPeriod, UnmetPeriod};
 use std::io;
 
 /// Each clause that may fail, at a link or a junction of a number where it names one; the last two name none that there is.
@@ -60,5 +60,5 @@ pub(crate) fn say_all(rt: &HostRuntime, project: &Project) -> io::Result<()>
     for line in [1, 2, 12] {
         println!(rt; "{}", BadLine { line })?;
     }
-    Ok(())
+    println!(rt; "{}", UnfoundPeriod { period: 3 })
 }

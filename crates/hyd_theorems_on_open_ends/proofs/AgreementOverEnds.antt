@@ -243,7 +243,8 @@ module _ (project : Project) (sound : IsSound project) where
       lasts_to = let a = ends.to in let b = continues.longest in omega (arith, a, b)
 
       come : (k : ℕ) (tank : Tank) → slice_get project.tanks.list k ≡ Some tank
-          → AllHaveCome S (walls_of project tank) (inflow_of_tank project grid found.row k) (stock_at_start period k)
+          → AllHaveCome S (walls_of project tank) tank (inflow_of_tank project grid found.row k)
+          (stock_at_start period k)
           (tank_inflow project k period.assignment.flows) period.length
           (arrival_of found.shortest continues.reached k)
       come = all_come project sound S period grid standing found.row is_under_openly not_last is.lasts continues.way

@@ -1,23 +1,22 @@
 -- Where levels of one tank and one direction alone may end a period, each history has reached the nearest of them at
 -- its end, and not a second before.
-use Rattle.std.proofs.Common.{◌≡◌, ◌≢◌, ℕ, suc, ◌+◌, ◌-◌, ◌*◌, ◌^◌, ◌<◌, ◌≤◌, ℤ, pos, ◌+ℤ◌, ◌*ℤ◌, ◌≤ℤ◌, refl, sym}
+use Rattle.std.proofs.Common.{◌≡◌, ◌≢◌, ℕ, suc, ◌+◌, ◌-◌, ◌<◌, ◌≤◌, ℤ, refl, sym}
 use Rattle.std.proofs.Common.{ap}
 use Rattle.std.proofs.Common.{subst, ◌∙◌, arith, Bool, true, false, ◌==◌, ◌⊎◌, inl, inr, nat_le}
 use Rattle.std.specs.Prelude.{Option, Some, None, slice_get}
-use Rattle.std.proofs.lemmas.Int.{ints}
 use Rattle.std.proofs.lemmas.Bool.{cases_Bool, cond_both, eqb-true, leb-true}
-use Rattle.hyd_num.proofs.Integers.{times_rises, one_times}
 use Rattle.hyd_net.specs.Sound.{IsSound}
 use Rattle.hyd_spec.specs.ProgramTypes.{Project, Tank}
-use Rattle.hyd_spec.specs.Tank.{Walls, Cylinder, Curve, Stock, walls_of, exact_content, has_reached, tank_inflow}
+use Rattle.hyd_spec.specs.Tank.{Walls, Stock, walls_of, exact_content, has_reached, tank_inflow}
 use Rattle.hyd_spec.specs.PeriodLength.{Period, EndsByLevel, HasItsLength, by_level, stock_at_start}
 use Rattle.hyd_spec.specs.PeriodLength.{reached_after}
 use Rattle.hyd_spec_certificates.specs.Interval.{Interval}
+use Rattle.hyd_spec_certificates.specs.Stocks.{least_stock, greatest_stock, exact_least, exact_greatest}
 use Rattle.hyd_spec_certificates.specs.PeriodNetwork.{Grid}
 use Rattle.hyd_spec_certificates.specs.RecordAndStanding.{Record}
 use Rattle.hyd_spec_certificates.specs.Decided.{Watch, inflow_of_tank}
 use Rattle.hyd_spec_open_ends.specs.OpenStandings.{OpenStanding}
-use Rattle.hyd_spec_open_ends.specs.StocksOverLengths.{Arrival, content_of_level, content_a_second_later}
+use Rattle.hyd_spec_open_ends.specs.StocksOverLengths.{Arrival, goal_stocks}
 use Rattle.hyd_spec_open_ends.specs.RulesOverLengths.{NoRuleMattersUpTo}
 use Rattle.hyd_spec_open_ends.specs.OpenEnds.{AreSeconds, Way, EndsIn}
 use Rattle.hyd_spec_open_ends.specs.OpenEnds.{by_rules as in_by_rules, by_instant as in_by_instant}
@@ -25,102 +24,67 @@ use Rattle.hyd_spec_open_ends.specs.OpenEnds.{by_watched as in_by_watched}
 use Rattle.hyd_spec_open_ends.specs.Arrivals.{MayComeBy, IsNoFarther, IsArrival, Arrives, one, competing, arrival_of}
 use Rattle.hyd_spec_open_ends.specs.Arrivals.{by_rules as none_by_rules, by_instant as none_by_instant}
 use Rattle.hyd_theorems_on_definitions.specs.LyingInIntervals.{LiesIn}
-use Rattle.hyd_lemmas.proofs.Integers.{exchanged}
 use Rattle.hyd_lemmas.proofs.ListsOptionsAndResults.{same_item, same_some}
 use Rattle.hyd_theorems_on_definitions.proofs.ValuesAtTwoScales.{Leads}
-use Rattle.hyd_theorems_on_definitions.proofs.ValuesByContent.{above-yes, above-no, below-yes, below-no}
 use Rattle.hyd_theorems_on_histories.proofs.RuleReadingsBetweenEnds.{inflow_within}
 use Rattle.hyd_theorems_on_open_ends.specs.AgreementOverStarts.{begun_at, IsUnderOpenly}
 use Rattle.hyd_theorems_on_open_ends.proofs.ContentsOverLengths.{cut-above, cut-below}
+use Rattle.hyd_theorems_on_open_ends.proofs.ContentsAtGoals.{IsMeasured, nearer, within_reach, come_up, not_up}
+use Rattle.hyd_theorems_on_open_ends.proofs.ContentsAtGoals.{come_down, not_down, measured}
 use Rattle.hyd_theorems_on_open_ends.proofs.StocksOverLengths.{HasCome, from_below, from_above, AllHaveCome}
 use Rattle.hyd_theorems_on_open_ends.proofs.WatchesOfStandings.{HasReached, level_reached, reached_ends, reached_may_be}
 use Rattle.hyd_theorems_on_open_ends.proofs.LengthsOverStarts.{goes, itself, watched_most}
 
--- ---- a content against a level
-
--- the content at a level, and a second later, as whole numbers over the same breadth
-at-level : (B : ℕ) (t : ℤ) → (pos B *ℤ t) +ℤ (pos (0 * 10 ^ 15) *ℤ pos 0) ≡ pos B *ℤ t
-at-level B t = let n = nothing (0 * 10 ^ 15) in omega (arith, ints, n)
-  where
-    nothing : (n : ℕ) → pos n *ℤ pos 0 ≡ pos 0
-    nothing n = omega (arith, ints)
-
-has-come-up : (S area : ℕ) (t x : ℤ) → (pos (86400 * area) *ℤ (pos S *ℤ t)) ≤ℤ x
-    → Leads 1 S (content_of_level area t) (record { num = x; den = 86400 * area })
-has-come-up S area t x le = record {
-  crossed =
-      let B = 86400 * area in
-      let e : pos S *ℤ ((pos B *ℤ t) +ℤ (pos (0 * 10 ^ 15) *ℤ pos 0)) ≡ pos S *ℤ (pos B *ℤ t) =
-      ap (λ z. pos S *ℤ z) (at-level B t) in
-      times_rises B (pos S *ℤ ((pos B *ℤ t) +ℤ (pos (0 * 10 ^ 15) *ℤ pos 0))) (pos 1 *ℤ x)
-      (omega (arith, ints, e, le, exchanged B S t, one_times x));
-}
-
-is-short-of : (S area : ℕ) (t x : ℤ) → x ≤ℤ (pos (86400 * area) *ℤ (pos S *ℤ t))
-    → Leads S 1 (record { num = x; den = 86400 * area }) (content_of_level area t)
-is-short-of S area t x le = record {
-  crossed =
-      let B = 86400 * area in
-      let e : pos S *ℤ ((pos B *ℤ t) +ℤ (pos (0 * 10 ^ 15) *ℤ pos 0)) ≡ pos S *ℤ (pos B *ℤ t) =
-      ap (λ z. pos S *ℤ z) (at-level B t) in
-      times_rises B (pos 1 *ℤ x) (pos S *ℤ ((pos B *ℤ t) +ℤ (pos (0 * 10 ^ 15) *ℤ pos 0)))
-      (omega (arith, ints, e, le, exchanged B S t, one_times x));
-}
-
 -- a level that has been reached, with a farther one, and not a second before
-module _ (S : ℕ) (tank : Tank) (inflow : Interval) (stock : Stock) (q : ℤ) (length : ℕ) (flow : LiesIn S inflow q)
+module _ (S : ℕ) (some : 0 < S) (walls : Walls) (tank : Tank) (is : IsMeasured walls tank) (inflow : Interval)
+    (stock : Stock) (q : ℤ) (length : ℕ) (flow : LiesIn S inflow q)
     (target farther : ℤ) (not_before : Bool) (two : not_before ≡ true → 2 ≤ length) where
-  come-by : (walls : Walls) (rising : Bool) → IsNoFarther rising target farther
+  come-by : (rising : Bool) → IsNoFarther rising target farther
       → has_reached S walls tank stock q rising farther length ≡ true
       → ((before : ℕ) → 1 ≤ before → before < length → has_reached S walls tank stock q rising target before ≡ false)
-      → AllHaveCome S walls inflow stock q length
+      → AllHaveCome S walls tank inflow stock q length
       (Some (record { target = target; rising = rising; not_before = not_before }))
-  come-by (Cylinder area) true near reached unreached = λ other e. subst (HasCome S area inflow _)
-      (same_item Arrival _ other e) (from_below target not_before now passed)
+  come-by true near reached unreached = λ other e. subst (HasCome S walls tank inflow _)
+      (same_item Arrival _ other e)
+      (from_below target not_before (come_up S some tank stock q length walls is target now)
+      passed)
     where
-      now : Leads 1 S (content_of_level area target) (exact_content (Cylinder area) stock q length)
-      now = has-come-up S area target (exact_content (Cylinder area) stock q length).num
-          (let a = above-yes S farther (exact_content (Cylinder area) stock q length) reached in
-          let b = times_rises (86400 * area) (pos S *ℤ target) (pos S *ℤ farther) (times_rises S target farther near) in
-          omega (arith, ints, a, b))
+      now : has_reached S walls tank stock q true target length ≡ true
+      now = nearer S some tank stock q length walls is true target farther near reached
 
-      passed : not_before ≡ true
-          → Leads S 1 (exact_content (Cylinder area) stock q length) (content_a_second_later area target inflow.hi)
+      passed : not_before ≡ true → Leads S 1 (exact_content walls stock q length)
+          (exact_greatest walls (goal_stocks walls tank true target) inflow 1)
       passed e =
           let l = two e in
           let n : suc (length - 1) ≡ length = omega (arith, l) in
-          subst (λ m. Leads S 1 (exact_content (Cylinder area) stock q m)
-          (content_a_second_later area target inflow.hi)) n
-          (cut-above S (Cylinder area) (record { level = target; volume = pos 0 }) inflow stock q (length - 1) flow
-          (is-short-of S area target (exact_content (Cylinder area) stock q (length - 1)).num
-          (let a = above-no S target (exact_content (Cylinder area) stock q (length - 1))
-          (unreached (length - 1) (omega (arith, l)) (omega (arith, l))) in omega (arith, ints, a))))
-  come-by (Cylinder area) false near reached unreached = λ other e. subst (HasCome S area inflow _)
-      (same_item Arrival _ other e) (from_above target not_before now passed)
+          subst (λ m. Leads S 1 (exact_content walls stock q m)
+          (exact_greatest walls (goal_stocks walls tank true target) inflow 1)) n
+          (cut-above S walls (greatest_stock (goal_stocks walls tank true target)) inflow stock q (length - 1) flow
+          (not_up S some tank stock q (length - 1) walls is target
+          (within_reach S some tank stock q length walls is true target now)
+          (unreached (length - 1) (omega (arith, l)) (omega (arith, l)))))
+  come-by false near reached unreached = λ other e. subst (HasCome S walls tank inflow _)
+      (same_item Arrival _ other e)
+      (from_above target not_before (come_down S some tank stock q length walls is target now) passed)
     where
-      now : Leads S 1 (exact_content (Cylinder area) stock q length) (content_of_level area target)
-      now = is-short-of S area target (exact_content (Cylinder area) stock q length).num
-          (let a = below-yes S farther (exact_content (Cylinder area) stock q length) reached in
-          let b = times_rises (86400 * area) (pos S *ℤ farther) (pos S *ℤ target) (times_rises S farther target near) in
-          omega (arith, ints, a, b))
+      now : has_reached S walls tank stock q false target length ≡ true
+      now = nearer S some tank stock q length walls is false target farther near reached
 
-      passed : not_before ≡ true
-          → Leads 1 S (content_a_second_later area target inflow.lo) (exact_content (Cylinder area) stock q length)
+      passed : not_before ≡ true → Leads 1 S (exact_least walls (goal_stocks walls tank false target) inflow 1)
+          (exact_content walls stock q length)
       passed e =
           let l = two e in
           let n : suc (length - 1) ≡ length = omega (arith, l) in
-          subst (λ m. Leads 1 S (content_a_second_later area target inflow.lo)
-          (exact_content (Cylinder area) stock q m)) n
-          (cut-below S (Cylinder area) (record { level = target; volume = pos 0 }) inflow stock q (length - 1) flow
-          (has-come-up S area target (exact_content (Cylinder area) stock q (length - 1)).num
-          (let a = below-no S target (exact_content (Cylinder area) stock q (length - 1))
-          (unreached (length - 1) (omega (arith, l)) (omega (arith, l))) in omega (arith, ints, a))))
-  come-by (Curve points) rising near reached unreached = tt
+          subst (λ m. Leads 1 S (exact_least walls (goal_stocks walls tank false target) inflow 1)
+          (exact_content walls stock q m)) n
+          (cut-below S walls (least_stock (goal_stocks walls tank false target)) inflow stock q (length - 1) flow
+          (not_down S some tank stock q (length - 1) walls is target
+          (within_reach S some tank stock q length walls is false target now)
+          (unreached (length - 1) (omega (arith, l)) (omega (arith, l)))))
 
-pub none_come : (S : ℕ) (walls : Walls) (inflow : Interval) (stock : Stock) (q : ℤ) (length : ℕ)
-    → AllHaveCome S walls inflow stock q length None
-none_come S (Cylinder area) inflow stock q length = λ other e. absurd (cc)
-none_come S (Curve points) inflow stock q length = tt
+pub none_come : (S : ℕ) (walls : Walls) (tank : Tank) (inflow : Interval) (stock : Stock) (q : ℤ) (length : ℕ)
+    → AllHaveCome S walls tank inflow stock q length None
+none_come S walls tank inflow stock q length = λ other e. absurd (cc)
 
 -- ---- in a period
 
@@ -205,7 +169,7 @@ module _ (project : Project) (sound : IsSound project) (S : ℕ) (period : Perio
     -- what has just been reached has come, of each tank
     one-comes : (shortest : ℕ) → shortest ≤ period.length → (k : ℕ) (tank : Tank)
         → slice_get project.tanks.list k ≡ Some tank
-        → AllHaveCome S (walls_of project tank) (inflow_of_tank project grid row k) (stock_at_start period k)
+        → AllHaveCome S (walls_of project tank) tank (inflow_of_tank project grid row k) (stock_at_start period k)
         (tank_inflow project k period.assignment.flows) period.length (arrival_of shortest (Some watch) k)
     one-comes shortest from k tank at =
         cond_both (watch.tank == k) (Some (record {
@@ -213,14 +177,14 @@ module _ (project : Project) (sound : IsSound project) (S : ℕ) (period : Perio
           rising = watch.rising;
           not_before = nat_le 2 shortest;
         })) None
-        (AllHaveCome S (walls_of project tank) (inflow_of_tank project grid row k) (stock_at_start period k)
+        (AllHaveCome S (walls_of project tank) tank (inflow_of_tank project grid row k) (stock_at_start period k)
         (tank_inflow project k period.assignment.flows) period.length)
         (λ e. here (eqb-true watch.tank k e))
-        (λ e. none_come S (walls_of project tank) (inflow_of_tank project grid row k) (stock_at_start period k)
+        (λ e. none_come S (walls_of project tank) tank (inflow_of_tank project grid row k) (stock_at_start period k)
         (tank_inflow project k period.assignment.flows) period.length)
       where
         here : watch.tank ≡ k
-            → AllHaveCome S (walls_of project tank) (inflow_of_tank project grid row k) (stock_at_start period k)
+            → AllHaveCome S (walls_of project tank) tank (inflow_of_tank project grid row k) (stock_at_start period k)
             (tank_inflow project k period.assignment.flows) period.length (Some (record {
               target = watch.target;
               rising = watch.rising;
@@ -230,12 +194,13 @@ module _ (project : Project) (sound : IsSound project) (S : ℕ) (period : Perio
             let there : slice_get project.tanks.list watch.tank ≡ Some tank =
             subst (λ n. slice_get project.tanks.list n ≡ Some tank) (sym same) at in
             let found = at-the-end tank there in
-            come-by S tank (inflow_of_tank project grid row k) (stock_at_start period k)
+            come-by S under.own.compared.some (walls_of project tank) tank (measured project sound k tank at)
+            (inflow_of_tank project grid row k) (stock_at_start period k)
             (tank_inflow project k period.assignment.flows) period.length
             (inflow_within project S period grid (begun_at standing.known period.time) row under.own k tank at)
             watch.target found.farther (nat_le 2 shortest)
             (λ e. let two = leb-true 2 shortest e in omega (arith, two, from))
-            (walls_of project tank) watch.rising found.no_nearer
+            watch.rising found.no_nearer
             (ap (λ n. reached_after project S period n tank watch.rising found.farther period.length) (sym same)
             ∙ found.reached)
             (λ second some short.
@@ -246,17 +211,17 @@ module _ (project : Project) (sound : IsSound project) (S : ℕ) (period : Perio
   pub all_come : (way : Way) (reached : Option Watch) → EndsIn project grid standing row way
       → Arrives project grid standing.known row way reached → (shortest : ℕ) → shortest ≤ period.length
       → (k : ℕ) (tank : Tank) → slice_get project.tanks.list k ≡ Some tank
-      → AllHaveCome S (walls_of project tank) (inflow_of_tank project grid row k) (stock_at_start period k)
+      → AllHaveCome S (walls_of project tank) tank (inflow_of_tank project grid row k) (stock_at_start period k)
       (tank_inflow project k period.assignment.flows) period.length (arrival_of shortest reached k)
   all_come _ _ (in_by_watched {cap = cap} {earliest = earliest} {latest = latest} seconds before none)
       (one {watch = watch} arrival) shortest from k tank at =
       one-comes cap earliest latest seconds before none watch arrival shortest from k tank at
   all_come _ _ (in_by_watched seconds before none) (competing other) shortest from k tank at =
-      none_come S (walls_of project tank) (inflow_of_tank project grid row k) (stock_at_start period k)
+      none_come S (walls_of project tank) tank (inflow_of_tank project grid row k) (stock_at_start period k)
       (tank_inflow project k period.assignment.flows) period.length
   all_come _ _ (in_by_rules seconds first after in_time none_open) none_by_rules shortest from k tank at =
-      none_come S (walls_of project tank) (inflow_of_tank project grid row k) (stock_at_start period k)
+      none_come S (walls_of project tank) tank (inflow_of_tank project grid row k) (stock_at_start period k)
       (tank_inflow project k period.assignment.flows) period.length
   all_come _ _ (in_by_instant seconds same none) none_by_instant shortest from k tank at =
-      none_come S (walls_of project tank) (inflow_of_tank project grid row k) (stock_at_start period k)
+      none_come S (walls_of project tank) tank (inflow_of_tank project grid row k) (stock_at_start period k)
       (tank_inflow project k period.assignment.flows) period.length

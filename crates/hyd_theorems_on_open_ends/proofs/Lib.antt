@@ -1,4 +1,5 @@
 pub mod ContentsOverLengths
+pub mod ContentsAtGoals
 pub mod StocksOverLengths
 pub mod WatchesOfStandings
 pub mod QuietStarts

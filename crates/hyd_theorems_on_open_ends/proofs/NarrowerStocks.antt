@@ -9,15 +9,16 @@ use Rattle.std.proofs.lemmas.Bool.{cond_both}
 use Rattle.hyd_num.proofs.Integers.{one_times}
 use Rattle.hyd_num.specs.Rational.{Rational, whole}
 use Rattle.hyd_spec.specs.ProgramTypes.{Tank, Control, When, AtLevel, AtTime, AtClock}
-use Rattle.hyd_spec.specs.Tank.{Walls, Cylinder, content_bounds}
+use Rattle.hyd_spec.specs.Tank.{Walls, Stock, content_bounds, exact_content}
 use Rattle.hyd_spec_certificates.specs.Interval.{Interval}
 use Rattle.hyd_spec_certificates.specs.Stocks.{Stocks, least_stock, greatest_stock, exact_least, exact_greatest}
-use Rattle.hyd_spec_certificates.specs.Stocks.{lower_end, upper_end, lower_level, upper_level, contents_after}
+use Rattle.hyd_spec_certificates.specs.Stocks.{lower_end, upper_end, contents_after}
 use Rattle.hyd_spec_certificates.specs.Stocks.{carried_levels}
 use Rattle.hyd_spec_certificates.specs.ThreeValuedLogic.{is_yes, at_both_ends}
 use Rattle.hyd_spec_certificates.specs.Decided.{control_truth}
 use Rattle.hyd_spec_open_ends.specs.StocksOverLengths.{hull, contents_over, carried_levels_over, cut_by}
-use Rattle.hyd_spec_open_ends.specs.StocksOverLengths.{content_of_level, content_a_second_later}
+use Rattle.hyd_spec_open_ends.specs.StocksOverLengths.{Ends, level_ends, content_ends, goal_stocks, least_content}
+use Rattle.hyd_spec_open_ends.specs.StocksOverLengths.{greatest_content}
 use Rattle.hyd_spec_open_ends.specs.StocksOverLengths.{on_side, kept_when, kept}
 use Rattle.hyd_theorems_on_definitions.specs.LyingInIntervals.{LiesIn, LiesAround, StockLies, IsInside, AreInside}
 use Rattle.hyd_theorems_on_definitions.specs.LyingInIntervals.{HasStock}
@@ -184,71 +185,94 @@ module _ (walls : Walls) (tank : Tank) (vessel : IsVessel walls tank) (stocks wi
 
 -- ---- the cut
 
-module _ (area : ℕ) (tank : Tank) (vessel : IsVessel (Cylinder area) tank) (widening : ℤ) (positive : pos 0 ≤ℤ widening)
+-- ends that rise with contents
+pub record AreRising (ends : Ends) : Type 0 where
+  pub low : (x y : Rational) → 0 < x.den → 0 < y.den → Leads 1 1 x y → ends.lower x ≤ℤ ends.lower y
+  pub high : (x y : Rational) → 0 < x.den → 0 < y.den → Leads 1 1 x y → ends.upper x ≤ℤ ends.upper y
+
+module _ (widening : ℤ) (positive : pos 0 ≤ℤ widening) (walls : Walls) (tank : Tank) (vessel : IsVessel walls tank)
   where
-    level-some : (target q : ℤ) → 0 < (content_a_second_later area target q).den
-    level-some target q = exact-some (Cylinder area) (record { level = target; volume = pos 0 }) q 1 vessel.holds_water
+    pub level_ends_rise : AreRising (level_ends widening walls tank)
+    level_ends_rise = record {
+      low = λ x y some other leads. lower-levels walls tank vessel x y widening positive some other leads;
+      high = λ x y some other leads. upper-levels walls tank vessel x y widening positive some other leads;
+    }
 
-    -- a second of a greater inflow leads to more
-    second-leads : (target p q : ℤ) → p ≤ℤ q
-        → Leads 1 1 (content_a_second_later area target p) (content_a_second_later area target q)
-    second-leads target p q le =
-        content-leads 1 1 (Cylinder area) (record { level = target; volume = pos 0 })
-        (record { level = target; volume = pos 0 }) p q 1 (omega (arith, ints)) (omega (arith, ints, le))
+    pub content_ends_rise : AreRising (content_ends widening walls tank)
+    content_ends_rise = record {
+      low = λ x y some other leads. lower-rises (content_bounds walls tank) (content_bounds walls tank) x y x y
+          (content-fits walls tank x vessel some) (content-fits walls tank y vessel other) leads leads widening
+          positive;
+      high = λ x y some other leads. upper-rises (content_bounds walls tank) (content_bounds walls tank) x y x y
+          (content-fits walls tank x vessel some) (content-fits walls tank y vessel other) leads leads widening
+          positive;
+    }
 
-    -- The cut by one level, made of narrower levels and inflows, lies inside, if it is made on the other side wherever
-    -- it is of the wider ones.
-    pub cut_narrower : (inflow more : Interval) (target : ℤ) (rising sooner later : Bool) (levels wider : Interval)
-        → IsInside inflow more → IsInside levels wider → (later ≡ true → sooner ≡ true)
-        → IsInside (cut_by widening area tank inflow
-        (record { target = target; rising = rising; not_before = sooner }) levels)
-        (cut_by widening area tank more (record { target = target; rising = rising; not_before = later }) wider)
-    cut_narrower inflow more target true sooner later levels wider less inside implied =
-        let c = lower_level (Cylinder area) tank (content_of_level area target) widening in
-        let p = upper_level (Cylinder area) tank (content_a_second_later area target inflow.hi) widening in
-        let q = upper_level (Cylinder area) tank (content_a_second_later area target more.hi) widening in
-        let le : p ≤ℤ q = upper-levels (Cylinder area) tank vessel (content_a_second_later area target inflow.hi)
-        (content_a_second_later area target more.hi) widening positive (level-some target inflow.hi)
-        (level-some target more.hi) (second-leads target inflow.hi more.hi less.high) in
-        record {
-          low = max_is (λ z. z ≤ℤ int_max levels.lo c) wider.lo c
-              (λ e. let a = max_left levels.lo c in let b = inside.low in omega (arith, ints, a, b))
-              (λ e. max_right levels.lo c);
-          high = high-cut levels.hi wider.hi p q sooner later inside.high le implied;
-        }
-      where
-        high-cut : (x y p q : ℤ) (sooner later : Bool) → x ≤ℤ y → p ≤ℤ q → (later ≡ true → sooner ≡ true)
-            → (if sooner then int_min x p else x) ≤ℤ (if later then int_min y q else y)
-        high-cut x y p q true true le lesser implied =
-            min_is (λ z. int_min x p ≤ℤ z) y q
-            (λ e. let a = min_left x p in omega (arith, ints, a, le))
-            (λ e. let a = min_right x p in omega (arith, ints, a, lesser))
-        high-cut x y p q true false le lesser implied = let a = min_left x p in omega (arith, ints, a, le)
-        high-cut x y p q false true le lesser implied = absurd (let a = implied refl in cc)
-        high-cut x y p q false false le lesser implied = le
-    cut_narrower inflow more target false sooner later levels wider less inside implied =
-        let c = upper_level (Cylinder area) tank (content_of_level area target) widening in
-        let p = lower_level (Cylinder area) tank (content_a_second_later area target inflow.lo) widening in
-        let q = lower_level (Cylinder area) tank (content_a_second_later area target more.lo) widening in
-        let le : q ≤ℤ p = lower-levels (Cylinder area) tank vessel (content_a_second_later area target more.lo)
-        (content_a_second_later area target inflow.lo) widening positive (level-some target more.lo)
-        (level-some target inflow.lo) (second-leads target more.lo inflow.lo less.low) in
-        record {
-          low = low-cut levels.lo wider.lo p q sooner later inside.low le implied;
-          high = min_is (λ z. int_min levels.hi c ≤ℤ z) wider.hi c
-              (λ e. let a = min_left levels.hi c in let b = inside.high in omega (arith, ints, a, b))
-              (λ e. min_right levels.hi c);
-        }
-      where
-        low-cut : (x y p q : ℤ) (sooner later : Bool) → y ≤ℤ x → q ≤ℤ p → (later ≡ true → sooner ≡ true)
-            → (if later then int_max y q else y) ≤ℤ (if sooner then int_max x p else x)
-        low-cut x y p q true true le lesser implied =
-            max_is (λ z. z ≤ℤ int_max x p) y q
-            (λ e. let a = max_left x p in omega (arith, ints, a, le))
-            (λ e. let a = max_right x p in omega (arith, ints, a, lesser))
-        low-cut x y p q true false le lesser implied = let a = max_left x p in omega (arith, ints, a, le)
-        low-cut x y p q false true le lesser implied = absurd (let a = implied refl in cc)
-        low-cut x y p q false false le lesser implied = le
+module _ (ends : Ends) (rising : AreRising ends) (walls : Walls) (tank : Tank) (vessel : IsVessel walls tank) where
+  some-later : (stock : Stock) (q : ℤ) → 0 < (exact_content walls stock q 1).den
+  some-later stock q = exact-some walls stock q 1 vessel.holds_water
+
+  -- a second of a greater inflow leads to more
+  second-leads : (stock : Stock) (p q : ℤ) → p ≤ℤ q
+      → Leads 1 1 (exact_content walls stock p 1) (exact_content walls stock q 1)
+  second-leads stock p q le =
+      content-leads 1 1 walls stock stock p q 1 (omega (arith, ints)) (omega (arith, ints, le))
+
+  -- The cut by one level, made of narrower intervals and inflows, lies inside, if it is made on the other side wherever
+  -- it is of the wider ones.
+  pub cut_narrower : (inflow more : Interval) (target : ℤ) (up sooner later : Bool) (levels wider : Interval)
+      → IsInside inflow more → IsInside levels wider → (later ≡ true → sooner ≡ true)
+      → IsInside (cut_by ends walls tank inflow
+      (record { target = target; rising = up; not_before = sooner }) levels)
+      (cut_by ends walls tank more (record { target = target; rising = up; not_before = later }) wider)
+  cut_narrower inflow more target true sooner later levels wider less inside implied =
+      let goal = goal_stocks walls tank true target in
+      let c = ends.lower (least_content walls goal) in
+      let p = ends.upper (exact_greatest walls goal inflow 1) in
+      let q = ends.upper (exact_greatest walls goal more 1) in
+      let le : p ≤ℤ q = rising.high (exact_greatest walls goal inflow 1) (exact_greatest walls goal more 1)
+      (some-later (greatest_stock goal) inflow.hi) (some-later (greatest_stock goal) more.hi)
+      (second-leads (greatest_stock goal) inflow.hi more.hi less.high) in
+      record {
+        low = max_is (λ z. z ≤ℤ int_max levels.lo c) wider.lo c
+            (λ e. let a = max_left levels.lo c in let b = inside.low in omega (arith, ints, a, b))
+            (λ e. max_right levels.lo c);
+        high = high-cut levels.hi wider.hi p q sooner later inside.high le implied;
+      }
+    where
+      high-cut : (x y p q : ℤ) (sooner later : Bool) → x ≤ℤ y → p ≤ℤ q → (later ≡ true → sooner ≡ true)
+          → (if sooner then int_min x p else x) ≤ℤ (if later then int_min y q else y)
+      high-cut x y p q true true le lesser implied =
+          min_is (λ z. int_min x p ≤ℤ z) y q
+          (λ e. let a = min_left x p in omega (arith, ints, a, le))
+          (λ e. let a = min_right x p in omega (arith, ints, a, lesser))
+      high-cut x y p q true false le lesser implied = let a = min_left x p in omega (arith, ints, a, le)
+      high-cut x y p q false true le lesser implied = absurd (let a = implied refl in cc)
+      high-cut x y p q false false le lesser implied = le
+  cut_narrower inflow more target false sooner later levels wider less inside implied =
+      let goal = goal_stocks walls tank false target in
+      let c = ends.upper (greatest_content walls goal) in
+      let p = ends.lower (exact_least walls goal inflow 1) in
+      let q = ends.lower (exact_least walls goal more 1) in
+      let le : q ≤ℤ p = rising.low (exact_least walls goal more 1) (exact_least walls goal inflow 1)
+      (some-later (least_stock goal) more.lo) (some-later (least_stock goal) inflow.lo)
+      (second-leads (least_stock goal) more.lo inflow.lo less.low) in
+      record {
+        low = low-cut levels.lo wider.lo p q sooner later inside.low le implied;
+        high = min_is (λ z. int_min levels.hi c ≤ℤ z) wider.hi c
+            (λ e. let a = min_left levels.hi c in let b = inside.high in omega (arith, ints, a, b))
+            (λ e. min_right levels.hi c);
+      }
+    where
+      low-cut : (x y p q : ℤ) (sooner later : Bool) → y ≤ℤ x → q ≤ℤ p → (later ≡ true → sooner ≡ true)
+          → (if later then int_max y q else y) ≤ℤ (if sooner then int_max x p else x)
+      low-cut x y p q true true le lesser implied =
+          max_is (λ z. z ≤ℤ int_max x p) y q
+          (λ e. let a = max_left x p in omega (arith, ints, a, le))
+          (λ e. let a = max_right x p in omega (arith, ints, a, lesser))
+      low-cut x y p q true false le lesser implied = let a = max_left x p in omega (arith, ints, a, le)
+      low-cut x y p q false true le lesser implied = absurd (let a = implied refl in cc)
+      low-cut x y p q false false le lesser implied = le
 
 -- ---- what is kept
 

@@ -1,19 +1,19 @@
 -- Stock intervals over lengths hold the stocks that every history may have, after the cut by what has just been
 -- reached, and where it keeps what it reaches.
-use Rattle.std.proofs.Common.{◌≡◌, ℕ, ◌<◌, ◌≤◌, ℤ, pos, ◌*ℤ◌, ◌≤ℤ◌, refl, ap, ◌∙◌}
+use Rattle.std.proofs.Common.{◌≡◌, ℕ, ◌<◌, ◌≤◌, ℤ, pos, ◌+ℤ◌, ◌*ℤ◌, ◌≤ℤ◌, ◌<ℤ◌, refl, ap, ◌∙◌}
 use Rattle.std.proofs.Common.{arith}
 use Rattle.std.proofs.Common.{Bool, true, false, List, [], ◌∷◌, ◌⊎◌, inl, inr, ◌&&◌, ◌==◌}
 use Rattle.std.specs.Prelude.{Option, Some, None, Contains}
 use Rattle.std.specs.Int.{int_max, int_min}
 use Rattle.std.proofs.lemmas.Int.{ints}
-use Rattle.std.proofs.lemmas.Bool.{cond_both, eqb-true}
-use Rattle.hyd_num.proofs.Integers.{times_rises, one_times}
+use Rattle.std.proofs.lemmas.Bool.{MatchBool-at_true, MatchBool-at_false, cases_Bool, cond_both, eqb-true}
+use Rattle.hyd_num.proofs.Integers.{times_plus, times_rises, times_one, one_times}
 use Rattle.hyd_num.specs.Rational.{Rational, whole}
 use Rattle.hyd_spec.specs.ProgramTypes.{Tank, VolumePoint, Control, When, AtLevel, AtTime, AtClock}
 use Rattle.hyd_spec.specs.Scale.{missed_stock_ticks}
 use Rattle.hyd_spec.specs.Tank.{Walls, Cylinder, Curve, Stock, level_bounds, content_bounds, exact_content, level_at}
 use Rattle.hyd_spec.specs.Tank.{carried_level, IsNextContent, IsLevelAt, IsNextStock, reaches}
-use Rattle.hyd_spec.specs.Tank.{Bounds}
+use Rattle.hyd_spec.specs.Tank.{Bounds, IsPlaced, is_at_maximum, is_at_minimum}
 use Rattle.hyd_spec_certificates.specs.Interval.{Interval}
 use Rattle.hyd_spec_certificates.specs.Stocks.{Stocks, least_stock, greatest_stock, exact_least, exact_greatest}
 use Rattle.hyd_spec_certificates.specs.Stocks.{lower_end, upper_end, lower_level, upper_level, contents_after}
@@ -21,8 +21,9 @@ use Rattle.hyd_spec_certificates.specs.Stocks.{carried_levels, levels_at}
 use Rattle.hyd_spec_certificates.specs.ThreeValuedLogic.{is_yes, at_both_ends}
 use Rattle.hyd_spec_certificates.specs.Decided.{control_truth}
 use Rattle.hyd_spec_open_ends.specs.StocksOverLengths.{Arrival, hull, contents_over, carried_levels_over, cut_by}
-use Rattle.hyd_spec_open_ends.specs.StocksOverLengths.{content_of_level, content_a_second_later, cut_where_reached}
-use Rattle.hyd_spec_open_ends.specs.StocksOverLengths.{carried_at_end, stocks_at_end}
+use Rattle.hyd_spec_open_ends.specs.StocksOverLengths.{Ends, level_ends, content_ends, goal_stocks, least_content}
+use Rattle.hyd_spec_open_ends.specs.StocksOverLengths.{greatest_content, cut_where_reached}
+use Rattle.hyd_spec_open_ends.specs.StocksOverLengths.{carried_at_end, contents_at_end, stocks_at_end}
 use Rattle.hyd_spec_open_ends.specs.StocksOverLengths.{on_side, kept_when, kept}
 use Rattle.hyd_theorems_on_definitions.specs.LyingInIntervals.{LiesIn, LiesAround, StockLies}
 use Rattle.hyd_theorems_on_definitions.specs.SoundTanks.{IsVessel}
@@ -31,22 +32,36 @@ use Rattle.hyd_lemmas.proofs.BooleanTests.{both-first, both-second}
 use Rattle.hyd_theorems_on_definitions.proofs.ValuesAtTwoScales.{Leads}
 use Rattle.hyd_theorems_on_definitions.proofs.ValuesByContent.{Fits, FitsAt, placed-low, placed-high, placed-some}
 use Rattle.hyd_theorems_on_definitions.proofs.ValuesByContent.{next-low, next-high, above-yes, below-yes}
-use Rattle.hyd_theorems_on_definitions.proofs.ValuesByContent.{above-from, below-from}
+use Rattle.hyd_theorems_on_definitions.proofs.ValuesByContent.{above-from, below-from, lower-is, upper-is}
+use Rattle.hyd_theorems_on_definitions.proofs.ValuesByContent.{placed-least, placed-most}
 use Rattle.hyd_theorems_on_definitions.proofs.StocksInIntervals.{exact-some, level-fits, level-fits-at, level-leads}
 use Rattle.hyd_theorems_on_histories.proofs.WatchedLevels.{contains-here, contains-later}
 use Rattle.hyd_theorems_on_open_ends.proofs.ContentsOverLengths.{above, below}
+use Rattle.hyd_theorems_on_open_ends.proofs.ContentsAtGoals.{IsLow, IsHigh}
 
 -- ---- what has come
 
--- The exact content of a cylinder, in S-th parts, has come to a level that was reached from below or above, and where
--- it had not a second before, it is one second of inflow beyond it at most.
-pub data HasCome (S area : ℕ) (inflow : Interval) (exact : Rational) : Arrival → Type 0 where
-  from_below : (target : ℤ) (not_before : Bool) → Leads 1 S (content_of_level area target) exact
-      → (not_before ≡ true → Leads S 1 exact (content_a_second_later area target inflow.hi))
-      → HasCome S area inflow exact (record { target = target; rising = true; not_before = not_before })
-  from_above : (target : ℤ) (not_before : Bool) → Leads S 1 exact (content_of_level area target)
-      → (not_before ≡ true → Leads 1 S (content_a_second_later area target inflow.lo) exact)
-      → HasCome S area inflow exact (record { target = target; rising = false; not_before = not_before })
+-- A content of whole ticks is at most the exact one, in S-th parts, or at or below the least of the tank; the exact one
+-- is at most a content of whole ticks, or that is at or above the most.
+abbrev pub IsFrom : ℕ → Walls → Tank → Rational → Rational → Type 0
+IsFrom S walls tank y exact = Leads 1 S y exact ⊎ IsLow walls tank y
+
+abbrev pub IsTo : ℕ → Walls → Tank → Rational → Rational → Type 0
+IsTo S walls tank y exact = Leads S 1 exact y ⊎ IsHigh walls tank y
+
+-- The exact content of a tank, in S-th parts, has come to a level that was reached from below or above, and where it
+-- had not a second before, it is one second of inflow beyond it at most.
+pub data HasCome (S : ℕ) (walls : Walls) (tank : Tank) (inflow : Interval) (exact : Rational) : Arrival → Type 0 where
+  from_below : (target : ℤ) (not_before : Bool)
+      → IsFrom S walls tank (least_content walls (goal_stocks walls tank true target)) exact
+      → (not_before ≡ true
+      → Leads S 1 exact (exact_greatest walls (goal_stocks walls tank true target) inflow 1))
+      → HasCome S walls tank inflow exact (record { target = target; rising = true; not_before = not_before })
+  from_above : (target : ℤ) (not_before : Bool)
+      → IsTo S walls tank (greatest_content walls (goal_stocks walls tank false target)) exact
+      → (not_before ≡ true
+      → Leads 1 S (exact_least walls (goal_stocks walls tank false target) inflow 1) exact)
+      → HasCome S walls tank inflow exact (record { target = target; rising = false; not_before = not_before })
 
 -- ---- both ends of an interval
 
@@ -74,65 +89,49 @@ hull-holds Above Below order x y low high = record {
 }
 
 -- an exact content between ends that go with contents
-record GoesWith (S area : ℕ) (tank : Tank) (widening : ℤ) (exact : Rational) (Above Below : ℤ → Type 0) : Type 0 where
-  vessel : IsVessel (Cylinder area) tank
-  low : (y : Rational) → 0 < y.den → Leads 1 S y exact → Above (lower_level (Cylinder area) tank y widening)
-  high : (y : Rational) → 0 < y.den → Leads S 1 exact y → Below (upper_level (Cylinder area) tank y widening)
+record GoesWith (S : ℕ) (walls : Walls) (tank : Tank) (ends : Ends) (exact : Rational) (Above Below : ℤ → Type 0) :
+    Type 0 where
+  vessel : IsVessel walls tank
+  low : (y : Rational) → 0 < y.den → IsFrom S walls tank y exact → Above (ends.lower y)
+  high : (y : Rational) → 0 < y.den → IsTo S walls tank y exact → Below (ends.upper y)
 
 -- where a level has been reached, the cut holds what the interval held
-cut-holds : (S area : ℕ) (tank : Tank) (inflow : Interval) (widening : ℤ) (exact : Rational) (Above Below : ℤ → Type 0)
-    → GoesWith S area tank widening exact Above Below → (arrival : Arrival) → HasCome S area inflow exact arrival
-    → (levels : Interval) → Holds Above Below levels
-    → Holds Above Below (cut_by widening area tank inflow arrival levels)
-cut-holds S area tank inflow widening exact Above Below goes _ (from_below target not_before now passed) levels holds =
+cut-holds : (S : ℕ) (walls : Walls) (tank : Tank) (inflow : Interval) (ends : Ends) (exact : Rational)
+    (Above Below : ℤ → Type 0) → GoesWith S walls tank ends exact Above Below → (arrival : Arrival)
+    → HasCome S walls tank inflow exact arrival → (levels : Interval) → Holds Above Below levels
+    → Holds Above Below (cut_by ends walls tank inflow arrival levels)
+cut-holds S walls tank inflow ends exact Above Below goes _ (from_below target not_before now passed) levels holds =
+    let goal = goal_stocks walls tank true target in
     record {
-      low = max_is Above levels.lo (lower_level (Cylinder area) tank (content_of_level area target) widening)
-          (λ e. holds.low) (λ e. goes.low (content_of_level area target) (level-some target (pos 0) 0) now);
-      high = cond_both not_before
-          (int_min levels.hi (upper_level (Cylinder area) tank (content_a_second_later area target inflow.hi) widening))
-          levels.hi Below
-          (λ e. min_is Below levels.hi
-          (upper_level (Cylinder area) tank (content_a_second_later area target inflow.hi) widening)
-          (λ f. holds.high) (λ f. goes.high (content_a_second_later area target inflow.hi)
-          (level-some target inflow.hi 1) (passed e)))
+      low = max_is Above levels.lo (ends.lower (least_content walls goal))
+          (λ e. holds.low) (λ e. goes.low (least_content walls goal)
+          (exact-some walls (least_stock goal) (pos 0) 0 goes.vessel.holds_water) now);
+      high = cond_both not_before (int_min levels.hi (ends.upper (exact_greatest walls goal inflow 1))) levels.hi Below
+          (λ e. min_is Below levels.hi (ends.upper (exact_greatest walls goal inflow 1))
+          (λ f. holds.high) (λ f. goes.high (exact_greatest walls goal inflow 1)
+          (exact-some walls (greatest_stock goal) inflow.hi 1 goes.vessel.holds_water) (inl (passed e))))
           (λ e. holds.high);
     }
-  where
-    level-some : (level q : ℤ) (seconds : ℕ) → 0 < (exact_content (Cylinder area) (record {
-      level = level;
-      volume = pos 0;
-    }) q seconds).den
-    level-some level q seconds = exact-some (Cylinder area) (record { level = level; volume = pos 0 }) q seconds
-        goes.vessel.holds_water
-cut-holds S area tank inflow widening exact Above Below goes _ (from_above target not_before now passed) levels holds =
+cut-holds S walls tank inflow ends exact Above Below goes _ (from_above target not_before now passed) levels holds =
+    let goal = goal_stocks walls tank false target in
     record {
-      low = cond_both not_before
-          (int_max levels.lo (lower_level (Cylinder area) tank (content_a_second_later area target inflow.lo) widening))
-          levels.lo Above
-          (λ e. max_is Above levels.lo
-          (lower_level (Cylinder area) tank (content_a_second_later area target inflow.lo) widening)
-          (λ f. holds.low) (λ f. goes.low (content_a_second_later area target inflow.lo)
-          (level-some target inflow.lo 1) (passed e)))
+      low = cond_both not_before (int_max levels.lo (ends.lower (exact_least walls goal inflow 1))) levels.lo Above
+          (λ e. max_is Above levels.lo (ends.lower (exact_least walls goal inflow 1))
+          (λ f. holds.low) (λ f. goes.low (exact_least walls goal inflow 1)
+          (exact-some walls (least_stock goal) inflow.lo 1 goes.vessel.holds_water) (inl (passed e))))
           (λ e. holds.low);
-      high = min_is Below levels.hi (upper_level (Cylinder area) tank (content_of_level area target) widening)
-          (λ e. holds.high) (λ e. goes.high (content_of_level area target) (level-some target (pos 0) 0) now);
+      high = min_is Below levels.hi (ends.upper (greatest_content walls goal))
+          (λ e. holds.high) (λ e. goes.high (greatest_content walls goal)
+          (exact-some walls (greatest_stock goal) (pos 0) 0 goes.vessel.holds_water) now);
     }
-  where
-    level-some : (level q : ℤ) (seconds : ℕ) → 0 < (exact_content (Cylinder area) (record {
-      level = level;
-      volume = pos 0;
-    }) q seconds).den
-    level-some level q seconds = exact-some (Cylinder area) (record { level = level; volume = pos 0 }) q seconds
-        goes.vessel.holds_water
 
-where-holds : (S area : ℕ) (tank : Tank) (inflow : Interval) (widening : ℤ) (exact : Rational)
-    (Above Below : ℤ → Type 0)
-    → GoesWith S area tank widening exact Above Below → (arrival : Option Arrival)
-    → ((one : Arrival) → arrival ≡ Some one → HasCome S area inflow exact one) → (levels : Interval)
-    → Holds Above Below levels → Holds Above Below (cut_where_reached widening area tank inflow arrival levels)
-where-holds S area tank inflow widening exact Above Below goes None came levels holds = holds
-where-holds S area tank inflow widening exact Above Below goes (Some one) came levels holds =
-    cut-holds S area tank inflow widening exact Above Below goes one (came one refl) levels holds
+where-holds : (S : ℕ) (walls : Walls) (tank : Tank) (inflow : Interval) (ends : Ends) (exact : Rational)
+    (Above Below : ℤ → Type 0) → GoesWith S walls tank ends exact Above Below → (arrival : Option Arrival)
+    → ((one : Arrival) → arrival ≡ Some one → HasCome S walls tank inflow exact one) → (levels : Interval)
+    → Holds Above Below levels → Holds Above Below (cut_where_reached ends walls tank inflow arrival levels)
+where-holds S walls tank inflow ends exact Above Below goes None came levels holds = holds
+where-holds S walls tank inflow ends exact Above Below goes (Some one) came levels holds =
+    cut-holds S walls tank inflow ends exact Above Below goes one (came one refl) levels holds
 
 -- ---- what goes with one content
 
@@ -181,6 +180,35 @@ number-order S next = record {
   greater = λ a b le h. let p = times_rises S a b le in omega (arith, ints, p, h);
 }
 
+-- a content at or below the least isn't at or above the most
+not-both : {contents : Bounds} (y : Rational) → 0 < y.den → contents.least <ℤ contents.most
+    → y.num ≤ℤ (pos y.den *ℤ contents.least) → (pos y.den *ℤ contents.most) ≤ℤ y.num → ⊥
+not-both {contents} y some apart low high =
+    let a = times_rises y.den (contents.least +ℤ pos 1) contents.most (omega (arith, ints, apart)) in
+    omega (arith, ints, low, high, a, some, times_plus y.den contents.least (pos 1), times_one y.den)
+
+-- what is placed in a range lies in it
+placed-within : (S : ℕ) (contents range : Bounds) (x inside : Rational) (next : ℤ) → range.least ≤ℤ range.most
+    → IsPlaced S contents range x inside next
+    → LiesIn S (record { lo = range.least; hi = range.most }) next
+placed-within S contents range x inside next order is = elim (cases_Bool (is_at_maximum S contents x)) [
+  | inl full ↦
+      let e = MatchBool-at_true _ _ full is in
+      let l = times_rises S range.least range.most order in
+      record { low = omega (arith, ints, e, l); high = omega (arith, ints, e) }
+  | inr less ↦
+      let rest = MatchBool-at_false _ _ less is in
+      elim (cases_Bool (is_at_minimum S contents x)) [
+        | inl empty ↦
+            let e = MatchBool-at_true _ _ empty rest in
+            let l = times_rises S range.least range.most order in
+            record { low = omega (arith, ints, e); high = omega (arith, ints, e, l) }
+        | inr more ↦
+            let near = MatchBool-at_false _ _ more rest in
+            record { low = near.above_least; high = near.below_most }
+      ]
+]
+
 module _ (S : ℕ) (walls : Walls) (tank : Tank) (stock : Stock) (q : ℤ) (length : ℕ) (some : 0 < S)
     (vessel : IsVessel walls tank) where
   abbrev exact : Rational
@@ -206,6 +234,29 @@ module _ (S : ℕ) (walls : Walls) (tank : Tank) (stock : Stock) (q : ℤ) (leng
       (level-fits-at S walls tank exact vessel there) leads
       (level-leads S 1 walls tank exact y vessel some (omega arith) there y-some leads)
 
+  -- also where the lesser is at or below the least of the tank, or the greater at or above the most
+  carried-over : (y : Rational) → 0 < y.den → IsFrom S walls tank y exact
+      → Over S (carried_level S walls tank stock q length) (lower_level walls tank y (pos 0))
+  carried-over y y-some (inl leads) = carried-from y y-some leads
+  carried-over y y-some (inr low) =
+      let c = carried_level S walls tank stock q length in
+      lower-is (Over S c) (content_bounds walls tank) (level_bounds tank) y (level_at 1 walls tank y) (pos 0)
+      (λ h. absurd (not-both y y-some low.apart low.low h))
+      (λ h l. placed-least S (content_bounds walls tank) (level_bounds tank) exact (level_at S walls tank exact)
+      vessel.ordered (level-fits-at S walls tank exact vessel there))
+      (λ h l. absurd (let below = low.low in omega (arith, ints, below, l)))
+
+  carried-under : (y : Rational) → 0 < y.den → IsTo S walls tank y exact
+      → Under S (carried_level S walls tank stock q length) (upper_level walls tank y (pos 0))
+  carried-under y y-some (inl leads) = carried-to y y-some leads
+  carried-under y y-some (inr high) =
+      let c = carried_level S walls tank stock q length in
+      upper-is (Under S c) (content_bounds walls tank) (level_bounds tank) y (level_at 1 walls tank y) (pos 0)
+      (λ h. placed-most S (content_bounds walls tank) (level_bounds tank) exact (level_at S walls tank exact)
+      vessel.ordered (level-fits-at S walls tank exact vessel there))
+      (λ h l. absurd (let over = high.high in omega (arith, ints, over, h)))
+      (λ h l. absurd (let over = high.high in omega (arith, ints, over, h)))
+
   carried-there : 0 < (carried_level S walls tank stock q length).den
   carried-there = placed-some S (content_bounds walls tank) (level_bounds tank) exact (level_at S walls tank exact)
       (level-fits-at S walls tank exact vessel there).value_some
@@ -225,6 +276,26 @@ module _ (S : ℕ) (walls : Walls) (tank : Tank) (stock : Stock) (q : ℤ) (leng
         next-high S (content_bounds walls tank) (content_bounds walls tank) y exact y exact some
         (content-fits walls tank y vessel y-some) (self-fits-at S (content_bounds walls tank) exact there)
         leads leads next is
+
+    next-over : (y : Rational) → 0 < y.den → IsFrom S walls tank y exact
+        → At S next (lower_end (content_bounds walls tank) (content_bounds walls tank) y y (pos missed_stock_ticks))
+    next-over y y-some (inl leads) = next-from y y-some leads
+    next-over y y-some (inr low) =
+        let bounds = content_bounds walls tank in
+        lower-is (At S next) bounds bounds y y (pos missed_stock_ticks)
+        (λ h. absurd (not-both y y-some low.apart low.low h))
+        (λ h l. (placed-within S bounds bounds exact exact next vessel.contents_ordered is).low)
+        (λ h l. absurd (let below = low.low in omega (arith, ints, below, l)))
+
+    next-under : (y : Rational) → 0 < y.den → IsTo S walls tank y exact
+        → To S next (upper_end (content_bounds walls tank) (content_bounds walls tank) y y (pos missed_stock_ticks))
+    next-under y y-some (inl leads) = next-to y y-some leads
+    next-under y y-some (inr high) =
+        let bounds = content_bounds walls tank in
+        upper-is (To S next) bounds bounds y y (pos missed_stock_ticks)
+        (λ h. (placed-within S bounds bounds exact exact next vessel.contents_ordered is).high)
+        (λ h l. absurd (let over = high.high in omega (arith, ints, over, h)))
+        (λ h l. absurd (let over = high.high in omega (arith, ints, over, h)))
 
 -- ---- over lengths
 
@@ -291,38 +362,54 @@ module _ (S : ℕ) (walls : Walls) (tank : Tank) (stocks : Stocks) (inflow : Int
 
 -- ---- at the end
 
--- What has just been reached of a tank has come in a history: of a cylinder, its exact content has come to it.
-abbrev pub AllHaveCome : ℕ → Walls → Interval → Stock → ℤ → ℕ → Option Arrival → Type 0
-AllHaveCome S (Cylinder area) inflow stock q length arrival =
-    (one : Arrival) → arrival ≡ Some one
-    → HasCome S area inflow (exact_content (Cylinder area) stock q length) one
-AllHaveCome S (Curve points) inflow stock q length arrival = Unit {0}
+-- What has just been reached of a tank has come in a history.
+abbrev pub AllHaveCome : ℕ → Walls → Tank → Interval → Stock → ℤ → ℕ → Option Arrival → Type 0
+AllHaveCome S walls tank inflow stock q length arrival =
+    (one : Arrival) → arrival ≡ Some one → HasCome S walls tank inflow (exact_content walls stock q length) one
 
 -- the carried level lies in the interval at the end
 pub carried_end_lies : (S : ℕ) (walls : Walls) (tank : Tank) (stocks : Stocks) (inflow : Interval)
     (shortest length longest : ℕ) (arrival : Option Arrival) (stock : Stock) (q : ℤ) → 0 < S → IsVessel walls tank
     → StockLies S stocks stock → LiesIn S inflow q → shortest ≤ length → length ≤ longest
-    → AllHaveCome S walls inflow stock q length arrival
+    → AllHaveCome S walls tank inflow stock q length arrival
     → LiesAround S (carried_at_end walls tank stocks inflow shortest longest arrival)
     (carried_level S walls tank stock q length)
-carried_end_lies S (Cylinder area) tank stocks inflow shortest length longest arrival stock q some vessel lies flow from
-    to came =
-    let c = carried_level S (Cylinder area) tank stock q length in
-    around S (Cylinder area) tank stocks inflow shortest length longest stock q some vessel lies flow from to
-    (carried_at_end (Cylinder area) tank stocks inflow shortest longest arrival)
-    (where-holds S area tank inflow (pos 0) (exact_content (Cylinder area) stock q length) (Over S c) (Under S c)
+carried_end_lies S walls tank stocks inflow shortest length longest arrival stock q some vessel lies flow from to came =
+    let c = carried_level S walls tank stock q length in
+    around S walls tank stocks inflow shortest length longest stock q some vessel lies flow from to
+    (carried_at_end walls tank stocks inflow shortest longest arrival)
+    (where-holds S walls tank inflow (level_ends (pos 0) walls tank) (exact_content walls stock q length) (Over S c)
+    (Under S c)
     (record {
       vessel = vessel;
-      low = carried-from S (Cylinder area) tank stock q length some vessel;
-      high = carried-to S (Cylinder area) tank stock q length some vessel;
+      low = carried-over S walls tank stock q length some vessel;
+      high = carried-under S walls tank stock q length some vessel;
     })
-    arrival came (carried_levels_over (Cylinder area) tank stocks inflow shortest longest)
-    (carried-holds S (Cylinder area) tank stocks inflow shortest length longest stock q some vessel lies flow from
-    to))
-carried_end_lies S (Curve points) tank stocks inflow shortest length longest arrival stock q some vessel lies flow from
-    to came =
-    carried_over_lies S (Curve points) tank stocks inflow shortest length longest stock q some vessel lies flow from
-    to
+    arrival came (carried_levels_over walls tank stocks inflow shortest longest)
+    (carried-holds S walls tank stocks inflow shortest length longest stock q some vessel lies flow from to))
+
+lies-so : (S : ℕ) (x : Interval) (z : ℤ) → Holds (At S z) (To S z) x → LiesIn S x z
+lies-so S x z holds = record { low = holds.low; high = holds.high }
+
+-- the next content lies in the contents at the end
+next_content_lies : (S : ℕ) (walls : Walls) (tank : Tank) (stocks : Stocks) (inflow : Interval)
+    (shortest length longest : ℕ) (arrival : Option Arrival) (stock : Stock) (q next : ℤ) → 0 < S
+    → IsVessel walls tank → StockLies S stocks stock → LiesIn S inflow q → shortest ≤ length → length ≤ longest
+    → AllHaveCome S walls tank inflow stock q length arrival → IsNextContent S walls tank stock q length next
+    → LiesIn S (contents_at_end walls tank stocks inflow shortest longest arrival) next
+next_content_lies S walls tank stocks inflow shortest length longest arrival stock q next some vessel lies flow from to
+    came content =
+    lies-so S (contents_at_end walls tank stocks inflow shortest longest arrival) next
+    (where-holds S walls tank inflow (content_ends (pos missed_stock_ticks) walls tank)
+    (exact_content walls stock q length) (At S next) (To S next)
+    (record {
+      vessel = vessel;
+      low = next-over S walls tank stock q length some vessel next content;
+      high = next-under S walls tank stock q length some vessel next content;
+    })
+    arrival came (contents_over (pos missed_stock_ticks) walls tank stocks inflow shortest longest)
+    (contents-hold S walls tank stocks inflow shortest length longest stock q some vessel lies flow from to next
+    content))
 
 -- the level that goes with a volume in an interval lies in the levels that go with the interval
 levels-lie : (S : ℕ) (points : List VolumePoint) (tank : Tank) (volumes : Interval) (volume level : ℤ) → 0 < S
@@ -352,31 +439,18 @@ levels-lie S points tank volumes volume level some vessel lies is =
           over) level is;
     }
 
-lies-so : (S : ℕ) (x : Interval) (z : ℤ) → Holds (At S z) (To S z) x → LiesIn S x z
-lies-so S x z holds = record { low = holds.low; high = holds.high }
-
 -- the next stock lies in the stocks at the end
 pub next_end_lies : (S : ℕ) (walls : Walls) (tank : Tank) (stocks : Stocks) (inflow : Interval)
     (shortest length longest : ℕ) (arrival : Option Arrival) (stock : Stock) (q : ℤ) (next : Stock) → 0 < S
     → IsVessel walls tank
     → StockLies S stocks stock → LiesIn S inflow q → shortest ≤ length → length ≤ longest
-    → AllHaveCome S walls inflow stock q length arrival → IsNextStock S walls tank stock q length next
+    → AllHaveCome S walls tank inflow stock q length arrival → IsNextStock S walls tank stock q length next
     → StockLies S (stocks_at_end walls tank stocks inflow shortest longest arrival) next
 next_end_lies S (Cylinder area) tank stocks inflow shortest length longest arrival stock q next some vessel lies flow
-    from to came is = record {
-      level = lies-so S (stocks_at_end (Cylinder area) tank stocks inflow shortest longest arrival).level next.level
-          (where-holds S area tank inflow (pos missed_stock_ticks) (exact_content (Cylinder area) stock q length)
-          (At S next.level) (To S next.level)
-          (record {
-            vessel = vessel;
-            low = next-from S (Cylinder area) tank stock q length some vessel next.level is.0;
-            high = next-to S (Cylinder area) tank stock q length some vessel next.level is.0;
-          })
-          arrival came
-          (contents_over (pos missed_stock_ticks) (Cylinder area) tank stocks inflow shortest longest)
-          (contents-hold S (Cylinder area) tank stocks inflow shortest length longest stock q some vessel lies flow
-          from to next.level is.0));
-      volume = let none = is.1 in record {
+    from to came so = record {
+      level = next_content_lies S (Cylinder area) tank stocks inflow shortest length longest arrival stock q next.level
+          some vessel lies flow from to came so.0;
+      volume = let none = so.1 in record {
         low = omega (arith, ints, none, nothing S);
         high = omega (arith, ints, none, nothing S);
       };
@@ -385,13 +459,12 @@ next_end_lies S (Cylinder area) tank stocks inflow shortest length longest arriv
     nothing : (n : ℕ) → pos n *ℤ pos 0 ≡ pos 0
     nothing n = omega (arith, ints)
 next_end_lies S (Curve points) tank stocks inflow shortest length longest arrival stock q next some vessel lies flow
-    from to came is =
-    let volumes = contents_over (pos missed_stock_ticks) (Curve points) tank stocks inflow shortest longest in
-    let lie = lies-so S volumes next.volume
-    (contents-hold S (Curve points) tank stocks inflow shortest length longest stock q some vessel lies flow from
-    to next.volume is.0) in
+    from to came so =
+    let volumes = contents_at_end (Curve points) tank stocks inflow shortest longest arrival in
+    let lie = next_content_lies S (Curve points) tank stocks inflow shortest length longest arrival stock q next.volume
+    some vessel lies flow from to came so.0 in
     record {
-      level = levels-lie S points tank volumes next.volume next.level some vessel lie is.1;
+      level = levels-lie S points tank volumes next.volume next.level some vessel lie so.1;
       volume = lie;
     }
 

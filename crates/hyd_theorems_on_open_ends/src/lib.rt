@@ -4,9 +4,10 @@
 #![tactic(auto)]
 
 ghost use Rattle.std.specs.Prelude.{◌≡◌, ◌≢◌, ℕ, ◌<◌, ◌≤◌, ℤ, pos, ◌≤ℤ◌, Bool, true, List, Option, None};
+ghost use Rattle.std.specs.List.{AllByRecursion};
 ghost use Rattle.hyd_net.specs.Sound.{IsSound};
 ghost use Rattle.hyd_spec.specs.ProgramTypes.{Project, Tank, Control, LinkState};
-ghost use Rattle.hyd_spec.specs.Tank.{Walls, Cylinder, Stock, carried_level, IsNextStock};
+ghost use Rattle.hyd_spec.specs.Tank.{Walls, Stock, carried_level, IsNextStock};
 ghost use Rattle.hyd_spec.specs.PeriodLength.{Period, readings_after, HasItsLength};
 ghost use Rattle.hyd_spec.specs.History.{commanded_after, initial_levels, initial_volumes, initial_links, Begins};
 ghost use Rattle.hyd_spec.specs.History.{IsPeriod};
@@ -19,7 +20,7 @@ ghost use Rattle.hyd_spec_certificates.specs.Valid.{IsGridAt, AreCertificates};
 ghost use Rattle.hyd_spec_open_ends.specs.InstantsOfClock.{HasNoInstant};
 ghost use Rattle.hyd_spec_open_ends.specs.OpenStandings.{OpenStanding, OpenRecord, initial_open_standing};
 ghost use Rattle.hyd_spec_open_ends.specs.StocksOverLengths.{carried_levels_over, contents_over, cut_by, stocks_at_end};
-ghost use Rattle.hyd_spec_open_ends.specs.StocksOverLengths.{kept};
+ghost use Rattle.hyd_spec_open_ends.specs.StocksOverLengths.{level_ends, content_ends, kept};
 ghost use Rattle.hyd_spec_open_ends.specs.RulesOverLengths.{readings_below_over, readings_above_over};
 ghost use Rattle.hyd_spec_open_ends.specs.OpenEnds.{Way, EndsIn, late_at_end, shortest_length, longest_length};
 ghost use Rattle.hyd_spec_open_ends.specs.OpenEnds.{IsFirstOpen};
@@ -69,12 +70,20 @@ pub fn narrower_stocks()
         → (widening : ℤ) → pos 0 ≤ℤ widening
         → IsInside (contents_over widening walls tank stocks inflow shortest longest)
         (contents_over widening walls tank wider more first last) }
-    ensures cut { (area : ℕ) (tank : Tank) → IsVessel (Cylinder area) tank → (widening : ℤ) → pos 0 ≤ℤ widening
+    ensures cut_levels { (walls : Walls) (tank : Tank) → IsVessel walls tank → (widening : ℤ) → pos 0 ≤ℤ widening
         → (inflow more : Interval) (target : ℤ) (rising sooner later : Bool) (levels wider : Interval)
         → IsInside inflow more → IsInside levels wider → (later ≡ true → sooner ≡ true)
-        → IsInside (cut_by widening area tank inflow
+        → IsInside (cut_by (level_ends widening walls tank) walls tank inflow
         (record { target = target; rising = rising; not_before = sooner }) levels)
-        (cut_by widening area tank more (record { target = target; rising = rising; not_before = later }) wider) }
+        (cut_by (level_ends widening walls tank) walls tank more
+        (record { target = target; rising = rising; not_before = later }) wider) }
+    ensures cut_contents { (walls : Walls) (tank : Tank) → IsVessel walls tank → (widening : ℤ) → pos 0 ≤ℤ widening
+        → (inflow more : Interval) (target : ℤ) (rising sooner later : Bool) (levels wider : Interval)
+        → IsInside inflow more → IsInside levels wider → (later ≡ true → sooner ≡ true)
+        → IsInside (cut_by (content_ends widening walls tank) walls tank inflow
+        (record { target = target; rising = rising; not_before = sooner }) levels)
+        (cut_by (content_ends widening walls tank) walls tank more
+        (record { target = target; rising = rising; not_before = later }) wider) }
     ensures keeping { (k : ℕ) (inner outer : Interval) → IsOrdered inner → IsInside inner outer
         → (controls : List Control) (x y : Interval) → IsInside x y
         → IsInside (kept controls k inner x) (kept controls k outer y) }
@@ -203,8 +212,12 @@ pub fn runs()
         → IsOpenRun project slack founds last → EveryKeepingHistoryAgrees project founds }
 {}
 
-/// A run is one with each greater slack, and a check accepts the certificate that a run wrote.
+/// No start of a run is open by more seconds than the slack. It is a run with each greater slack, and a check accepts
+/// the certificate that a run wrote.
 pub fn acceptance()
+    ensures within { (project : Project) (slack : ℕ) (founds : List OpenFound) (last : OpenStanding)
+        → IsOpenRun project slack founds last
+        → AllByRecursion (λ (here : OpenFound). here.standing.late ≤ slack) founds × (last.late ≤ slack) }
     ensures slacks { (project : Project) (slack greater : ℕ) → slack ≤ greater → (standing : OpenStanding)
         (founds : List OpenFound) (last : OpenStanding)
         → IsOpenRunFrom project slack standing founds last → IsOpenRunFrom project greater standing founds last }

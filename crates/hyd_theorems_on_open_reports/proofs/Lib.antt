@@ -1,5 +1,5 @@
 mod KnownLines
 mod QuietChanges
 mod OpenLinesHold
-mod EveryLineHolds
-mod OneOpenReport
+pub mod EveryLineHolds
+pub mod OneOpenReport

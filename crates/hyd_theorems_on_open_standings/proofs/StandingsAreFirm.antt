@@ -1,6 +1,6 @@
 -- Every standing of a run whose ends may be open is firm: its levels lie within the bounds of the tanks, and there is
 -- some stock in each interval.
-use Rattle.std.proofs.Common.{◌≡◌, ◌≢◌, ℕ, zero, suc, ◌+◌, ◌-◌, ◌<◌, ◌≤◌, ℤ, pos, ◌≤ℤ◌, refl, sym, ap, subst, ◌∙◌}
+use Rattle.std.proofs.Common.{◌≡◌, ◌≢◌, ℕ, zero, suc, ◌+◌, ◌-◌, ◌<◌, ◌≤◌, pos, ◌≤ℤ◌, refl, sym, ap, subst, ◌∙◌}
 use Rattle.std.proofs.Common.{arith}
 use Rattle.std.proofs.Common.{Bool, true, false, List, [], ◌∷◌, length, map, inl, inr, ◌==◌, nat_le}
 use Rattle.std.specs.Prelude.{Option, Some, None, slice_get, slice_index_or}
@@ -10,7 +10,7 @@ use Rattle.hyd_net.specs.Sound.{IsSound}
 use Rattle.hyd_spec.specs.ProgramTypes.{Project, Tank}
 use Rattle.hyd_spec.specs.declared.TankState.{TankState}
 use Rattle.hyd_spec.specs.Lists.{map_from}
-use Rattle.hyd_spec.specs.Tank.{Walls, Cylinder, Curve, walls_of, level_bounds}
+use Rattle.hyd_spec.specs.Tank.{Walls, walls_of, level_bounds}
 use Rattle.hyd_spec_certificates.specs.Interval.{Interval}
 use Rattle.hyd_spec_certificates.specs.Stocks.{Stocks, may_reach, state_of}
 use Rattle.hyd_spec_certificates.specs.PeriodNetwork.{Grid}
@@ -38,11 +38,11 @@ use Rattle.hyd_theorems_on_nesting.proofs.NestedBoxes.{inflow_ordered}
 use Rattle.hyd_theorems_on_nesting.proofs.TightVectorsDecide.{steady_at, tidy_at_start}
 use Rattle.hyd_theorems_on_open_ends.specs.AgreementOverStarts.{IsKeptOpenly}
 use Rattle.hyd_theorems_on_open_ends.proofs.AgreementOverEnds.{kept_on}
+use Rattle.hyd_theorems_on_open_ends.proofs.ContentsAtGoals.{measured}
 use Rattle.hyd_theorems_on_open_standings.specs.FirmStandings.{IsFirm}
 use Rattle.hyd_theorems_on_open_standings.proofs.WhatEndsLeave.{AllMayCome, may-come-by, carried_end_ordered}
 use Rattle.hyd_theorems_on_open_standings.proofs.WhatEndsLeave.{carried_end_within, level_end_within, HoldsCarried}
 use Rattle.hyd_theorems_on_open_standings.proofs.WhatEndsLeave.{carried_inside_level, volume_end_ordered, kept_holds}
-use Rattle.hyd_theorems_on_open_standings.proofs.WhatEndsLeave.{contents_apart}
 
 -- ---- lists
 
@@ -74,14 +74,13 @@ decided-long f from (tank ∷ tanks) (s ∷ states) e =
     let others : map_from f (suc from) tanks ≡ map {B = Option TankState} Some states = cc in
     let r = decided-long f (suc from) tanks states others in omega (arith, r)
 
-none-may : (walls : Walls) (stocks : Stocks) (inflow : Interval) (shortest longest : ℕ)
-    → AllMayCome walls stocks inflow shortest longest None
-none-may (Cylinder area) stocks inflow shortest longest = λ other e. absurd (cc)
-none-may (Curve points) stocks inflow shortest longest = tt
+none-may : (walls : Walls) (tank : Tank) (stocks : Stocks) (inflow : Interval) (shortest longest : ℕ)
+    → AllMayCome walls tank stocks inflow shortest longest None
+none-may walls tank stocks inflow shortest longest = λ other e. absurd (cc)
 
 -- ---- what may have been come to
 
-module _ (project : Project) (grid : Grid) (standing : OpenStanding) (row : Record)
+module _ (project : Project) (sound : IsSound project) (grid : Grid) (standing : OpenStanding) (row : Record)
     (nested : AreNested project standing.known grid row row) where
   module _ (cap earliest latest : ℕ) (seconds : AreSeconds project grid standing.known row cap earliest latest)
       (watch : Watch) (arrival : IsArrival project grid standing.known row latest watch) where
@@ -103,7 +102,7 @@ module _ (project : Project) (grid : Grid) (standing : OpenStanding) (row : Reco
     )))
 
     here : (tank : Tank) → slice_get project.tanks.list watch.tank ≡ Some tank
-        → AllMayCome (walls_of project tank) (stocks_of_tank standing.known watch.tank)
+        → AllMayCome (walls_of project tank) tank (stocks_of_tank standing.known watch.tank)
         (inflow_of_tank project grid row watch.tank) earliest latest
         (Some (record { target = watch.target; rising = watch.rising; not_before = nat_le 2 earliest }))
     here tank at =
@@ -112,10 +111,11 @@ module _ (project : Project) (grid : Grid) (standing : OpenStanding) (row : Reco
         at in
         let reached : reaches-by tank comes.second ≡ true =
         subst (λ t. reaches-by t comes.second ≡ true) own comes.reached in
-        may-come-by tank (stocks_of_tank standing.known watch.tank) (inflow_of_tank project grid row watch.tank)
+        may-come-by (walls_of project tank) tank (measured project sound watch.tank tank at)
+        (stocks_of_tank standing.known watch.tank) (inflow_of_tank project grid row watch.tank)
         (nested.ordered watch.tank) (inflow_ordered project standing.known grid row row nested watch.tank tank at)
         earliest latest comes.second (no-sooner tank at comes.second comes.some reached) comes.in_time watch.target
-        (nat_le 2 earliest) (walls_of project tank) watch.rising (nested.vessels watch.tank tank at) reached
+        (nat_le 2 earliest) watch.rising reached
         (λ e. (leb-true 2 earliest e, not-yet (leb-true 2 earliest e)))
       where
         not-yet : 2 ≤ earliest → reaches-by tank (earliest - 1) ≡ false
@@ -126,7 +126,7 @@ module _ (project : Project) (grid : Grid) (standing : OpenStanding) (row : Reco
         ]
 
     one-may : (k : ℕ) (tank : Tank) → slice_get project.tanks.list k ≡ Some tank
-        → AllMayCome (walls_of project tank) (stocks_of_tank standing.known k) (inflow_of_tank project grid row k)
+        → AllMayCome (walls_of project tank) tank (stocks_of_tank standing.known k) (inflow_of_tank project grid row k)
         earliest latest (arrival_of earliest (Some watch) k)
     one-may k tank at =
         cond_both (watch.tank == k) (Some (record {
@@ -134,33 +134,33 @@ module _ (project : Project) (grid : Grid) (standing : OpenStanding) (row : Reco
           rising = watch.rising;
           not_before = nat_le 2 earliest;
         })) None
-        (AllMayCome (walls_of project tank) (stocks_of_tank standing.known k) (inflow_of_tank project grid row k)
+        (AllMayCome (walls_of project tank) tank (stocks_of_tank standing.known k) (inflow_of_tank project grid row k)
         earliest latest)
         (λ e. let same = eqb-true watch.tank k e in
-        subst (λ n. AllMayCome (walls_of project tank) (stocks_of_tank standing.known n)
+        subst (λ n. AllMayCome (walls_of project tank) tank (stocks_of_tank standing.known n)
         (inflow_of_tank project grid row n) earliest latest
         (Some (record { target = watch.target; rising = watch.rising; not_before = nat_le 2 earliest }))) same
         (here tank (subst (λ n. slice_get project.tanks.list n ≡ Some tank) (sym same) at)))
-        (λ e. none-may (walls_of project tank) (stocks_of_tank standing.known k) (inflow_of_tank project grid row k)
-        earliest latest)
+        (λ e. none-may (walls_of project tank) tank (stocks_of_tank standing.known k)
+        (inflow_of_tank project grid row k) earliest latest)
 
   all-may : (way : Way) (reached : Option Watch) → EndsIn project grid standing row way
       → Arrives project grid standing.known row way reached → (k : ℕ) (tank : Tank)
       → slice_get project.tanks.list k ≡ Some tank
-      → AllMayCome (walls_of project tank) (stocks_of_tank standing.known k) (inflow_of_tank project grid row k)
+      → AllMayCome (walls_of project tank) tank (stocks_of_tank standing.known k) (inflow_of_tank project grid row k)
       (shortest_length standing.late way) (longest_length way)
       (arrival_of (shortest_length standing.late way) reached k)
   all-may _ _ (by_watched {cap = cap} {earliest = earliest} {latest = latest} seconds before none)
       (one {watch = watch} arrival) k tank at =
       one-may cap earliest latest seconds watch arrival k tank at
   all-may _ _ (by_watched {earliest = earliest} {latest = latest} seconds before none) (competing other) k tank at =
-      none-may (walls_of project tank) (stocks_of_tank standing.known k) (inflow_of_tank project grid row k)
+      none-may (walls_of project tank) tank (stocks_of_tank standing.known k) (inflow_of_tank project grid row k)
       earliest latest
   all-may _ _ (by_rules {seconds = i} seconds first after in_time none_open) none_by_rules k tank at =
-      none-may (walls_of project tank) (stocks_of_tank standing.known k) (inflow_of_tank project grid row k)
+      none-may (walls_of project tank) tank (stocks_of_tank standing.known k) (inflow_of_tank project grid row k)
       (i - standing.late) i
   all-may _ _ (by_instant {cap = cap} seconds same none) none_by_instant k tank at =
-      none-may (walls_of project tank) (stocks_of_tank standing.known k) (inflow_of_tank project grid row k)
+      none-may (walls_of project tank) tank (stocks_of_tank standing.known k) (inflow_of_tank project grid row k)
       (cap - standing.late) cap
 
 -- ---- what an end leaves
@@ -178,14 +178,14 @@ module _ (project : Project) (sound : IsSound project) (grid : Grid) (standing :
   abbrev inflow : Interval
   inflow = inflow_of_tank project grid found.row k
 
-  come : AllMayCome (walls_of project tank) stocks inflow found.shortest found.row.length
+  come : AllMayCome (walls_of project tank) tank stocks inflow found.shortest found.row.length
       (arrival_of found.shortest reached k)
   come =
-      subst (λ n. AllMayCome (walls_of project tank) stocks inflow n found.row.length (arrival_of n reached k))
+      subst (λ n. AllMayCome (walls_of project tank) tank stocks inflow n found.row.length (arrival_of n reached k))
       (sym is_short)
-      (subst (λ n. AllMayCome (walls_of project tank) stocks inflow (shortest_length standing.late way) n
+      (subst (λ n. AllMayCome (walls_of project tank) tank stocks inflow (shortest_length standing.late way) n
       (arrival_of (shortest_length standing.late way) reached k)) (sym is_long)
-      (all-may project grid standing found.row nested way reached ends arrives k tank at))
+      (all-may project sound grid standing found.row nested way reached ends arrives k tank at))
 
   flow : IsOrdered inflow
   flow = inflow_ordered project standing.known grid found.row found.row nested k tank at
@@ -205,7 +205,7 @@ module _ (project : Project) (sound : IsSound project) (grid : Grid) (standing :
       (vessels project sound k tank at))
       (record {
         inside = carried_inside_level stocks inflow found.shortest found.row.length arrival (walls_of project tank) tank
-            (vessels project sound k tank at) (contents_apart project sound k tank at);
+            (vessels project sound k tank at) (measured project sound k tank at).contents_apart;
         within = level_end_within stocks inflow found.shortest found.row.length arrival (walls_of project tank) tank
             (vessels project sound k tank at);
       })
@@ -215,8 +215,9 @@ module _ (project : Project) (sound : IsSound project) (grid : Grid) (standing :
       omega (arith, ints, c, a, b)
 
   pub volume_there : IsOrdered (stocks_left project grid standing.known found reached k tank).volume
-  volume_there = volume_end_ordered stocks inflow found.shortest found.row.length (arrival_of found.shortest reached k)
-      (walls_of project tank) tank (vessels project sound k tank at) (nested.ordered k) flow
+  volume_there =
+      volume_end_ordered (walls_of project tank) tank stocks inflow found.shortest found.row.length
+      (arrival_of found.shortest reached k) (vessels project sound k tank at) (nested.ordered k) flow come
 
 -- ---- standings
 

@@ -1,70 +1,50 @@
 -- The levels with which the next period begins lie within the bounds of each tank and hold its carried levels, which
 -- are there wherever the level that was just reached may have been come to.
 use Rattle.std.proofs.Common.{◌≡◌, ℕ, suc, ◌+◌, ◌-◌, ◌*◌, ◌^◌, ◌<◌, ◌≤◌, ℤ, pos, ◌+ℤ◌, ◌-ℤ◌, ◌*ℤ◌, ◌≤ℤ◌, ◌<ℤ◌}
-use Rattle.std.proofs.Common.{refl, sym, ap, subst, arith, Bool, true, false, List, [], ◌∷◌, ◌&&◌}
-use Rattle.std.proofs.Common.{◌==◌}
-use Rattle.std.specs.Prelude.{Option, Some, None, ⊤, unsigned_abs}
-use Rattle.std.specs.Option.{option_map_or}
+use Rattle.std.proofs.Common.{sym, ap, subst, ◌∙◌, arith, Bool, true, false, List, [], ◌∷◌, ◌&&◌}
+use Rattle.std.proofs.Common.{◌==◌, refl}
+use Rattle.std.specs.Prelude.{Option, Some, None, if◌then◌else◌}
+use Rattle.std.specs.Int.{int_max, int_min}
 use Rattle.std.proofs.lemmas.Int.{ints, clamps, by_lt_z}
 use Rattle.std.proofs.lemmas.Bool.{cond_both}
-use Rattle.hyd_num.proofs.Integers.{one_times, times_rises, times_sum}
+use Rattle.hyd_num.proofs.Integers.{one_times, times_rises, times_sum, times_times}
 use Rattle.hyd_num.specs.Rational.{Rational, whole, floor, ceiling}
-use Rattle.hyd_net.specs.Sound.{IsSound}
-use Rattle.hyd_spec.specs.ProgramTypes.{Project, Tank, VolumePoint, Control, When, AtLevel, AtTime, AtClock}
-use Rattle.hyd_spec.specs.Lists.{Each}
+use Rattle.hyd_net.specs.Curves.{volume_at}
+use Rattle.hyd_spec.specs.ProgramTypes.{Tank, VolumePoint, Control, When, AtLevel, AtTime, AtClock}
 use Rattle.hyd_spec.specs.Scale.{missed_stock_ticks}
-use Rattle.hyd_spec.specs.Tank.{Walls, Cylinder, Curve, Bounds, level_bounds, content_bounds, level_at}
-use Rattle.hyd_spec.specs.Tank.{reaches, walls_of, shape_points}
-use Rattle.hyd_spec_certificates.specs.Interval.{Interval}
+use Rattle.hyd_spec.specs.Tank.{Walls, Cylinder, Curve, Stock, Bounds, level_bounds, content_bounds, level_at}
+use Rattle.hyd_spec.specs.Tank.{exact_content, placed, is_bound, has_reached, reaches}
+use Rattle.hyd_spec_certificates.specs.Interval.{Interval, exactly}
 use Rattle.hyd_spec_certificates.specs.Stocks.{Stocks, least_stock, greatest_stock, exact_least, exact_greatest}
-use Rattle.hyd_spec_certificates.specs.Stocks.{lower_end, upper_end, lower_level, upper_level, contents_after}
-use Rattle.hyd_spec_certificates.specs.Stocks.{may_reach}
+use Rattle.hyd_spec_certificates.specs.Stocks.{lower_end, upper_end, lower_level, upper_level, may_reach}
 use Rattle.hyd_spec_certificates.specs.ThreeValuedLogic.{is_yes, at_both_ends}
 use Rattle.hyd_spec_certificates.specs.Decided.{control_truth}
-use Rattle.hyd_spec_open_ends.specs.StocksOverLengths.{Arrival, contents_over, content_of_level}
-use Rattle.hyd_spec_open_ends.specs.StocksOverLengths.{content_a_second_later}
-use Rattle.hyd_spec_open_ends.specs.StocksOverLengths.{carried_at_end, stocks_at_end, on_side, kept_when, kept}
-use Rattle.hyd_theorems_on_definitions.specs.LyingInIntervals.{IsInside, IsWithin, HasStock}
+use Rattle.hyd_spec_open_ends.specs.StocksOverLengths.{Arrival, level_ends, content_ends, goal_stocks}
+use Rattle.hyd_spec_open_ends.specs.StocksOverLengths.{least_content, greatest_content, contents_over}
+use Rattle.hyd_spec_open_ends.specs.StocksOverLengths.{carried_levels_over, carried_at_end, contents_at_end}
+use Rattle.hyd_spec_open_ends.specs.StocksOverLengths.{stocks_at_end, on_side, kept_when, kept}
+use Rattle.hyd_theorems_on_definitions.specs.LyingInIntervals.{IsInside, AreInside, IsWithin, HasStock}
 use Rattle.hyd_theorems_on_definitions.specs.SoundTanks.{IsVessel}
 use Rattle.hyd_lemmas.proofs.Integers.{floor_low, ceiling_high, max_is, min_is, exchanged}
 use Rattle.hyd_lemmas.proofs.BooleanTests.{both-second}
-use Rattle.hyd_theorems_on_definitions.proofs.ValuesAtTwoScales.{Leads, above-too, below-too}
-use Rattle.hyd_theorems_on_definitions.proofs.ValuesByContent.{lower-is, upper-is, above-yes, above-no, below-yes}
-use Rattle.hyd_theorems_on_definitions.proofs.ValuesByContent.{below-no}
-use Rattle.hyd_theorems_on_definitions.proofs.StocksInIntervals.{exact-some, lower-levels, upper-levels, next_has}
-use Rattle.hyd_theorems_on_definitions.proofs.SoundTankLemmas.{sound_tank, shape_of}
+use Rattle.hyd_theorems_on_definitions.proofs.ValuesAtTwoScales.{Leads}
+use Rattle.hyd_theorems_on_definitions.proofs.ValuesByContent.{lower-is, upper-is, above-yes, below-yes}
+use Rattle.hyd_theorems_on_definitions.proofs.StocksInIntervals.{exact-some, lower-levels, upper-levels}
+use Rattle.hyd_theorems_on_definitions.proofs.DecidedByEnds.{may_nests}
 use Rattle.hyd_theorems_on_nesting.specs.Nesting.{IsOrdered}
+use Rattle.hyd_theorems_on_nesting.proofs.InnerRecordsDecide.{lies-one}
+use Rattle.hyd_theorems_on_open_ends.proofs.ContentsAtGoals.{IsMeasured, goal_ordered, within_reach, come_up, not_up}
+use Rattle.hyd_theorems_on_open_ends.proofs.ContentsAtGoals.{come_down, not_down}
 use Rattle.hyd_theorems_on_open_ends.proofs.ContentsOverLengths.{content-leads-across, cut-above, cut-below}
-use Rattle.hyd_theorems_on_open_standings.proofs.StocksInOrder.{hull_ordered, less-low, more-high, leveled}
-use Rattle.hyd_theorems_on_open_standings.proofs.StocksInOrder.{leveled_within, over_within, over_inside, over_ordered}
-use Rattle.hyd_theorems_on_open_standings.proofs.StocksInOrder.{MayCome, from_below, from_above, cut_within}
-use Rattle.hyd_theorems_on_open_standings.proofs.StocksInOrder.{cut_with_room, cut_ordered, high-flow, low-flow}
-use Rattle.hyd_theorems_on_open_standings.proofs.StocksInOrder.{some-least, some-greatest}
-
--- ---- bounds that are apart
+use Rattle.hyd_theorems_on_open_standings.proofs.StocksInOrder.{hull_inside, less-low, more-high, AreWider}
+use Rattle.hyd_theorems_on_open_standings.proofs.StocksInOrder.{level_ends_are, content_ends_are, level_ends_wider}
+use Rattle.hyd_theorems_on_open_standings.proofs.StocksInOrder.{spanned, spanned_within, spanned_inside, over_within}
+use Rattle.hyd_theorems_on_open_standings.proofs.StocksInOrder.{MayCome, from_below, from_above, cut_within, cut_wider}
+use Rattle.hyd_theorems_on_open_standings.proofs.StocksInOrder.{cut_ordered}
 
 -- the content at the minimum is less than that at the maximum
 abbrev pub AreApart : Walls → Tank → Type 0
 AreApart walls tank = (content_bounds walls tank).least <ℤ (content_bounds walls tank).most
-
-pub contents_apart : (project : Project) → IsSound project
-    → Each project.tanks.list (λ k tank. AreApart (walls_of project tank) tank)
-contents_apart project sound k tank at = by-shape tank.shape refl
-  where
-    by-shape : (o : Option ℕ) → tank.shape ≡ o → AreApart (walls_of project tank) tank
-    by-shape None is =
-        let none : walls_of project tank ≡ Cylinder (unsigned_abs tank.area) =
-        ap (λ (o : Option ℕ). option_map_or (λ shape. Curve (shape_points project shape)) o
-        (Cylinder (unsigned_abs tank.area))) is in
-        subst (λ w. AreApart w tank) (sym none)
-        (let apart = (sound_tank project sound k tank at).ranges.apart in omega (arith, ints, apart))
-    by-shape (Some n) is =
-        let some : walls_of project tank ≡ Curve (shape_points project n) =
-        ap (λ (o : Option ℕ). option_map_or (λ shape. Curve (shape_points project shape)) o
-        (Cylinder (unsigned_abs tank.area))) is in
-        subst (λ w. AreApart w tank) (sym some)
-        (let apart = (shape_of project tank n is (sound_tank project sound k tank at)).apart in
-        omega (arith, ints, apart))
 
 -- ---- levels of rounded volumes
 
@@ -80,8 +60,10 @@ module _ (points : List VolumePoint) (tank : Tank) (vessel : IsVessel (Curve poi
   high-of x r = upper_level (Curve points) tank x r
 
   within-levels : (x y : Rational) (r : ℤ) → pos 0 ≤ℤ r → 0 < x.den → 0 < y.den
-      → IsWithin (level_bounds tank) (leveled (Curve points) tank r x y)
-  within-levels x y r is some other = leveled_within (Curve points) tank vessel r x y is some other
+      → IsWithin (level_bounds tank) (spanned (level_ends r (Curve points) tank) x y)
+  within-levels x y r is some other =
+      spanned_within (Curve points) tank vessel (level_bounds tank) (level_ends r (Curve points) tank)
+      (level_ends_are r is (Curve points) tank vessel) x y some other
 
   wholes : (m n : ℤ) → m ≤ℤ n → Leads 1 1 (whole m) (whole n)
   wholes m n le = record {
@@ -192,81 +174,199 @@ module _ (points : List VolumePoint) (tank : Tank) (vessel : IsVessel (Curve poi
 module _ (stocks : Stocks) (inflow : Interval) (shortest longest : ℕ) (arrival : Option Arrival) where
   pub carried_end_within : (walls : Walls) (tank : Tank) → IsVessel walls tank
       → IsWithin (level_bounds tank) (carried_at_end walls tank stocks inflow shortest longest arrival)
-  carried_end_within (Cylinder area) tank vessel =
-      cut_within area tank vessel inflow (pos 0) (omega (arith, ints)) arrival _
-      (over_within (Cylinder area) tank vessel stocks inflow (pos 0) shortest longest (omega (arith, ints)))
-  carried_end_within (Curve points) tank vessel =
-      over_within (Curve points) tank vessel stocks inflow (pos 0) shortest longest (omega (arith, ints))
+  carried_end_within walls tank vessel =
+      let ends = level_ends (pos 0) walls tank in
+      let are = level_ends_are (pos 0) (omega (arith, ints)) walls tank vessel in
+      cut_within walls tank vessel inflow (level_bounds tank) ends are arrival _
+      (over_within walls tank vessel (level_bounds tank) ends are stocks inflow shortest longest)
+
+  contents-end-within : (walls : Walls) (tank : Tank) → IsVessel walls tank
+      → IsWithin (content_bounds walls tank) (contents_at_end walls tank stocks inflow shortest longest arrival)
+  contents-end-within walls tank vessel =
+      let ends = content_ends (pos missed_stock_ticks) walls tank in
+      let are = content_ends_are (pos missed_stock_ticks) (omega (arith, ints)) walls tank vessel in
+      cut_within walls tank vessel inflow (content_bounds walls tank) ends are arrival _
+      (over_within walls tank vessel (content_bounds walls tank) ends are stocks inflow shortest longest)
 
   pub level_end_within : (walls : Walls) (tank : Tank) → IsVessel walls tank
       → IsWithin (level_bounds tank) (stocks_at_end walls tank stocks inflow shortest longest arrival).level
-  level_end_within (Cylinder area) tank vessel =
-      cut_within area tank vessel inflow (pos missed_stock_ticks) (omega (arith, ints)) arrival _
-      (over_within (Cylinder area) tank vessel stocks inflow (pos missed_stock_ticks) shortest longest
-      (omega (arith, ints)))
+  level_end_within (Cylinder area) tank vessel = contents-end-within (Cylinder area) tank vessel
   level_end_within (Curve points) tank vessel =
-      let volume = contents_over (pos missed_stock_ticks) (Curve points) tank stocks inflow shortest longest in
-      leveled_within (Curve points) tank vessel (pos missed_stock_ticks) (whole volume.lo) (whole volume.hi)
-      (omega (arith, ints)) (omega arith) (omega arith)
+      let volume = contents_at_end (Curve points) tank stocks inflow shortest longest arrival in
+      spanned_within (Curve points) tank vessel (level_bounds tank)
+      (level_ends (pos missed_stock_ticks) (Curve points) tank)
+      (level_ends_are (pos missed_stock_ticks) (omega (arith, ints)) (Curve points) tank vessel) (whole volume.lo)
+      (whole volume.hi) (omega arith) (omega arith)
 
-  -- the next levels hold the carried ones
-  pub carried_inside_level : (walls : Walls) (tank : Tank) → IsVessel walls tank → AreApart walls tank
-      → IsInside (carried_at_end walls tank stocks inflow shortest longest arrival)
-      (stocks_at_end walls tank stocks inflow shortest longest arrival).level
-  carried_inside_level (Cylinder area) tank vessel apart = by-arrival arrival
+-- ---- the next levels hold the carried ones
+
+-- Numbers of volumes, each the end of a content, whose levels from below are at most a level.
+module _ (points : List VolumePoint) (tank : Tank) (vessel : IsVessel (Curve points) tank)
+    (apart : AreApart (Curve points) tank) (stocks : Stocks) (inflow : Interval) (shortest longest : ℕ) where
+  abbrev end-room : ℤ
+  end-room = pos missed_stock_ticks
+
+  abbrev volume-bounds : Bounds
+  volume-bounds = content_bounds (Curve points) tank
+
+  abbrev low-volume : Rational → ℤ
+  low-volume x = lower_end volume-bounds volume-bounds x x end-room
+
+  abbrev high-volume : Rational → ℤ
+  high-volume x = upper_end volume-bounds volume-bounds x x end-room
+
+  abbrev low-level : Rational → ℤ → ℤ
+  low-level x room = lower_level (Curve points) tank x room
+
+  abbrev high-level : Rational → ℤ → ℤ
+  high-level x room = upper_level (Curve points) tank x room
+
+  there : (stock : Stock) (q : ℤ) (s : ℕ) → 0 < (exact_content (Curve points) stock q s).den
+  there stock q s = exact-some (Curve points) stock q s vessel.holds_water
+
+  low-one : (x : Rational) (z : ℤ) → 0 < x.den → z ≤ℤ low-volume x
+      → low-level (whole z) end-room ≤ℤ low-level x (pos 0)
+  low-one x z some le = from-low points tank vessel apart end-room (omega (arith, ints)) x z some le
+
+  high-one : (x : Rational) (z : ℤ) → 0 < x.den → high-volume x ≤ℤ z
+      → high-level x (pos 0) ≤ℤ high-level (whole z) end-room
+  high-one x z some le = to-high points tank vessel apart end-room (omega (arith, ints)) x z some le
+
+  -- over lengths
+  abbrev carried-over : Interval
+  carried-over = carried_levels_over (Curve points) tank stocks inflow shortest longest
+
+  abbrev volumes-over : Interval
+  volumes-over = contents_over end-room (Curve points) tank stocks inflow shortest longest
+
+  low-over : low-level (whole volumes-over.lo) end-room ≤ℤ carried-over.lo
+  low-over =
+      let a = low-one (exact_least (Curve points) stocks inflow shortest) volumes-over.lo
+      (there (least_stock stocks) inflow.lo shortest) (omega (arith, ints, clamps)) in
+      let b = low-one (exact_least (Curve points) stocks inflow longest) volumes-over.lo
+      (there (least_stock stocks) inflow.lo longest) (omega (arith, ints, clamps)) in
+      omega (arith, ints, clamps, a, b)
+
+  high-over : carried-over.hi ≤ℤ high-level (whole volumes-over.hi) end-room
+  high-over =
+      let a = high-one (exact_greatest (Curve points) stocks inflow shortest) volumes-over.hi
+      (there (greatest_stock stocks) inflow.hi shortest) (omega (arith, ints, clamps)) in
+      let b = high-one (exact_greatest (Curve points) stocks inflow longest) volumes-over.hi
+      (there (greatest_stock stocks) inflow.hi longest) (omega (arith, ints, clamps)) in
+      omega (arith, ints, clamps, a, b)
+
+  -- of two ends, the greater or the lesser
+  low-greater : (m l : ℤ) (x : Rational) → 0 < x.den → low-level (whole m) end-room ≤ℤ l
+      → low-level (whole (int_max m (low-volume x))) end-room ≤ℤ int_max l (low-level x (pos 0))
+  low-greater m l x some le =
+      max_is (λ z. low-level (whole z) end-room ≤ℤ int_max l (low-level x (pos 0))) m (low-volume x)
+      (λ e. omega (arith, ints, clamps, le))
+      (λ e. let a = low-one x (low-volume x) some (omega (arith, ints)) in omega (arith, ints, clamps, a))
+
+  high-lesser : (m l : ℤ) (x : Rational) → 0 < x.den → l ≤ℤ high-level (whole m) end-room
+      → int_min l (high-level x (pos 0)) ≤ℤ high-level (whole (int_min m (high-volume x))) end-room
+  high-lesser m l x some le =
+      min_is (λ z. int_min l (high-level x (pos 0)) ≤ℤ high-level (whole z) end-room) m (high-volume x)
+      (λ e. omega (arith, ints, clamps, le))
+      (λ e. let a = high-one x (high-volume x) some (omega (arith, ints)) in omega (arith, ints, clamps, a))
+
+  -- with the cut, if there is one
+  low-test : (b : Bool) (m l : ℤ) (x : Rational) → 0 < x.den → low-level (whole m) end-room ≤ℤ l
+      → low-level (whole (if b then int_max m (low-volume x) else m)) end-room
+      ≤ℤ (if b then int_max l (low-level x (pos 0)) else l)
+  low-test true m l x some le = low-greater m l x some le
+  low-test false m l x some le = le
+
+  high-test : (b : Bool) (m l : ℤ) (x : Rational) → 0 < x.den → l ≤ℤ high-level (whole m) end-room
+      → (if b then int_min l (high-level x (pos 0)) else l)
+      ≤ℤ high-level (whole (if b then int_min m (high-volume x) else m)) end-room
+  high-test true m l x some le = high-lesser m l x some le
+  high-test false m l x some le = le
+
+  curve-inside : (arrival : Option Arrival)
+      → IsInside (carried_at_end (Curve points) tank stocks inflow shortest longest arrival)
+      (stocks_at_end (Curve points) tank stocks inflow shortest longest arrival).level
+  curve-inside None = record { low = low-over; high = high-over }
+  curve-inside (Some arrival) = by-way arrival.rising arrival.target arrival.not_before
     where
-      by-arrival : (o : Option Arrival)
-          → IsInside (carried_at_end (Cylinder area) tank stocks inflow shortest longest o)
-          (stocks_at_end (Cylinder area) tank stocks inflow shortest longest o).level
-      by-arrival None = over_inside (Cylinder area) tank vessel stocks inflow (pos missed_stock_ticks) shortest longest
-          (omega (arith, ints))
-      by-arrival (Some one) =
-          cut_with_room area tank vessel inflow (pos missed_stock_ticks) (omega (arith, ints)) one _ _
-          (over_inside (Cylinder area) tank vessel stocks inflow (pos missed_stock_ticks) shortest longest
-          (omega (arith, ints)))
-  carried_inside_level (Curve points) tank vessel apart =
-      let volume = contents_over (pos missed_stock_ticks) (Curve points) tank stocks inflow shortest longest in
-      record {
-        low =
-            let a = from-low points tank vessel apart (pos missed_stock_ticks) (omega (arith, ints))
-            (exact_least (Curve points) stocks inflow shortest) volume.lo
-            (some-least (Curve points) tank vessel stocks inflow shortest) (omega (arith, ints, clamps)) in
-            let b = from-low points tank vessel apart (pos missed_stock_ticks) (omega (arith, ints))
-            (exact_least (Curve points) stocks inflow longest) volume.lo
-            (some-least (Curve points) tank vessel stocks inflow longest) (omega (arith, ints, clamps)) in
-            omega (arith, ints, clamps, a, b);
-        high =
-            let a = to-high points tank vessel apart (pos missed_stock_ticks) (omega (arith, ints))
-            (exact_greatest (Curve points) stocks inflow shortest) volume.hi
-            (some-greatest (Curve points) tank vessel stocks inflow shortest) (omega (arith, ints, clamps)) in
-            let b = to-high points tank vessel apart (pos missed_stock_ticks) (omega (arith, ints))
-            (exact_greatest (Curve points) stocks inflow longest) volume.hi
-            (some-greatest (Curve points) tank vessel stocks inflow longest) (omega (arith, ints, clamps)) in
-            omega (arith, ints, clamps, a, b);
-      }
+      by-way : (rising : Bool) (target : ℤ) (not_before : Bool)
+          → IsInside (carried_at_end (Curve points) tank stocks inflow shortest longest
+          (Some (record { target = target; rising = rising; not_before = not_before })))
+          (stocks_at_end (Curve points) tank stocks inflow shortest longest
+          (Some (record { target = target; rising = rising; not_before = not_before }))).level
+      by-way true target not_before =
+          let goal = goal_stocks (Curve points) tank true target in
+          record {
+            low = low-greater volumes-over.lo carried-over.lo (least_content (Curve points) goal)
+                (there (least_stock goal) (pos 0) 0) low-over;
+            high = high-test not_before volumes-over.hi carried-over.hi (exact_greatest (Curve points) goal inflow 1)
+                (there (greatest_stock goal) inflow.hi 1) high-over;
+          }
+      by-way false target not_before =
+          let goal = goal_stocks (Curve points) tank false target in
+          record {
+            low = low-test not_before volumes-over.lo carried-over.lo (exact_least (Curve points) goal inflow 1)
+                (there (least_stock goal) inflow.lo 1) low-over;
+            high = high-lesser volumes-over.hi carried-over.hi (greatest_content (Curve points) goal)
+                (there (greatest_stock goal) (pos 0) 0) high-over;
+          }
 
-  pub volume_end_ordered : (walls : Walls) (tank : Tank) → IsVessel walls tank → HasStock stocks → IsOrdered inflow
-      → IsOrdered (stocks_at_end walls tank stocks inflow shortest longest arrival).volume
-  volume_end_ordered (Cylinder area) tank vessel has flow = omega (arith, ints)
-  volume_end_ordered (Curve points) tank vessel has flow =
-      hull_ordered (contents_after (pos missed_stock_ticks) (Curve points) tank stocks inflow shortest)
-      (contents_after (pos missed_stock_ticks) (Curve points) tank stocks inflow longest)
-      (next_has (Curve points) tank stocks inflow shortest vessel has flow).volume
+pub carried_inside_level : (stocks : Stocks) (inflow : Interval) (shortest longest : ℕ) (arrival : Option Arrival)
+    (walls : Walls) (tank : Tank) → IsVessel walls tank → AreApart walls tank
+    → IsInside (carried_at_end walls tank stocks inflow shortest longest arrival)
+    (stocks_at_end walls tank stocks inflow shortest longest arrival).level
+carried_inside_level stocks inflow shortest longest arrival (Cylinder area) tank vessel apart = by-arrival arrival
+  where
+    wider : AreWider (level_ends (pos 0) (Cylinder area) tank)
+        (level_ends (pos missed_stock_ticks) (Cylinder area) tank)
+    wider = level_ends_wider (pos missed_stock_ticks) (omega (arith, ints)) (Cylinder area) tank
 
--- The level that has just been reached may be come to; nothing is asked of a tank with a curve.
-abbrev pub AllMayCome : Walls → Stocks → Interval → ℕ → ℕ → Option Arrival → Type 0
-AllMayCome (Cylinder area) stocks inflow shortest longest arrival =
-    (one : Arrival) → arrival ≡ Some one → MayCome area stocks inflow shortest longest one
-AllMayCome (Curve points) stocks inflow shortest longest arrival = ⊤
+    over : IsInside (carried_levels_over (Cylinder area) tank stocks inflow shortest longest)
+        (contents_over (pos missed_stock_ticks) (Cylinder area) tank stocks inflow shortest longest)
+    over = hull_inside _ _ _ _
+        (spanned_inside (level_ends (pos 0) (Cylinder area) tank)
+        (level_ends (pos missed_stock_ticks) (Cylinder area) tank) wider
+        (exact_least (Cylinder area) stocks inflow shortest) (exact_greatest (Cylinder area) stocks inflow shortest))
+        (spanned_inside (level_ends (pos 0) (Cylinder area) tank)
+        (level_ends (pos missed_stock_ticks) (Cylinder area) tank) wider
+        (exact_least (Cylinder area) stocks inflow longest) (exact_greatest (Cylinder area) stocks inflow longest))
+
+    by-arrival : (o : Option Arrival)
+        → IsInside (carried_at_end (Cylinder area) tank stocks inflow shortest longest o)
+        (stocks_at_end (Cylinder area) tank stocks inflow shortest longest o).level
+    by-arrival None = over
+    by-arrival (Some one) =
+        cut_wider (Cylinder area) tank inflow (level_ends (pos 0) (Cylinder area) tank)
+        (level_ends (pos missed_stock_ticks) (Cylinder area) tank) wider one _ _ over
+carried_inside_level stocks inflow shortest longest arrival (Curve points) tank vessel apart =
+    curve-inside points tank vessel apart stocks inflow shortest longest arrival
+
+-- ---- there is some stock
+
+-- The level that has just been reached may be come to.
+abbrev pub AllMayCome : Walls → Tank → Stocks → Interval → ℕ → ℕ → Option Arrival → Type 0
+AllMayCome walls tank stocks inflow shortest longest arrival =
+    (one : Arrival) → arrival ≡ Some one → MayCome walls tank stocks inflow shortest longest one
 
 pub carried_end_ordered : (walls : Walls) (tank : Tank) (stocks : Stocks) (inflow : Interval) (shortest longest : ℕ)
     (arrival : Option Arrival) → IsVessel walls tank → HasStock stocks → IsOrdered inflow
-    → AllMayCome walls stocks inflow shortest longest arrival
+    → AllMayCome walls tank stocks inflow shortest longest arrival
     → IsOrdered (carried_at_end walls tank stocks inflow shortest longest arrival)
-carried_end_ordered (Cylinder area) tank stocks inflow shortest longest arrival vessel has flow come =
-    cut_ordered area tank vessel inflow (pos 0) (omega (arith, ints)) stocks has flow shortest longest arrival come
-carried_end_ordered (Curve points) tank stocks inflow shortest longest arrival vessel has flow come =
-    over_ordered (Curve points) tank vessel stocks inflow has flow (pos 0) shortest longest (omega (arith, ints))
+carried_end_ordered walls tank stocks inflow shortest longest arrival vessel has flow come =
+    cut_ordered walls tank vessel inflow (level_bounds tank) (level_ends (pos 0) walls tank)
+    (level_ends_are (pos 0) (omega (arith, ints)) walls tank vessel) stocks has flow shortest longest arrival come
+
+pub volume_end_ordered : (walls : Walls) (tank : Tank) (stocks : Stocks) (inflow : Interval) (shortest longest : ℕ)
+    (arrival : Option Arrival) → IsVessel walls tank → HasStock stocks → IsOrdered inflow
+    → AllMayCome walls tank stocks inflow shortest longest arrival
+    → IsOrdered (stocks_at_end walls tank stocks inflow shortest longest arrival).volume
+volume_end_ordered (Cylinder area) tank stocks inflow shortest longest arrival vessel has flow come =
+    omega (arith, ints)
+volume_end_ordered (Curve points) tank stocks inflow shortest longest arrival vessel has flow come =
+    cut_ordered (Curve points) tank vessel inflow (content_bounds (Curve points) tank)
+    (content_ends (pos missed_stock_ticks) (Curve points) tank)
+    (content_ends_are (pos missed_stock_ticks) (omega (arith, ints)) (Curve points) tank vessel) stocks has flow
+    shortest longest arrival come
 
 -- ---- what is kept
 
@@ -341,34 +441,6 @@ kept_holds bounds k carried (control ∷ controls) x within holds =
 
 -- ---- what may be come to
 
-nothing : (n : ℕ) → pos n *ℤ pos 0 ≡ pos 0
-nothing n = omega (arith, ints)
-
-at-level : (B : ℕ) (t : ℤ) → (pos B *ℤ t) +ℤ (pos (0 * 10 ^ 15) *ℤ pos 0) ≡ pos B *ℤ t
-at-level B t = let n = nothing (0 * 10 ^ 15) in omega (arith, ints, n)
-
-has-come-up : (area : ℕ) (t x : ℤ) → (pos (86400 * area) *ℤ (pos 1 *ℤ t)) ≤ℤ x
-    → Leads 1 1 (content_of_level area t) (record { num = x; den = 86400 * area })
-has-come-up area t x le = record {
-  crossed =
-      let B = 86400 * area in
-      let e : pos 1 *ℤ ((pos B *ℤ t) +ℤ (pos (0 * 10 ^ 15) *ℤ pos 0)) ≡ pos 1 *ℤ (pos B *ℤ t) =
-      ap (λ z. pos 1 *ℤ z) (at-level B t) in
-      times_rises B (pos 1 *ℤ ((pos B *ℤ t) +ℤ (pos (0 * 10 ^ 15) *ℤ pos 0))) (pos 1 *ℤ x)
-      (omega (arith, ints, e, le, exchanged B 1 t, one_times x));
-}
-
-is-short-of : (area : ℕ) (t x : ℤ) → x ≤ℤ (pos (86400 * area) *ℤ (pos 1 *ℤ t))
-    → Leads 1 1 (record { num = x; den = 86400 * area }) (content_of_level area t)
-is-short-of area t x le = record {
-  crossed =
-      let B = 86400 * area in
-      let e : pos 1 *ℤ ((pos B *ℤ t) +ℤ (pos (0 * 10 ^ 15) *ℤ pos 0)) ≡ pos 1 *ℤ (pos B *ℤ t) =
-      ap (λ z. pos 1 *ℤ z) (at-level B t) in
-      times_rises B (pos 1 *ℤ x) (pos 1 *ℤ ((pos B *ℤ t) +ℤ (pos (0 * 10 ^ 15) *ℤ pos 0)))
-      (omega (arith, ints, e, le, exchanged B 1 t, one_times x));
-}
-
 less-seconds : (s t : ℕ) (q : ℤ) → s ≤ t → q ≤ℤ pos 0 → (pos t *ℤ q) ≤ℤ (pos s *ℤ q)
 less-seconds s t q le some =
     let rest = times_rises (t - s) q (pos 0) some in
@@ -376,6 +448,9 @@ less-seconds s t q le some =
     let sum = times_sum s (t - s) q in
     let e : pos (s + (t - s)) *ℤ q ≡ pos t *ℤ q = ap (λ (n : ℕ). pos n *ℤ q) (omega (arith, le)) in
     omega (arith, ints, rest, none, sum, e)
+  where
+    nothing : (n : ℕ) → pos n *ℤ pos 0 ≡ pos 0
+    nothing n = omega (arith, ints)
 
 more-seconds : (s t : ℕ) (q : ℤ) → s ≤ t → pos 0 ≤ℤ q → (pos s *ℤ q) ≤ℤ (pos t *ℤ q)
 more-seconds s t q le some =
@@ -384,104 +459,147 @@ more-seconds s t q le some =
     let sum = times_sum s (t - s) q in
     let e : pos (s + (t - s)) *ℤ q ≡ pos t *ℤ q = ap (λ (n : ℕ). pos n *ℤ q) (omega (arith, le)) in
     omega (arith, ints, rest, none, sum, e)
+  where
+    nothing : (n : ℕ) → pos n *ℤ pos 0 ≡ pos 0
+    nothing n = omega (arith, ints)
+
+-- whether a content has met a level
+abbrev met-by : ℕ → Walls → Tank → Bool → ℤ → Rational → Bool
+met-by S (Cylinder area) tank above target x = reaches S above target x
+met-by S (Curve points) tank above target x =
+    if is_bound tank above target then reaches S above (volume_at points target) x
+    else reaches S above target (placed S (content_bounds (Curve points) tank) (level_bounds tank) x
+    (level_at S (Curve points) tank x))
+
+-- some seconds of an inflow are one second of as much
+in-one-second : (walls : Walls) (stock : Stock) (q : ℤ) (s : ℕ)
+    → exact_content walls stock q s ≡ exact_content walls stock (pos s *ℤ q) 1
+in-one-second (Cylinder area) stock q s =
+    let B = 86400 * area in
+    ap (λ (z : ℤ). record { num = (pos B *ℤ stock.level) +ℤ z; den = B })
+    (sym (times_times s (10 ^ 15) q) ∙ exchanged (10 ^ 15) s q
+    ∙ ap (λ (n : ℕ). pos n *ℤ (pos s *ℤ q)) (omega (arith)))
+in-one-second (Curve points) stock q s =
+    ap (λ (z : ℤ). record { num = (pos 864 *ℤ stock.volume) +ℤ z; den = 864 }) (sym (one_times (pos s *ℤ q)))
+
+met-in-one-second : (walls : Walls) (tank : Tank) (stock : Stock) (q target : ℤ) (rising : Bool) (s : ℕ)
+    → has_reached 1 walls tank stock q rising target s
+    ≡ has_reached 1 walls tank stock (pos s *ℤ q) rising target 1
+met-in-one-second (Cylinder area) tank stock q target rising s =
+    ap (met-by 1 (Cylinder area) tank rising target) (in-one-second (Cylinder area) stock q s)
+met-in-one-second (Curve points) tank stock q target rising s =
+    ap (met-by 1 (Curve points) tank rising target) (in-one-second (Curve points) stock q s)
+
+-- the way on, up or down
+abbrev IsOnward : Bool → ℤ → ℤ → Type 0
+IsOnward true a b = a ≤ℤ b
+IsOnward false a b = b ≤ℤ a
+
+in-itself : (x : Stocks) → AreInside x x
+in-itself x = record {
+  level = record { low = omega (arith, ints); high = omega (arith, ints) };
+  volume = record { low = omega (arith, ints); high = omega (arith, ints) };
+}
+
+never : (b : Bool) → b ≡ true → b ≡ false → ⊥
+never true e f = absurd (cc)
+never false e f = absurd (cc)
+
+-- a level that has been reached stays so as the content moves on
+reached-on : (walls : Walls) (tank : Tank) → IsVessel walls tank → (stock : Stock) (q target : ℤ) (rising : Bool)
+    (s t : ℕ) → IsOnward rising (pos s *ℤ q) (pos t *ℤ q)
+    → has_reached 1 walls tank stock q rising target s ≡ true
+    → has_reached 1 walls tank stock q rising target t ≡ true
+reached-on walls tank vessel stock q target true s t on reached =
+    let x : Stocks = record { level = exactly stock.level; volume = exactly stock.volume } in
+    met-in-one-second walls tank stock q target true t
+    ∙ may_nests walls tank x x (exactly (pos s *ℤ q)) (record { lo = pos s *ℤ q; hi = pos t *ℤ q }) target true 1 vessel
+    (in-itself x) (record { low = omega (arith, ints); high = on })
+    (sym (met-in-one-second walls tank stock q target true s) ∙ reached)
+reached-on walls tank vessel stock q target false s t on reached =
+    let x : Stocks = record { level = exactly stock.level; volume = exactly stock.volume } in
+    met-in-one-second walls tank stock q target false t
+    ∙ may_nests walls tank x x (exactly (pos s *ℤ q)) (record { lo = pos t *ℤ q; hi = pos s *ℤ q }) target false 1
+    vessel (in-itself x) (record { low = on; high = omega (arith, ints) })
+    (sym (met-in-one-second walls tank stock q target false s) ∙ reached)
 
 -- a level that the tank may have reached within the lengths, and where a second before the shortest is looked at not
 -- then
-module _ (tank : Tank) (stocks : Stocks) (inflow : Interval) (has : HasStock stocks) (flow : IsOrdered inflow)
-    (shortest longest s : ℕ) (from : shortest ≤ s) (to : s ≤ longest) (target : ℤ) (not_before : Bool) where
-  abbrev greatest-after : ℕ → ℕ → Rational
-  greatest-after area n = exact_greatest (Cylinder area) stocks inflow n
-
-  abbrev least-after : ℕ → ℕ → Rational
-  least-after area n = exact_least (Cylinder area) stocks inflow n
-
-  abbrev IsNotReached : Walls → Bool → Type 0
-  IsNotReached walls rising = not_before ≡ true
+module _ (walls : Walls) (tank : Tank) (is : IsMeasured walls tank) (stocks : Stocks) (inflow : Interval)
+    (has : HasStock stocks) (flow : IsOrdered inflow) (shortest longest s : ℕ) (from : shortest ≤ s) (to : s ≤ longest)
+    (target : ℤ) (not_before : Bool) where
+  abbrev IsNotReached : Bool → Type 0
+  IsNotReached rising = not_before ≡ true
       → (2 ≤ shortest) × (may_reach walls tank stocks inflow target rising (shortest - 1) ≡ false)
 
-  pub may-come-by : (walls : Walls) (rising : Bool) → IsVessel walls tank
-      → may_reach walls tank stocks inflow target rising s ≡ true → IsNotReached walls rising
-      → AllMayCome walls stocks inflow shortest longest
+  pub may-come-by : (rising : Bool) → may_reach walls tank stocks inflow target rising s ≡ true → IsNotReached rising
+      → AllMayCome walls tank stocks inflow shortest longest
       (Some (record { target = target; rising = rising; not_before = not_before }))
-  may-come-by (Curve points) rising vessel reached before = tt
-  may-come-by (Cylinder area) true vessel reached before = λ one e. subst (MayCome area stocks inflow shortest longest)
-      (the-one e) (from_below target not_before s from to come passed)
+  may-come-by true reached before = λ one e. subst (MayCome walls tank stocks inflow shortest longest)
+      (the-one e) (from_below target not_before s from to
+      (come_up 1 (omega arith) tank (greatest_stock stocks) inflow.hi s walls is target reached) passed)
     where
       the-one : {one : Arrival} → Some (record { target = target; rising = true; not_before = not_before }) ≡ Some one
           → record { target = target; rising = true; not_before = not_before } ≡ one
       the-one e = cc
 
-      come : Leads 1 1 (content_of_level area target) (greatest-after area s)
-      come = has-come-up area target (greatest-after area s).num (above-yes 1 target (greatest-after area s) reached)
+      goal : Stocks
+      goal = goal_stocks walls tank true target
 
       passed : not_before ≡ true
-          → Leads 1 1 (greatest-after area shortest) (content_a_second_later area target inflow.hi)
-          × Leads 1 1 (content_of_level area target) (content_a_second_later area target inflow.hi)
+          → Leads 1 1 (exact_greatest walls stocks inflow shortest) (exact_greatest walls goal inflow 1)
+          × Leads 1 1 (least_content walls goal) (exact_greatest walls goal inflow 1)
       passed e =
           let b = before e in
           let two = b.0 in
           let n : suc (shortest - 1) ≡ shortest = omega (arith, two) in
-          let short = above-no 1 target (greatest-after area (shortest - 1)) b.1 in
+          let within =
+          within_reach 1 (omega arith) tank (greatest_stock stocks) inflow.hi s walls is true target reached in
           let rises : pos 0 ≤ℤ inflow.hi = by_lt_z inflow.hi (pos 0)
-          (λ lt. absurd (
-          let back : Leads 1 1 (greatest-after area s) (greatest-after area (shortest - 1)) =
-          content-leads-across 1 1 (Cylinder area) (greatest_stock stocks) (greatest_stock stocks) inflow.hi
-          inflow.hi s (shortest - 1) (omega (arith, ints))
-          (let l = less-seconds (shortest - 1) s inflow.hi (omega (arith, from)) (omega (arith, ints, lt)) in
-          omega (arith, ints, l)) in
-          let up = above-yes 1 target (greatest-after area s) reached in
-          let t : pos (86400 * area) *ℤ (pos 1 *ℤ target) ≡ pos (86400 * area) *ℤ target =
-          ap (λ z. pos (86400 * area) *ℤ z) (one_times target) in
-          let there = above-too target (greatest-after area s) (greatest-after area (shortest - 1))
-          (exact-some (Cylinder area) (greatest_stock stocks) inflow.hi s vessel.holds_water) back
-          (omega (arith, ints, up, t)) in
-          omega (arith, ints, there, short, t)))
+          (λ lt. absurd (never _
+          (reached-on walls tank is.vessel (greatest_stock stocks) inflow.hi target true s (shortest - 1)
+          (less-seconds (shortest - 1) s inflow.hi (omega (arith, from)) (omega (arith, ints, lt))) reached) b.1))
           (λ ge. ge) in (
-            subst (λ m. Leads 1 1 (greatest-after area m) (content_a_second_later area target inflow.hi)) n
-                (cut-above 1 (Cylinder area) (record { level = target; volume = pos 0 }) inflow (greatest_stock stocks)
-                inflow.hi (shortest - 1) (high-flow (Cylinder area) tank vessel stocks inflow has flow)
-                (is-short-of area target (greatest-after area (shortest - 1)).num (omega (arith, ints, short)))),
-            content-leads-across 1 1 (Cylinder area) (record { level = target; volume = pos 0 })
-                (record { level = target; volume = pos 0 }) (pos 0) inflow.hi 0 1 (omega (arith, ints))
+            subst (λ m. Leads 1 1 (exact_greatest walls stocks inflow m) (exact_greatest walls goal inflow 1)) n
+                (cut-above 1 walls (greatest_stock goal) inflow (greatest_stock stocks)
+                inflow.hi (shortest - 1) (lies-one inflow inflow.hi flow (omega (arith, ints)))
+                (not_up 1 (omega arith) tank (greatest_stock stocks) inflow.hi (shortest - 1) walls is target within
+                b.1)),
+            content-leads-across 1 1 walls (least_stock goal) (greatest_stock goal) (pos 0) inflow.hi 0 1
+                (goal_ordered walls tank true target)
                 (omega (arith, ints, rises, one_times inflow.hi)),
           )
-  may-come-by (Cylinder area) false vessel reached before = λ one e. subst (MayCome area stocks inflow shortest longest)
-      (the-one e) (from_above target not_before s from to come passed)
+  may-come-by false reached before = λ one e. subst (MayCome walls tank stocks inflow shortest longest)
+      (the-one e) (from_above target not_before s from to
+      (come_down 1 (omega arith) tank (least_stock stocks) inflow.lo s walls is target reached) passed)
     where
       the-one : {one : Arrival} → Some (record { target = target; rising = false; not_before = not_before }) ≡ Some one
           → record { target = target; rising = false; not_before = not_before } ≡ one
       the-one e = cc
 
-      come : Leads 1 1 (least-after area s) (content_of_level area target)
-      come = is-short-of area target (least-after area s).num (below-yes 1 target (least-after area s) reached)
+      goal : Stocks
+      goal = goal_stocks walls tank false target
 
-      passed : not_before ≡ true → Leads 1 1 (content_a_second_later area target inflow.lo) (least-after area shortest)
-          × Leads 1 1 (content_a_second_later area target inflow.lo) (content_of_level area target)
+      passed : not_before ≡ true
+          → Leads 1 1 (exact_least walls goal inflow 1) (exact_least walls stocks inflow shortest)
+          × Leads 1 1 (exact_least walls goal inflow 1) (greatest_content walls goal)
       passed e =
           let b = before e in
           let two = b.0 in
           let n : suc (shortest - 1) ≡ shortest = omega (arith, two) in
-          let over = below-no 1 target (least-after area (shortest - 1)) b.1 in
+          let within = within_reach 1 (omega arith) tank (least_stock stocks) inflow.lo s walls is false target reached
+          in
           let falls : inflow.lo ≤ℤ pos 0 = by_lt_z (pos 0) inflow.lo
-          (λ lt. absurd (
-          let back : Leads 1 1 (least-after area (shortest - 1)) (least-after area s) =
-          content-leads-across 1 1 (Cylinder area) (least_stock stocks) (least_stock stocks) inflow.lo
-          inflow.lo (shortest - 1) s (omega (arith, ints))
-          (let l = more-seconds (shortest - 1) s inflow.lo (omega (arith, from)) (omega (arith, ints, lt)) in
-          omega (arith, ints, l)) in
-          let down = below-yes 1 target (least-after area s) reached in
-          let t : pos (86400 * area) *ℤ (pos 1 *ℤ target) ≡ pos (86400 * area) *ℤ target =
-          ap (λ z. pos (86400 * area) *ℤ z) (one_times target) in
-          let there = below-too target (least-after area (shortest - 1)) (least-after area s)
-          (exact-some (Cylinder area) (least_stock stocks) inflow.lo s vessel.holds_water) back
-          (omega (arith, ints, down, t)) in
-          omega (arith, ints, there, over, t)))
+          (λ lt. absurd (never _
+          (reached-on walls tank is.vessel (least_stock stocks) inflow.lo target false s (shortest - 1)
+          (more-seconds (shortest - 1) s inflow.lo (omega (arith, from)) (omega (arith, ints, lt))) reached) b.1))
           (λ ge. ge) in (
-            subst (λ m. Leads 1 1 (content_a_second_later area target inflow.lo) (least-after area m)) n
-                (cut-below 1 (Cylinder area) (record { level = target; volume = pos 0 }) inflow (least_stock stocks)
-                inflow.lo (shortest - 1) (low-flow (Cylinder area) tank vessel stocks inflow has flow)
-                (has-come-up area target (least-after area (shortest - 1)).num (omega (arith, ints, over)))),
-            content-leads-across 1 1 (Cylinder area) (record { level = target; volume = pos 0 })
-                (record { level = target; volume = pos 0 }) inflow.lo (pos 0) 1 0 (omega (arith, ints))
+            subst (λ m. Leads 1 1 (exact_least walls goal inflow 1) (exact_least walls stocks inflow m)) n
+                (cut-below 1 walls (least_stock goal) inflow (least_stock stocks)
+                inflow.lo (shortest - 1) (lies-one inflow inflow.lo (omega (arith, ints)) flow)
+                (not_down 1 (omega arith) tank (least_stock stocks) inflow.lo (shortest - 1) walls is target within
+                b.1)),
+            content-leads-across 1 1 walls (least_stock goal) (greatest_stock goal) inflow.lo (pos 0) 1 0
+                (goal_ordered walls tank false target)
                 (omega (arith, ints, falls, one_times inflow.lo)),
           )

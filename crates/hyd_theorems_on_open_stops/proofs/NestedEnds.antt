@@ -1,7 +1,7 @@
 -- What an inner record leaves at its end lies inside what the outer one leaves, so where that one's matters are
 -- decided, so are those of the inner one.
-use Rattle.std.proofs.Common.{◌≡◌, ℕ, suc, ◌+◌, ◌-◌, ◌≤◌, ℤ, refl, sym, ap, subst, ◌∙◌, arith}
-use Rattle.std.proofs.Common.{Bool, false, List, [], ◌∷◌, length, map}
+use Rattle.std.proofs.Common.{◌≡◌, ℕ, suc, ◌+◌, ◌≤◌, ℤ, refl, sym, ap, subst, ◌∙◌, arith}
+use Rattle.std.proofs.Common.{Bool, false, List, [], ◌∷◌, map}
 use Rattle.std.specs.Prelude.{Option, Some, None, slice_get, slice_index_or}
 use Rattle.std.proofs.lemmas.Int.{ints}
 use Rattle.hyd_net.specs.Sound.{IsSound}
@@ -107,12 +107,12 @@ module _ (project : Project) (sound : IsSound project) (standing : OpenStanding)
     to : inner.row.length ≤ outer.row.length
     to = let a = no_longer inside way lies in omega (arith, a, is_long, is_long_inside)
 
-    cuts : CutsAsMuch (walls_of project tank) (arrival_of inner.shortest reached_inside k)
+    cuts : CutsAsMuch (arrival_of inner.shortest reached_inside k)
         (arrival_of outer.shortest reached k)
     cuts =
-        subst (λ n. CutsAsMuch (walls_of project tank) (arrival_of n reached_inside k)
+        subst (λ n. CutsAsMuch (arrival_of n reached_inside k)
         (arrival_of outer.shortest reached k)) (sym is_short_inside)
-        (subst (λ n. CutsAsMuch (walls_of project tank)
+        (subst (λ n. CutsAsMuch
         (arrival_of (shortest_length standing.late inside) reached_inside k) (arrival_of n reached k)) (sym is_short)
         (cuts_as_much project sound standing grid outer.row inner.row nested inside reached_inside ends_inside
         arrives_inside k tank at way reached lies arrives))

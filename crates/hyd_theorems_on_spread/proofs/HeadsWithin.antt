@@ -14,6 +14,7 @@ use Rattle.hyd_spec.specs.Lists.{Each}
 use Rattle.hyd_spec.specs.Scale.{at_scale}
 use Rattle.hyd_spec.specs.DemandsHeadsAndPumpLifts.{demand_of, reservoir_head}
 use Rattle.hyd_spec.specs.Assignment.{Assignment, JunctionObeys, head_at, flow_at, net_outflow, node_heads, tank_heads}
+use Rattle.hyd_spec_certificates.specs.declared.Problem.{Problem}
 use Rattle.hyd_spec_certificates.specs.declared.Problem.TheVariants.{Main}
 use Rattle.hyd_spec_certificates.specs.declared.Side.{Side}
 use Rattle.hyd_spec_certificates.specs.declared.Side.TheVariants.{Upper, Lower}
@@ -44,7 +45,7 @@ use Rattle.hyd_theorems_on_spread.proofs.ZippedLists.{zip-long, beside-first, it
 
 -- ---- one junction
 
-emitter-sound : (factors : Factors) (own other : Option Capacity) → EmitterIsWithin factors own other
+pub emitter-sound : (factors : Factors) (own other : Option Capacity) → EmitterIsWithin factors own other
     → IfSome other IsSoundCapacity
 emitter-sound factors None None w = tt
 emitter-sound factors None (Some b) w = absurd w
@@ -99,29 +100,27 @@ module _ (project : Project) (nodes : NodeData) (time S : ℕ) (some : 0 < S) (k
 
 -- ---- reservoirs
 
-reservoirs-below : (network : Project) (S time : ℕ) (known : List Interval) (rs : List Reservoir) (ps qs : List ℤ)
-    → AllZip (HasHeadWithin network time) known rs → ((m : ℕ) → excess S ps qs m ≤ℤ pos 0) → (m : ℕ)
-    → excess S (map (λ r. at_scale S (reservoir_head network time r)) rs ++ ps) (map (end_on Upper) known ++ qs) m
-    ≤ℤ pos 0
-reservoirs-below network S time [] [] ps qs all rest m = rest m
-reservoirs-below network S time [] (r ∷ rs) ps qs all rest m = absurd all
-reservoirs-below network S time (x ∷ known) [] ps qs all rest m = absurd all
-reservoirs-below network S time (x ∷ known) (r ∷ rs) ps qs all rest zero =
-    let l = times_rises S (reservoir_head network time r) x.hi all.0.high in omega (arith, ints, l)
-reservoirs-below network S time (x ∷ known) (r ∷ rs) ps qs all rest (suc m) =
-    reservoirs-below network S time known rs ps qs all.1 rest m
+pub reservoirs-below : (network : Project) (S time : ℕ) (known : List Interval) (rs : List Reservoir) (ps qs : List ℤ)
+    (t : ℤ) → pos 0 ≤ℤ t → AllZip (HasHeadWithin network time) known rs → ((m : ℕ) → excess S ps qs m ≤ℤ t) → (m : ℕ)
+    → excess S (map (λ r. at_scale S (reservoir_head network time r)) rs ++ ps) (map (end_on Upper) known ++ qs) m ≤ℤ t
+reservoirs-below network S time [] [] ps qs t room all rest m = rest m
+reservoirs-below network S time [] (r ∷ rs) ps qs t room all rest m = absurd all
+reservoirs-below network S time (x ∷ known) [] ps qs t room all rest m = absurd all
+reservoirs-below network S time (x ∷ known) (r ∷ rs) ps qs t room all rest zero =
+    let l = times_rises S (reservoir_head network time r) x.hi all.0.high in omega (arith, ints, l, room)
+reservoirs-below network S time (x ∷ known) (r ∷ rs) ps qs t room all rest (suc m) =
+    reservoirs-below network S time known rs ps qs t room all.1 rest m
 
-reservoirs-above : (network : Project) (S time : ℕ) (known : List Interval) (rs : List Reservoir) (ps qs : List ℤ)
-    → AllZip (HasHeadWithin network time) known rs → ((m : ℕ) → lack S ps qs m ≤ℤ pos 0) → (m : ℕ)
-    → lack S (map (λ r. at_scale S (reservoir_head network time r)) rs ++ ps) (map (end_on Lower) known ++ qs) m
-    ≤ℤ pos 0
-reservoirs-above network S time [] [] ps qs all rest m = rest m
-reservoirs-above network S time [] (r ∷ rs) ps qs all rest m = absurd all
-reservoirs-above network S time (x ∷ known) [] ps qs all rest m = absurd all
-reservoirs-above network S time (x ∷ known) (r ∷ rs) ps qs all rest zero =
-    let l = times_rises S x.lo (reservoir_head network time r) all.0.low in omega (arith, ints, l)
-reservoirs-above network S time (x ∷ known) (r ∷ rs) ps qs all rest (suc m) =
-    reservoirs-above network S time known rs ps qs all.1 rest m
+pub reservoirs-above : (network : Project) (S time : ℕ) (known : List Interval) (rs : List Reservoir) (ps qs : List ℤ)
+    (t : ℤ) → pos 0 ≤ℤ t → AllZip (HasHeadWithin network time) known rs → ((m : ℕ) → lack S ps qs m ≤ℤ t) → (m : ℕ)
+    → lack S (map (λ r. at_scale S (reservoir_head network time r)) rs ++ ps) (map (end_on Lower) known ++ qs) m ≤ℤ t
+reservoirs-above network S time [] [] ps qs t room all rest m = rest m
+reservoirs-above network S time [] (r ∷ rs) ps qs t room all rest m = absurd all
+reservoirs-above network S time (x ∷ known) [] ps qs t room all rest m = absurd all
+reservoirs-above network S time (x ∷ known) (r ∷ rs) ps qs t room all rest zero =
+    let l = times_rises S x.lo (reservoir_head network time r) all.0.low in omega (arith, ints, l, room)
+reservoirs-above network S time (x ∷ known) (r ∷ rs) ps qs t room all rest (suc m) =
+    reservoirs-above network S time known rs ps qs t room all.1 rest m
 
 -- ---- what passes leaves a net outflow that no balance allows
 
@@ -148,19 +147,16 @@ module _ (project : Project) (spread : Spread) (S time : ℕ) (intervals : List 
   abbrev network : Project
   network = with_data project nodes
 
-  some : 0 < S
+  pub some : 0 < S
   some = let l = is.assigned.scale in omega (arith, l)
 
-  same-links : grid_links network tanks project.links.list links ≡ grid_links project tanks project.links.list links
+  pub same-links : grid_links network tanks project.links.list links ≡ grid_links project tanks project.links.list links
   same-links =
       links-alike project nodes tanks project.links.list links (count-within project spread time nodes is.within)
 
-  heads : List ℤ
-  heads = node_heads network S time levels assignment.heads
-
-  as-long : (side : Side) → IsOutermostGrid project spread side time intervals tanks links grid
-      → IsCertificate grid Main side u → length assignment.heads ≡ length u
-  as-long side outermost certificate =
+  pub as-long : (problem : Problem) (side : Side) → IsOutermostGrid project spread side time intervals tanks links grid
+      → IsCertificate grid problem side u → length assignment.heads ≡ length u
+  as-long problem side outermost certificate =
       let a = certificate.one_each in
       let b = zip-long (IsOutermostJunction project side) (known_junctions project spread time) grid.junctions
       outermost.junctions in
@@ -170,11 +166,11 @@ module _ (project : Project) (spread : Spread) (S time : ℕ) (intervals : List 
       omega (arith, a, b, c, d)
 
   -- no junction has an excess that is at least 0 and nowhere greater
-  no-excess : (i : ℕ) → IsOutermostGrid project spread Upper time intervals tanks links grid
-      → IsCertificate grid Main Upper u → i < length u → IsPeak S heads (all_heads grid Main Upper u) i
+  pub no-excess : (problem : Problem) (i : ℕ) → IsOutermostGrid project spread Upper time intervals tanks links grid
+      → IsCertificate grid problem Upper u → i < length u
+      → IsPeak S (node_heads network S time levels assignment.heads) (all_heads grid problem Upper u) i
       → (pos S *ℤ head_at u i) ≤ℤ head_at assignment.heads i → ⊥
-  unfolding heads
-  no-excess i outermost certificate lt peak above =
+  no-excess problem i outermost certificate lt peak above =
       let k = item-at (known_junctions project spread time) i
       (let a = certificate.one_each in
       let b = zip-long (IsOutermostJunction project Upper) (known_junctions project spread time) grid.junctions
@@ -185,23 +181,23 @@ module _ (project : Project) (spread : Spread) (S time : ℕ) (intervals : List 
       is.within.junctions i k.0 k.1 in
       let obeys = is.assigned.junctions_obey i y.beside y.is_beside in
       let sums = sum-upper network tanks S (node_heads network S time levels assignment.heads)
-      (all_heads grid Main Upper u) i some peak project.links.list links assignment.flows is.assigned.links_follow
+      (all_heads grid problem Upper u) i some peak project.links.list links assignment.flows is.assigned.links_follow
       (subst (λ (ls : List GridLink). SoundLinks ls) (sym same-links) (links-sound project tanks links is.made)) in
-      let turned = subst (λ (ls : List GridLink). (pos S *ℤ net low high (all_heads grid Main Upper u) i ls)
+      let turned = subst (λ (ls : List GridLink). (pos S *ℤ net low high (all_heads grid problem Upper u) i ls)
       ≤ℤ (net_outflow i project.links.list assignment.flows +ℤ pos (link_ends i ls * (S * 10))))
       (same-links ∙ sym outermost.links_are) sums in
       let leaves = outflow-below project nodes time S some k.0 y.beside y.holds assignment i obeys x.beside
       (head_at u i) x.holds above in
-      too_much S (link_ends i grid.links) (net low high (all_heads grid Main Upper u) i grid.links)
+      too_much S (link_ends i grid.links) (net low high (all_heads grid problem Upper u) i grid.links)
       (outflow_low x.beside (head_at u i)) (net_outflow i project.links.list assignment.flows)
       (flow_at assignment.demands i +ℤ flow_at assignment.emitters i) some turned leaves
       (let b = obeys.balance.low in omega (arith, ints, b)) (certificate.passes i x.beside x.is_beside)
 
-  no-lack : (i : ℕ) → IsOutermostGrid project spread Lower time intervals tanks links grid
-      → IsCertificate grid Main Lower u → i < length u → IsDip S heads (all_heads grid Main Lower u) i
+  pub no-lack : (problem : Problem) (i : ℕ) → IsOutermostGrid project spread Lower time intervals tanks links grid
+      → IsCertificate grid problem Lower u → i < length u
+      → IsDip S (node_heads network S time levels assignment.heads) (all_heads grid problem Lower u) i
       → head_at assignment.heads i ≤ℤ (pos S *ℤ head_at u i) → ⊥
-  unfolding heads
-  no-lack i outermost certificate lt dip below =
+  no-lack problem i outermost certificate lt dip below =
       let k = item-at (known_junctions project spread time) i
       (let a = certificate.one_each in
       let b = zip-long (IsOutermostJunction project Lower) (known_junctions project spread time) grid.junctions
@@ -212,14 +208,14 @@ module _ (project : Project) (spread : Spread) (S time : ℕ) (intervals : List 
       is.within.junctions i k.0 k.1 in
       let obeys = is.assigned.junctions_obey i y.beside y.is_beside in
       let sums = sum-lower network tanks S (node_heads network S time levels assignment.heads)
-      (all_heads grid Main Lower u) i some dip project.links.list links assignment.flows is.assigned.links_follow
+      (all_heads grid problem Lower u) i some dip project.links.list links assignment.flows is.assigned.links_follow
       (subst (λ (ls : List GridLink). SoundLinks ls) (sym same-links) (links-sound project tanks links is.made)) in
       let turned = subst (λ (ls : List GridLink). net_outflow i project.links.list assignment.flows
-      ≤ℤ ((pos S *ℤ net high low (all_heads grid Main Lower u) i ls) +ℤ pos (link_ends i ls * (S * 10))))
+      ≤ℤ ((pos S *ℤ net high low (all_heads grid problem Lower u) i ls) +ℤ pos (link_ends i ls * (S * 10))))
       (same-links ∙ sym outermost.links_are) sums in
       let leaves = outflow-above project nodes time S some k.0 y.beside y.holds assignment i obeys x.beside
       (head_at u i) x.holds below in
-      too_little S (link_ends i grid.links) (net high low (all_heads grid Main Lower u) i grid.links)
+      too_little S (link_ends i grid.links) (net high low (all_heads grid problem Lower u) i grid.links)
       (outflow_high x.beside (head_at u i)) (net_outflow i project.links.list assignment.flows)
       (flow_at assignment.demands i +ℤ flow_at assignment.emitters i) some turned leaves
       (let b = obeys.balance.high in omega (arith, ints, b)) (certificate.passes i x.beside x.is_beside)
@@ -231,14 +227,16 @@ module _ (project : Project) (spread : Spread) (S time : ℕ) (intervals : List 
       ++ tank_heads S project.tanks.list levels) (fixed_heads grid Main Upper) m ≤ℤ pos 0
   fixed-below outermost m =
       rw (outermost.reservoirs, outermost.tank_heads) (reservoirs-below network S time (known_heads project spread time)
-      nodes.reservoirs.list _ _ is.within.reservoirs (tanks_below S 0 project.tanks.list intervals levels is.lie) m)
+      nodes.reservoirs.list _ _ (pos 0) (omega (arith, ints)) is.within.reservoirs
+      (tanks_below S 0 project.tanks.list intervals levels is.lie) m)
 
   fixed-above : IsOutermostGrid project spread Lower time intervals tanks links grid → (m : ℕ)
       → lack S (map (λ r. at_scale S (reservoir_head network time r)) nodes.reservoirs.list
       ++ tank_heads S project.tanks.list levels) (fixed_heads grid Main Lower) m ≤ℤ pos 0
   fixed-above outermost m =
       rw (outermost.reservoirs, outermost.tank_heads) (reservoirs-above network S time (known_heads project spread time)
-      nodes.reservoirs.list _ _ is.within.reservoirs (tanks_above S 0 project.tanks.list intervals levels is.lie) m)
+      nodes.reservoirs.list _ _ (pos 0) (omega (arith, ints)) is.within.reservoirs
+      (tanks_above S 0 project.tanks.list intervals levels is.lie) m)
 
   -- ---- all junctions
 
@@ -246,13 +244,12 @@ module _ (project : Project) (spread : Spread) (S time : ℕ) (intervals : List 
       → IsCertificate grid Main Upper u → j < length assignment.heads
       → (pos S *ℤ head_at u j) ≤ℤ head_at assignment.heads j
       → IsGreatestBelow (excess S assignment.heads u) (length assignment.heads) i → ⊥
-  unfolding heads
   none-above j i outermost certificate lt ge best =
-      let same = as-long Upper outermost certificate in
+      let same = as-long Main Upper outermost certificate in
       let top : excess S assignment.heads u j ≤ℤ excess S assignment.heads u i = best.each j lt in
       let t : pos 0 ≤ℤ excess S assignment.heads u i = omega (arith, ints, top, ge) in
       let front : i < length u = (let l = best.below in omega (arith, l, same)) in
-      no-excess i outermost certificate front
+      no-excess Main i outermost certificate front
       (λ m. rw (head_front assignment.heads _ i best.below, head_front u _ i front)
       (excess_after S assignment.heads u _ _ (excess S assignment.heads u i) same
       (λ n. let f = fixed-below outermost n in omega (arith, ints, f, t)) m (λ lt. best.each m lt)))
@@ -262,13 +259,12 @@ module _ (project : Project) (spread : Spread) (S time : ℕ) (intervals : List 
       → IsCertificate grid Main Lower u → j < length assignment.heads
       → head_at assignment.heads j ≤ℤ (pos S *ℤ head_at u j)
       → IsGreatestBelow (lack S assignment.heads u) (length assignment.heads) i → ⊥
-  unfolding heads
   none-below j i outermost certificate lt ge best =
-      let same = as-long Lower outermost certificate in
+      let same = as-long Main Lower outermost certificate in
       let top : lack S assignment.heads u j ≤ℤ lack S assignment.heads u i = best.each j lt in
       let t : pos 0 ≤ℤ lack S assignment.heads u i = omega (arith, ints, top, ge) in
       let front : i < length u = (let l = best.below in omega (arith, l, same)) in
-      no-lack i outermost certificate front
+      no-lack Main i outermost certificate front
       (λ m. rw (head_front assignment.heads _ i best.below, head_front u _ i front)
       (lack_after S assignment.heads u _ _ (lack S assignment.heads u i) same
       (λ n. let f = fixed-above outermost n in omega (arith, ints, f, t)) m (λ lt. best.each m lt)))
@@ -300,7 +296,7 @@ module _ (project : Project) (spread : Spread) (S time : ℕ) (intervals : List 
       → IsCertificate grid Main Upper u → (m : ℕ)
       → excess S (node_heads network S time levels assignment.heads) (all_heads grid Main Upper u) m ≤ℤ pos 0
   all-below outermost certificate m =
-      excess_after S assignment.heads u _ _ (pos 0) (as-long Upper outermost certificate) (fixed-below outermost) m
+      excess_after S assignment.heads u _ _ (pos 0) (as-long Main Upper outermost certificate) (fixed-below outermost) m
       (λ lt. let h = heads-below outermost certificate m _ (slice_get-get_or assignment.heads m (pos 0) lt) in
       omega (arith, ints, h))
 
@@ -308,6 +304,6 @@ module _ (project : Project) (spread : Spread) (S time : ℕ) (intervals : List 
       → IsCertificate grid Main Lower u → (m : ℕ)
       → lack S (node_heads network S time levels assignment.heads) (all_heads grid Main Lower u) m ≤ℤ pos 0
   all-above outermost certificate m =
-      lack_after S assignment.heads u _ _ (pos 0) (as-long Lower outermost certificate) (fixed-above outermost) m
+      lack_after S assignment.heads u _ _ (pos 0) (as-long Main Lower outermost certificate) (fixed-above outermost) m
       (λ lt. let h = heads-above outermost certificate m _ (slice_get-get_or assignment.heads m (pos 0) lt) in
       omega (arith, ints, h))

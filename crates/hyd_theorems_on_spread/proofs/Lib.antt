@@ -13,6 +13,7 @@ pub mod HistoriesWithin
 pub mod EndsTaken
 pub mod GreaterSpreads
 pub mod RulesAlike
+pub mod EndsAlike
 pub mod PeriodsAlike
 pub mod HistoriesAlone
 pub mod NoSpread

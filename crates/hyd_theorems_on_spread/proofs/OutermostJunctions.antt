@@ -72,7 +72,7 @@ reaches-inside outer inner own wide narrow among r s =
     (products outer (coefficient_of own.origin)).hi s.greatest r.greatest s.is_greatest r.is_greatest inside.high)
 
 -- an emitter where there is one, which reaches further
-pub CoversAll : Option Capacity → Option Capacity → Type 0
+unfoldable pub CoversAll : Option Capacity → Option Capacity → Type 0
 CoversAll None None = ⊤
 CoversAll None (Some b) = ⊥
 CoversAll (Some a) None = ⊥

@@ -1,7 +1,7 @@
 -- A period of a network whose data at its start are the file's is a period of the file's network.
 use Rattle.std.proofs.Common.{◌≡◌, ◌≢◌, ℕ, zero, suc, ◌+◌, ℤ, pos, ◌-ℤ◌, refl, sym, ap, subst, ◌∙◌}
 use Rattle.std.proofs.Common.{Bool, true, false, List, [], ◌∷◌, ◌++◌}
-use Rattle.std.specs.Prelude.{Option, slice_get, map, MatchBool, IsTrue}
+use Rattle.std.specs.Prelude.{Option, slice_get, map, MatchBool}
 use Rattle.std.specs.List.{AllZip}
 use Rattle.std.specs.Option.{option_map_or}
 use Rattle.hyd_spec.specs.ProgramTypes.{Project, Junction, Reservoir, Link, LinkState, Capacity}
@@ -15,17 +15,16 @@ use Rattle.hyd_num.specs.Rational.{is_at_most}
 use Rattle.hyd_spec.specs.Assignment.{Assignment, IsAssignment, JunctionObeys, LinksFollow, none, more, head_at}
 use Rattle.hyd_spec.specs.Assignment.{flow_at}
 use Rattle.hyd_spec.specs.Assignment.{node_heads, tank_heads}
-use Rattle.hyd_spec.specs.Tank.{tank_inflow, walls_of, content_bounds, exact_content, is_at_maximum, is_at_minimum}
-use Rattle.hyd_spec.specs.Tank.{has_reached}
 use Rattle.hyd_spec.specs.Rules.{elevation_of, rule_changes}
-use Rattle.hyd_spec.specs.PeriodLength.{Period, EndsByClock, step, duration, pattern, report, control_time}
-use Rattle.hyd_spec.specs.PeriodLength.{control_clock, EndsByLevel, full, empty, control, MayEnd, by_clock}
-use Rattle.hyd_spec.specs.PeriodLength.{by_level, by_rules, HasItsLength, at_end, before_end, stock_at_start, values_at}
+use Rattle.hyd_spec.specs.PeriodLength.{Period}
+use Rattle.hyd_spec.specs.PeriodLength.{MayEnd, by_clock}
+use Rattle.hyd_spec.specs.PeriodLength.{by_level, by_rules, HasItsLength, at_end, before_end, values_at}
 use Rattle.hyd_spec.specs.History.{IsPeriod, commanded_after}
 use Rattle.hyd_spec_spread.specs.NetworksWithin.{NodeData, with_data}
 use Rattle.hyd_theorems_on_spread.proofs.ZippedLists.{zip-long, beside-first}
 use Rattle.hyd_theorems_on_spread.proofs.LinksWithin.{NumbersAlike, law-alike}
-use Rattle.hyd_theorems_on_spread.proofs.RulesAlike.{values-alike, inflows-alike}
+use Rattle.hyd_theorems_on_spread.proofs.RulesAlike.{values-alike}
+use Rattle.hyd_theorems_on_spread.proofs.EndsAlike.{clock-alike, clock-back, level-alike, level-back}
 
 -- ---- data that are alike at a time
 
@@ -164,55 +163,6 @@ module _ (project : Project) (nodes : NodeData) (time : ℕ) (alike : AreAlike p
 
   -- ---- lengths
 
-  clock-alike : (start e : ℕ) → EndsByClock network start e → EndsByClock project start e
-  clock-alike start e (step later is) = step later is
-  clock-alike start e (duration later is) = duration later is
-  clock-alike start e (pattern later is) = pattern later is
-  clock-alike start e (report later since is) = report later since is
-  clock-alike start e (control_time each there when later) = control_time each there when later
-  clock-alike start e (control_clock each at there when shows later) = control_clock each at there when shows later
-
-  clock-back : (start e : ℕ) → EndsByClock project start e → EndsByClock network start e
-  clock-back start e (step later is) = step later is
-  clock-back start e (duration later is) = duration later is
-  clock-back start e (pattern later is) = pattern later is
-  clock-back start e (report later since is) = report later since is
-  clock-back start e (control_time each there when later) = control_time each there when later
-  clock-back start e (control_clock each at there when shows later) = control_clock each at there when shows later
-
-  inflow : (k : ℕ) (flows : List ℤ) → tank_inflow network k flows ≡ tank_inflow project k flows
-  inflow k flows = inflows-alike project nodes alike.numbers elevations k flows
-
-  level-alike : (S : ℕ) (period : Period) (seconds : ℕ) → EndsByLevel network S period seconds
-      → EndsByLevel project S period seconds
-  level-alike S period seconds (full k tank at state reached) = full k tank at state
-      (subst (λ (q : ℤ). IsTrue (is_at_maximum S (content_bounds (walls_of project tank) tank)
-      (exact_content (walls_of project tank) (stock_at_start period k) q seconds))) (inflow k period.assignment.flows)
-      reached)
-  level-alike S period seconds (empty k tank at state reached) = empty k tank at state
-      (subst (λ (q : ℤ). IsTrue (is_at_minimum S (content_bounds (walls_of project tank) tank)
-      (exact_content (walls_of project tank) (stock_at_start period k) q seconds))) (inflow k period.assignment.flows)
-      reached)
-  level-alike S period seconds (control each k above ticks tank there when at before reached) =
-      control each k above ticks tank there when at before
-      (subst (λ (q : ℤ). IsTrue (has_reached S (walls_of project tank) tank (stock_at_start period k) q above ticks
-      seconds)) (inflow k period.assignment.flows) reached)
-
-  level-back : (S : ℕ) (period : Period) (seconds : ℕ) → EndsByLevel project S period seconds
-      → EndsByLevel network S period seconds
-  level-back S period seconds (full k tank at state reached) = full k tank at state
-      (subst (λ (q : ℤ). IsTrue (is_at_maximum S (content_bounds (walls_of project tank) tank)
-      (exact_content (walls_of project tank) (stock_at_start period k) q seconds)))
-      (sym (inflow k period.assignment.flows)) reached)
-  level-back S period seconds (empty k tank at state reached) = empty k tank at state
-      (subst (λ (q : ℤ). IsTrue (is_at_minimum S (content_bounds (walls_of project tank) tank)
-      (exact_content (walls_of project tank) (stock_at_start period k) q seconds)))
-      (sym (inflow k period.assignment.flows)) reached)
-  level-back S period seconds (control each k above ticks tank there when at before reached) =
-      control each k above ticks tank there when at before
-      (subst (λ (q : ℤ). IsTrue (has_reached S (walls_of project tank) tank (stock_at_start period k) q above ticks
-      seconds)) (sym (inflow k period.assignment.flows)) reached)
-
   pub values : (S : ℕ) (period : Period) → period.time ≡ time → (instant : ℕ)
       → values_at network S period instant ≡ values_at project S period instant
   values S period here instant = values-alike project nodes alike.numbers elevations S period
@@ -222,9 +172,10 @@ module _ (project : Project) (nodes : NodeData) (time : ℕ) (alike : AreAlike p
 
   may-alike : (S : ℕ) (period : Period) → period.time ≡ time → (e : ℕ) → MayEnd network S period e
       → MayEnd project S period e
-  may-alike S period here e (by_clock ends) = by_clock (clock-alike period.time e ends)
+  may-alike S period here e (by_clock ends) =
+      by_clock (clock-alike project nodes alike.numbers elevations period.time e ends)
   may-alike S period here e (by_level seconds some is ends) =
-      by_level seconds some is (level-alike S period seconds ends)
+      by_level seconds some is (level-alike project nodes alike.numbers elevations S period seconds ends)
   may-alike S period here e (by_rules ends) = by_rules (record {
     later = ends.later;
     is_tried = ends.is_tried;
@@ -234,9 +185,10 @@ module _ (project : Project) (nodes : NodeData) (time : ℕ) (alike : AreAlike p
 
   may-back : (S : ℕ) (period : Period) → period.time ≡ time → (e : ℕ) → MayEnd project S period e
       → MayEnd network S period e
-  may-back S period here e (by_clock ends) = by_clock (clock-back period.time e ends)
+  may-back S period here e (by_clock ends) =
+      by_clock (clock-back project nodes alike.numbers elevations period.time e ends)
   may-back S period here e (by_level seconds some is ends) =
-      by_level seconds some is (level-back S period seconds ends)
+      by_level seconds some is (level-back project nodes alike.numbers elevations S period seconds ends)
   may-back S period here e (by_rules ends) = by_rules (record {
     later = ends.later;
     is_tried = ends.is_tried;

@@ -54,7 +54,7 @@ module _ (project : Project) (nodes : NodeData) (same : NumbersAlike project nod
   holds-alike S time readings (Setting link) relation value = λ i.
       compares relation (measured-alike S readings (Setting link) i) (amount-alike (Setting link) value i)
 
-  rules-alike : (S time : ℕ) (readings : Readings)
+  pub rules-alike : (S time : ℕ) (readings : Readings)
       → rule_values network S time readings ≡ rule_values project S time readings
   rules-alike S time readings = λ i. map (λ (rule : Rule). list_all (list_any (λ (clause : Clause).
       holds-alike S time readings clause.what clause.relation clause.value i)) (groups_of rule)) project.rules.list

@@ -1,3 +1,3 @@
-mod MetMoments
+pub mod MetMoments
 mod LinesOfWitness
 mod Findings

@@ -9,4 +9,4 @@ returns-clause-carried c = carried_over_lies
 pub returns-clause-next : goal.returns-clause-next
 returns-clause-next c = λ S walls tank stocks inflow shortest length longest stock q next some vessel lies flow from to.
     next_end_lies S walls tank stocks inflow shortest length longest None stock q next some vessel lies flow from to
-    (none_come S walls inflow stock q length)
+    (none_come S walls tank inflow stock q length)

@@ -3,6 +3,7 @@ use Rattle.std.proofs.Common.{◌∙◌, ap, map}
 use Rattle.std.specs.Prelude.{string_bytes}
 use Rattle.hyd_command_words.specs.CommandGrammar.{order_of}
 use Rattle.hyd_cli.proofs.TargetsWithoutMemory.{checks_nothing, fires_nothing, closes_nothing, meets_nothing}
+use Rattle.hyd_cli.proofs.TargetsWithoutMemory.{searches_nothing}
 use Rattle.hyd_cli.proofs.program.start.Goals as goal
 
 pub returns-in-Ok-clause-runs : goal.returns-in-Ok-clause-runs
@@ -33,6 +34,14 @@ returns-in-Err-clause-fires g c order asked = fires_nothing order _ _
 
 pub returns-in-Err-clause-closes : goal.returns-in-Err-clause-closes
 returns-in-Err-clause-closes g c order asked = closes_nothing order _ _
+
+pub returns-in-Ok-clause-witnesses : goal.returns-in-Ok-clause-witnesses
+returns-in-Ok-clause-witnesses g c order asked =
+    c.tool.ensures.witnesses order (ap order_of (ap (map string_bytes) c.deref.ensures.value
+    ∙ c.in-Ok.ensures.words) ∙ asked)
+
+pub returns-in-Err-clause-witnesses : goal.returns-in-Err-clause-witnesses
+returns-in-Err-clause-witnesses g c order asked = searches_nothing order _ _
 
 pub returns-in-Ok-clause-meets : goal.returns-in-Ok-clause-meets
 returns-in-Ok-clause-meets g c order asked =

@@ -1,18 +1,20 @@
 -- What a command does is what was asked for.
 use Rattle.std.proofs.Common.{◌≡◌, Option, Some, option_map, sym, ap, ◌∙◌, subst}
 use Rattle.hyd_command_words.specs.CommandGrammar.{Order, RunOrder, GenOrder, TwoFiles, run, check, gen}
-use Rattle.hyd_command_words.specs.CommandGrammar.{FireOrder, ClosuresOrder, MeetOrder, fire, closures, meet}
+use Rattle.hyd_command_words.specs.CommandGrammar.{FireOrder, ClosuresOrder, fire, closures}
+use Rattle.hyd_command_words.specs.CommandGrammar.{WitnessOrder, MeetOrder, witness, meet}
 use Rattle.hyd_command_words.specs.CommandView.{order_seen, run_seen, gen_seen, files_seen, fire_seen, closures_seen}
-use Rattle.hyd_command_words.specs.CommandView.{meet_seen}
+use Rattle.hyd_command_words.specs.CommandView.{witness_seen, meet_seen}
 use Rattle.hyd_command_words.specs.declared.command.Command.{Command}
-use Rattle.hyd_command_words.specs.declared.command.Command.TheVariants.{Run, Check, Gen, Fire, Closures, Meet}
+use Rattle.hyd_command_words.specs.declared.command.Command.TheVariants.{Run, Check, Gen, Fire, Closures, Witness, Meet}
 use Rattle.hyd_command_answers.specs.DeskContents.{seen}
 use Rattle.hyd_cli.specs.Answers.{Leaves}
 use Rattle.hyd_cli.specs.Commands.{DoesRun, DoesCheck, DoesGen}
 use Rattle.hyd_target_commands.specs.CommandsOnTargets.{DoesFire, DoesClosures}
 use Rattle.hyd_witness_commands.specs.CommandMeet.{DoesMeet}
+use Rattle.hyd_written_witnesses.specs.CommandWitness.{DoesWitness}
 use Rattle.hyd_cli.proofs.CommandsOfWords.{same_run, same_check, same_gen_order, same_fire, same_closures}
-use Rattle.hyd_cli.proofs.CommandsOfWords.{same_meet}
+use Rattle.hyd_cli.proofs.CommandsOfWords.{same_witness, same_meet}
 use Rattle.hyd_cli.proofs.whole_command.carry_out.Goals as goal
 
 pub returns-in-Some-Run-clause-leaves : goal.returns-in-Some-Run-clause-leaves
@@ -146,6 +148,34 @@ returns-in-Some-Closures-clause-closes g c order asked =
       closes = c.close_pipes.ensures.closes;
       only_prints = c.close_pipes.ensures.only_prints;
       once = c.close_pipes.ensures.once;
+    })
+
+pub returns-in-Some-Witness-clause-leaves : goal.returns-in-Some-Witness-clause-leaves
+returns-in-Some-Witness-clause-leaves g c =
+    let words = c.in-Some-Witness.words in
+    let kind : c.in-Some-Witness.field-0 ≡ Witness words = rw c.in-Some-Witness.is at c.in-Some-Witness.field-0-is in
+    let found : c.args.found ≡ Some (Witness words) = c.in-Some-Witness.is ∙ ap Some kind in
+    let before = seen g.D.Desk.files g.D.Desk.written g.D.Desk.printed c.args.desk.now in
+    let now = seen g.D.Desk.files g.D.Desk.written g.D.Desk.printed c.write_witness.new.desk in
+    let known : option_map order_seen c.args.found ≡ Some (witness (witness_seen words)) =
+    ap (λ (f : Option Command). option_map order_seen f) found in
+    subst (λ (o : Option Order). Leaves o c.write_witness.result before now) (sym known) c.write_witness.ensures.leaves
+
+pub returns-in-Some-Witness-clause-witnesses : goal.returns-in-Some-Witness-clause-witnesses
+returns-in-Some-Witness-clause-witnesses g c order asked =
+    let words = c.in-Some-Witness.words in
+    let kind : c.in-Some-Witness.field-0 ≡ Witness words = rw c.in-Some-Witness.is at c.in-Some-Witness.field-0-is in
+    let found : c.args.found ≡ Some (Witness words) = c.in-Some-Witness.is ∙ ap Some kind in
+    let before = seen g.D.Desk.files g.D.Desk.written g.D.Desk.printed c.args.desk.now in
+    let now = seen g.D.Desk.files g.D.Desk.written g.D.Desk.printed c.write_witness.new.desk in
+    subst (λ (o : WitnessOrder). DoesWitness o c.write_witness.result before now (g.D.Desk.openings c.args.desk.now)
+    (g.D.Desk.openings c.write_witness.new.desk)) (sym (same_witness words c.args.found order found asked)) (record {
+      refused = c.write_witness.ensures.refused;
+      searches = c.write_witness.ensures.searches;
+      not_refused = c.write_witness.ensures.not_refused;
+      holds = c.write_witness.ensures.holds;
+      others = c.write_witness.ensures.others;
+      opens_in_turn = c.write_witness.ensures.opens_in_turn;
     })
 
 pub returns-in-Some-Meet-clause-leaves : goal.returns-in-Some-Meet-clause-leaves

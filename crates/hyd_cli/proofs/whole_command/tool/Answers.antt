@@ -21,5 +21,9 @@ returns-in-Ok-clause-fires g c order asked = c.carry_out.ensures.fires order (c.
 pub returns-in-Ok-clause-closes : goal.returns-in-Ok-clause-closes
 returns-in-Ok-clause-closes g c order asked = c.carry_out.ensures.closes order (c.in-Ok.ensures.command ∙ asked)
 
+pub returns-in-Ok-clause-witnesses : goal.returns-in-Ok-clause-witnesses
+returns-in-Ok-clause-witnesses g c order asked =
+    c.carry_out.ensures.witnesses order (c.in-Ok.ensures.command ∙ asked)
+
 pub returns-in-Ok-clause-meets : goal.returns-in-Ok-clause-meets
 returns-in-Ok-clause-meets g c order asked = c.carry_out.ensures.meets order (c.in-Ok.ensures.command ∙ asked)

@@ -1,0 +1,9 @@
+pub mod OpenLineLemmas
+pub mod WrongLines
+pub mod HeadsOfRecord
+pub mod OpenRests
+pub mod OpenReaderLemmas
+pub mod OneOpenReading
+pub mod WholeOpenTexts
+pub mod OneFirstFault
+pub mod WritingLemmas

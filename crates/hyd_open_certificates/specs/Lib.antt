@@ -1,0 +1,5 @@
+pub mod OpenLines
+pub mod OpenPeriodOrEndLine
+pub mod OpenRowView
+pub mod OpenTexts
+pub mod OpenFaults

@@ -1,0 +1,2 @@
+pub mod RefusedOpenRecords
+pub mod RefusalsOfOpenChecks

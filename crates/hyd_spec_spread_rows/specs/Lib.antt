@@ -1,0 +1,2 @@
+pub mod RowsOfSpreads
+pub mod TextsOfSpreads

@@ -1,0 +1,3 @@
+pub mod OutermostPairs
+pub mod RunsForSpreads
+pub mod AgreementWithin

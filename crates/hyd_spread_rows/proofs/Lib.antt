@@ -1,0 +1,3 @@
+mod SaidLemmas
+mod ReadLemmas
+mod ResolvedLemmas

@@ -1,0 +1,4 @@
+pub mod OneOpenRefusal
+pub mod RefusedOrValid
+pub mod OpenTexts
+pub mod RecordsOfRuns

@@ -1,0 +1,3 @@
+mod PickedRows
+mod RightNumbers
+mod SpreadsOfTexts

@@ -1,0 +1,12 @@
+mod InflowsWithin
+mod OutflowsWithin
+mod BoundedReadings
+mod BoundedLevels
+mod BoundedLengths
+mod SpannedPairs
+mod BoundedByRecords
+mod StartsWithin
+mod HistoriesAlongRuns
+mod SameBoxes
+mod RunsAlone
+mod CertificatesInside

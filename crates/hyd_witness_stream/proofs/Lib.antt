@@ -1,0 +1,5 @@
+pub mod PenLemmas
+pub mod FreshMoments
+pub mod FoundLemmas
+pub mod CertificatesReadWhole
+pub mod WitnessLemmas

@@ -1,0 +1,5 @@
+pub mod Benches
+pub mod RefusedCertificates
+pub mod WitnessPen
+pub mod SearchSoFar
+pub mod SearchEnds

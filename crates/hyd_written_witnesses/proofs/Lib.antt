@@ -1,0 +1,5 @@
+mod StatusesOfWitness
+mod PassLemmas
+mod PassesInTurn
+mod AnswersOfSearch
+mod CommandLemmas

@@ -1,0 +1,34 @@
+-- The line that was put in at a new pen.
+use Rattle.hyd_target_commands.proofs.TextsPrinted.{whole-of-flush, front-of-flush, cause-of-flush, steady-by-flush}
+use Rattle.hyd_target_commands.proofs.TextsPrinted.{openings-by-flush, front-of-put, cause-of-put}
+use Rattle.hyd_written_witnesses.proofs.answer.print_halt.Goals as goal
+
+-- ---- the put failed
+
+pub returns-in-Err-clause-front : goal.returns-in-Err-clause-front
+returns-in-Err-clause-front g c = front-of-put _ _ _ _ _ c.new-pen.ensures c.in-Err.fault c.in-Err.ensures
+
+pub returns-in-Err-clause-cause : goal.returns-in-Err-clause-cause
+returns-in-Err-clause-cause g c = cause-of-put _ _ _ _ _ c.new-pen.ensures c.in-Err.fault c.in-Err.ensures
+
+-- ---- the pen was flushed
+
+pub returns-clause-whole : goal.returns-clause-whole
+returns-clause-whole g c =
+    whole-of-flush _ _ _ _ _ c.new-pen.ensures _ _ c.flush.result c.in-Ok.ensures c.flush.ensures
+
+pub returns-clause-front : goal.returns-clause-front
+returns-clause-front g c =
+    front-of-flush _ _ _ _ _ c.new-pen.ensures _ _ c.flush.result c.in-Ok.ensures c.flush.ensures
+
+pub returns-clause-cause : goal.returns-clause-cause
+returns-clause-cause g c =
+    cause-of-flush _ _ _ _ _ c.new-pen.ensures _ _ c.flush.result c.in-Ok.ensures c.flush.ensures
+
+pub returns-clause-steady : goal.returns-clause-steady
+returns-clause-steady g c =
+    steady-by-flush _ _ _ _ _ c.new-pen.ensures _ _ c.flush.result c.in-Ok.ensures c.flush.ensures
+
+pub returns-clause-openings_stay : goal.returns-clause-openings_stay
+returns-clause-openings_stay g c =
+    openings-by-flush _ _ _ _ _ c.new-pen.ensures _ _ c.flush.result c.in-Ok.ensures c.flush.ensures

@@ -1,0 +1,14 @@
+-- The parts are the line.
+use Rattle.std.proofs.Common.{◌≡◌, ℕ, List, [], ◌∷◌, ◌++◌, codes, append_assoc, refl}
+use Rattle.std.specs.Fmt.{decimal}
+use Rattle.hyd_spec_certificates.specs.CertificateText.{line}
+use Rattle.hyd_io.proofs.PutLemmas.{puts_same}
+use Rattle.hyd_written_witnesses.proofs.lines.put_found.Goals as goal
+
+line_is : (number : List ℕ) → codes "WITNESS " ++ (number ++ codes "\n")
+    ≡ line (codes "WITNESS" ∷ (number ∷ []))
+line_is number = simp append_assoc refl
+
+pub returns : goal.returns
+returns g c = puts_same _ _ _ _ _ _ _ (line_is (decimal c.args.periods))
+    (rw c.from.ensures at c.put_numbered.ensures)

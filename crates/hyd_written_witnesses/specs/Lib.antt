@@ -1,0 +1,4 @@
+pub mod Statuses
+pub mod WrittenPasses
+pub mod WitnessAnswers
+pub mod CommandWitness
