@@ -1,0 +1,4 @@
+pub mod CarriedOverByFacts
+pub mod ReadingsOverLengths
+pub mod WhatRulesBring
+pub mod InstantsWalked

@@ -1,0 +1,2 @@
+pub mod OpenReadings
+pub mod Matters

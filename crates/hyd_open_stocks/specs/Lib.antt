@@ -1,0 +1,4 @@
+pub mod EndsOfContents
+pub mod VolumesOnCurve
+pub mod Goals
+pub mod LevelsInReach

@@ -1,0 +1,2 @@
+mod KeptSoFar
+mod StocksLeftByFacts
