@@ -28,7 +28,7 @@ from pathlib import Path
 
 import compare_runs
 from compare_runs import MOST_PERIODS, OTHER_SECONDS, SECONDS, build, give_up
-from differences import STAGE, losses, printed_by
+from differences import STAGE, keep, losses, printed_by
 
 CHANGES = 8
 
@@ -100,6 +100,16 @@ def certificate_of(cli, rng, program, text):
     return answer[2]
 
 
+def certificates_of(cli, fuzz, rng, program, most):
+    """A network with its certificate and changed ones behind it; none where it has none, or one of more periods than `most`."""
+    text = fuzz.Maker(rng, True, losses()).make()
+    cert = certificate_of(cli, rng, program, text)
+    if cert is None or cert.count(b'PERIOD') > most:
+        return text, None
+    other = certificate_of(cli, rng, program, fuzz.Maker(rng, True, losses()).make()) or cert
+    return text, [cert] + [changed(fuzz, rng, cert, other) for _ in range(CHANGES)]
+
+
 def compared(job):
     """The checks of a seed's network: for each its certificate and both answers. None where it is left out."""
     program, folder, seed = job
@@ -111,12 +121,9 @@ def compared(job):
     signal.signal(signal.SIGVTALRM, give_up)
     signal.setitimer(signal.ITIMER_VIRTUAL, OTHER_SECONDS)
     try:
-        text = fuzz.Maker(rng, True, losses()).make()
-        cert = certificate_of(cli, rng, program, text)
-        if cert is None or cert.count(b'PERIOD') > MOST_PERIODS:
+        text, certs = certificates_of(cli, fuzz, rng, program, MOST_PERIODS)
+        if certs is None:
             return seed, text, None
-        other = certificate_of(cli, rng, program, fuzz.Maker(rng, True, losses()).make()) or cert
-        certs = [cert] + [changed(fuzz, rng, cert, other) for _ in range(CHANGES)]
         return seed, text, [(one, wanted(cli, text, one), got(program, text, one)) for one in certs]
     except (TimeoutError, cli.TooManyPeriods):
         return seed, text, None
@@ -147,14 +154,6 @@ def tell(seed, text, cert, want, have):
     print(text.decode('latin-1') + cert.decode('latin-1'))
 
 
-def keep(folder, seed, number, text, cert, want, have):
-    """Keeps a network, a certificate and both reports as files."""
-    base = Path(folder) / ('%s.%d' % (seed.replace('/', '_'), number))
-    base.parent.mkdir(parents=True, exist_ok=True)
-    for ending, data in (('inp', text), ('cert', cert), ('want', want[1]), ('got', have[1])):
-        Path('%s.%s' % (base, ending)).write_bytes(data)
-
-
 def main():
     given = sys.argv[1:]
     if not given:
@@ -176,7 +175,7 @@ def main():
                     if want != have:
                         wrong.append((seed, text, cert, want, have))
                         if 'KEEP' in os.environ:
-                            keep(os.environ['KEEP'], seed, number, text, cert, want, have)
+                            keep(os.environ['KEEP'], seed, number, inp=text, cert=cert, want=want[1], got=have[1])
     for one in sorted(wrong, key=lambda one: len(one[1]) + len(one[2]))[:10]:
         tell(*one)
     print('%d networks, %d left out, %d checks, %d differ' % (count, left_out, checks, len(wrong)))

@@ -31,11 +31,10 @@ import sys
 import tempfile
 from pathlib import Path
 
-from compare_checks import certificate_of, changed
+from compare_checks import certificates_of
 from compare_runs import OTHER_SECONDS, SECONDS, build, give_up
-from differences import STAGE, losses, printed_by
+from differences import STAGE, keep, printed_by
 
-CHANGES = 8
 MOST_PERIODS = 60
 HALVES = 2
 # The versions of certificates that a search accepts.
@@ -124,13 +123,10 @@ def compared(job):
     signal.signal(signal.SIGVTALRM, give_up)
     signal.setitimer(signal.ITIMER_VIRTUAL, OTHER_SECONDS)
     try:
-        text = fuzz.Maker(rng, True, losses()).make()
-        cert = certificate_of(cli, rng, program, text)
-        if cert is None or cert.count(b'PERIOD') > MOST_PERIODS:
+        text, certs = certificates_of(cli, fuzz, rng, program, MOST_PERIODS)
+        if certs is None:
             return seed, text, None, None
-        other = certificate_of(cli, rng, program, fuzz.Maker(rng, True, losses()).make()) or cert
-        certs = [cert] + [changed(fuzz, rng, cert, other) for _ in range(CHANGES)]
-        found = cert.rstrip().endswith(b'FINISHED'), finds(cli, text, cert)
+        found = certs[0].rstrip().endswith(b'FINISHED'), finds(cli, text, certs[0])
         answers = [(one, sought(program, text, one)) for one in certs]
         return seed, text, found, [(one, have, wrong_of(cli, reach, text, one, have)) for one, have in answers]
     except (TimeoutError, cli.TooManyPeriods):
@@ -152,14 +148,6 @@ def tell(seed, text, cert, have, wrong):
     """Prints a search whose answer isn't right."""
     print('seed', seed, have[:2], wrong)
     print(text.decode('latin-1') + cert.decode('latin-1') + have[2].decode('latin-1'))
-
-
-def keep(folder, seed, number, text, cert, have):
-    """Keeps a network, a certificate and the answer as files."""
-    base = Path(folder) / ('%s.%d' % (seed.replace('/', '_'), number))
-    base.parent.mkdir(parents=True, exist_ok=True)
-    for ending, data in (('inp', text), ('cert', cert), ('got', have[1]), ('wit', have[2])):
-        Path('%s.%s' % (base, ending)).write_bytes(data)
 
 
 def main():
@@ -189,7 +177,7 @@ def main():
                     if wrong is not None or lost:
                         bad.append((seed, text, cert, have, wrong or 'the other program finds one'))
                     if 'KEEP' in os.environ and (wrong is not None or number == 0 and have[0] != 0):
-                        keep(os.environ['KEEP'], seed, number, text, cert, have)
+                        keep(os.environ['KEEP'], seed, number, inp=text, cert=cert, got=have[1], wit=have[2])
     for one in sorted(bad, key=lambda one: len(one[1]) + len(one[2]))[:10]:
         tell(*one)
     print('%d networks, %d left out, %d searches, %d not right' % (count, left_out, searches, len(bad)))

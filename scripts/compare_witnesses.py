@@ -27,7 +27,7 @@ import tempfile
 from pathlib import Path
 
 from compare_runs import OTHER_SECONDS, SECONDS, build, give_up
-from differences import STAGE, losses, printed_by
+from differences import STAGE, keep, losses, printed_by
 
 CHANGES = 16
 MOST_PERIODS = 60
@@ -288,14 +288,6 @@ def tell(seed, text, witness, want, have):
     print(text.decode('latin-1') + witness.decode('latin-1'))
 
 
-def keep(folder, seed, number, text, witness, want, have):
-    """Keeps a network, a witness and both answers as files."""
-    base = Path(folder) / ('%s.%d' % (seed.replace('/', '_'), number))
-    base.parent.mkdir(parents=True, exist_ok=True)
-    for ending, data in (('inp', text), ('wit', witness), ('want', want[1]), ('got', have[1])):
-        Path('%s.%s' % (base, ending)).write_bytes(data)
-
-
 def main():
     given = sys.argv[1:]
     if not given:
@@ -317,7 +309,7 @@ def main():
                     if want != have:
                         wrong.append((seed, text, witness, want, have))
                         if 'KEEP' in os.environ:
-                            keep(os.environ['KEEP'], seed, number, text, witness, want, have)
+                            keep(os.environ['KEEP'], seed, number, inp=text, wit=witness, want=want[1], got=have[1])
     for one in sorted(wrong, key=lambda one: len(one[1]) + len(one[2]))[:10]:
         tell(*one)
     print('%d networks, %d left out, %d trials, %d differ' % (count, left_out, trials, len(wrong)))

@@ -1,6 +1,7 @@
 """What two programs answer differently, and what this repository's answered."""
 import collections
 import os
+from pathlib import Path
 
 # The stage of the independent program that has all that this repository's has.
 STAGE = 'h'
@@ -30,3 +31,11 @@ def tell(texts, want, got):
     causes = collections.Counter(answer.split(' ', 1)[-1] for answer in want)
     print('%d texts, %d differ; cause and detail:' % (count, len(wrong)), dict(causes.most_common()))
     return 1 if wrong else 0
+
+
+def keep(folder, seed, number, **parts):
+    """Keeps what belongs to a trial as files, each by its ending."""
+    base = Path(folder) / ('%s.%d' % (seed.replace('/', '_'), number))
+    base.parent.mkdir(parents=True, exist_ok=True)
+    for ending, data in parts.items():
+        Path('%s.%s' % (base, ending)).write_bytes(data)
