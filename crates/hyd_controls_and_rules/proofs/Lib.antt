@@ -3,6 +3,7 @@ pub mod QuantitiesOfClauses
 pub mod OpenClausesOfRules
 pub mod FirstPassingPlace
 pub mod BestOffers
+pub mod NoRules
 pub mod FirstOpenControl
 pub mod TankHeadsUnread
 pub mod TruthsBetweenReadings

@@ -63,6 +63,9 @@ pub fn act(project: &Project, values: &[bool], links: &mut [LinkState], changes:
     ensures spare { changes.old.spare + length changes.old.list ≡ changes.new.spare + length changes.new.list }
     ensures most { length changes.new.list ≤ length changes.old.list + length links.old }
 {
+    if project.rules.len() == 0 {
+        return;
+    }
     rank_offers(project, values, &mut changes.best);
     carry_out(&changes.best, links, &mut changes.rows);
 }

@@ -4,11 +4,13 @@
 ghost use Rattle.std.specs.Prelude.{◌≡◌, ◌<◌, length};
 
 use crate::flows::middle_flow;
-use hyd_law::LinkLaw;
+use crate::logarithms::{logarithm, power_of_two};
+use crate::power_curves::{PowerCurve, power_flow, power_point};
+use hyd_law::{LinkLaw, Power};
 use hyd_num::{Capacity, Scaled, Span};
 use hyd_period_network::{Ends, Net};
 use std::alloc::{AllocError as OutOfMemory, Global};
-use std::num::{f64_from_bits_with_nan, nearest_i64_to_f64, nearest_u64_to_f64};
+use std::num::{nearest_i64_to_f64, nearest_u64_to_f64};
 
 /// A slope is taken from flows at so great a part of the difference on either side, which rounds off bends of laws.
 const REACH: i64 = 256;
@@ -19,6 +21,9 @@ const GREATEST_RECKONED_FLOW: f64 = 1e18;
 /// What a valve without loss coefficient passes for a head tick.
 const TICKS_OF_OPEN_VALVE: f64 = 8026.822656;
 
+/// Constants of losses by powers are of this power of the flow.
+const POWER_OF_FLOWS: f64 = 1852.0;
+
 /// What a link's flow is made of.
 #[derive(Clone, Copy, Drop)]
 enum Shape {
@@ -26,7 +31,9 @@ enum Shape {
     Root,
     /// A multiple of the head difference.
     Line,
-    /// Straight lines between knots or a loss by powers, for which the law is asked.
+    /// A loss by powers.
+    Power(PowerCurve),
+    /// Straight lines between knots, for which the law is asked.
     Asked,
 }
 
@@ -39,12 +46,6 @@ pub(crate) struct Curve {
     lift: f64,
     least: f64,
     most: f64,
-}
-
-// Two to a power.
-fn power_of_two(power: i32) -> f64 {
-    let biased = power.saturating_add(1023).clamp(1, 2046);
-    f64_from_bits_with_nan((biased as u64) << 52)
 }
 
 // A binary number.
@@ -64,6 +65,20 @@ fn free(shape: Shape, multiple: f64) -> Curve {
 
 fn root(capacity: &Capacity) -> Curve {
     free(Shape::Root, real(capacity.lo))
+}
+
+fn power(law: &Power) -> Curve {
+    let capacity = &law.cap;
+    let places = nearest_i64_to_f64(i64::from(capacity.low.exp));
+    let mantissa = logarithm(nearest_u64_to_f64(capacity.low.mant));
+    let curve = PowerCurve {
+        unit: (places + mantissa) / POWER_OF_FLOWS,
+        fittings: match capacity.minor {
+            Some(minor) => real(minor.lo),
+            None => 0.0,
+        },
+    };
+    free(Shape::Power(curve), 0.0)
 }
 
 fn line() -> Curve {
@@ -124,8 +139,8 @@ fn curve_of(law: &LinkLaw) -> Curve {
             .up_to(law.inner.cap)
             .one_way(law.forward),
         LinkLaw::LinearLimitOneWay(law) => line().up_to(law.inner.cap).one_way(law.forward),
-        LinkLaw::Power(_) => free(Shape::Asked, 0.0),
-        LinkLaw::PowerOneWay(_) => free(Shape::Asked, 0.0),
+        LinkLaw::Power(law) => power(law),
+        LinkLaw::PowerOneWay(law) => power(&law.inner).one_way(law.forward),
         LinkLaw::Bent(_) => free(Shape::Asked, 0.0),
     }
 }
@@ -157,6 +172,7 @@ pub(crate) fn flow(net: &Net, link: u32, curve: &Curve, difference: i64) -> f64
     let flow = match curve.shape {
         Shape::Root => root_at(curve.multiple, lifted),
         Shape::Line => curve.multiple * lifted,
+        Shape::Power(power) => power_flow(&power, lifted),
         Shape::Asked => return nearest_i64_to_f64(middle_flow(net, link, difference)),
     };
     held(curve.least, curve.most, flow)
@@ -179,6 +195,22 @@ pub(crate) fn point_at(net: &Net, link: u32, curve: &Curve, difference: i64) -> 
     }
 }
 
+// The point of a curve where a flow passes that isn't held, and the slope there, where the flow tells them.
+fn passed(curve: &Curve, flow: f64) -> Option<(Point, f64)> {
+    match curve.shape {
+        Shape::Root if curve.multiple > 0.0 => {
+            let difference = flow * flow.abs() / curve.multiple - curve.lift;
+            let slope = curve.multiple.sqrt().min(curve.multiple * 0.5 / flow.abs());
+            Some((Point { difference, flow }, slope))
+        }
+        Shape::Power(power) if flow.abs() >= 1.0 => {
+            let (difference, slope) = power_point(&power, flow);
+            Some((Point { difference, flow }, slope))
+        }
+        _ => None,
+    }
+}
+
 /// The point of a curve where a flow passes, and the slope there; where that doesn't tell the head difference, the one
 /// at a head difference.
 pub(crate) fn point_of_flow(
@@ -190,18 +222,10 @@ pub(crate) fn point_of_flow(
 ) -> (Point, f64)
     requires { link < length net.now.ends }
 {
-    let steepest = curve.multiple.sqrt();
-    if matches!(curve.shape, Shape::Root)
-        && curve.least < flow
-        && flow < curve.most
-        && steepest > 0.0
-    {
-        let lifted = flow * flow.abs() / curve.multiple;
-        let point = Point {
-            difference: lifted - curve.lift,
-            flow,
-        };
-        return (point, steepest.min(curve.multiple * 0.5 / flow.abs()));
+    if curve.least < flow && flow < curve.most {
+        if let Some(found) = passed(curve, flow) {
+            return found;
+        }
     }
     (
         point_at(net, link, curve, difference),
@@ -229,7 +253,12 @@ fn rounding(curve: &Curve, flow: f64) -> f64 {
     if curve.lift != 0.0 {
         return GREATEST_RECKONED_FLOW;
     }
-    flow.abs() * 1e-14 + 1e-6
+    let part = if matches!(curve.shape, Shape::Power(_)) {
+        1e-12
+    } else {
+        1e-14
+    };
+    flow.abs() * part + 1e-6
 }
 
 /// At most the flow in whole ticks that a law gives where its curve has a flow.

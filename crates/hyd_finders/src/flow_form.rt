@@ -93,6 +93,7 @@ impl FlowForm {
     pub(crate) fn put_misses(
         &self,
         net: &Net,
+        flat: &[Option<f64>],
         heads: &[i64],
         loads: &[f64],
         off: &[f64],
@@ -100,7 +101,7 @@ impl FlowForm {
     )
         ensures { length misses.new ≡ length misses.old }
     {
-        put_outflows(net, heads, loads, misses);
+        put_outflows(net, flat, heads, loads, misses);
         add_foreseen(net, &self.points, heads, off, misses);
     }
 

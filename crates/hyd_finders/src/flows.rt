@@ -119,26 +119,64 @@ pub(crate) fn difference(heads: &[i64], ends: Ends) -> i64 {
     number_at(heads, ends.from).saturating_sub(number_at(heads, ends.to))
 }
 
-// What leaves a junction at a head beside its links, near the middle of its bounds.
-fn near_outflow(net: &Net, junction: u32, head: i64) -> f64 {
+// What leaves a junction beside its links at every head, if that is one flow.
+fn flat_outflow(net: &Net, junction: u32) -> Option<f64> {
     if junction >= net.junctions() {
-        return 0.0;
+        return Some(0.0);
     }
-    if net.emitter_law(junction).is_none() {
-        if let OutLaw::Fixed(law) = net.demand_law(junction) {
-            return nearest_i64_to_f64(law.demand);
+    match (net.demand_law(junction), net.emitter_law(junction)) {
+        (OutLaw::Fixed(law), None) => Some(nearest_i64_to_f64(law.demand)),
+        _ => None,
+    }
+}
+
+/// Puts what leaves each junction beside its links where that is the same at every head. Laws lie far apart, and these
+/// numbers side by side.
+pub(crate) fn put_flat(net: &Net, flat: &mut [Option<f64>])
+    ensures { length flat.new ≡ length flat.old }
+{
+    for junction in 0..net.junctions() {
+        if let Some(entry) = flat.get_mut(junction as usize) {
+            *entry = flat_outflow(net, junction);
         }
     }
-    nearest_i64_to_f64(middle_outflow(net, junction, head))
+}
+
+/// The flow that leaves a junction beside its links at every head.
+pub(crate) fn flat_at(flat: &[Option<f64>], junction: u32) -> Option<f64> {
+    flat.get(junction as usize).copied().flatten()
+}
+
+/// The total of these flows.
+pub(crate) fn total_of(flat: &[Option<f64>]) -> f64 {
+    let mut total = 0.0;
+    for flow in flat {
+        total += flow.unwrap_or(0.0);
+    }
+    total
+}
+
+// What leaves a junction at a head beside its links, near the middle of its bounds.
+fn near_outflow(net: &Net, flat: &[Option<f64>], junction: u32, head: i64) -> f64 {
+    match flat_at(flat, junction) {
+        Some(flow) => flow,
+        None => nearest_i64_to_f64(middle_outflow(net, junction, head)),
+    }
 }
 
 /// Puts the load of each junction less what leaves it beside its links.
-pub(crate) fn put_outflows(net: &Net, heads: &[i64], loads: &[f64], misses: &mut [f64])
+pub(crate) fn put_outflows(
+    net: &Net,
+    flat: &[Option<f64>],
+    heads: &[i64],
+    loads: &[f64],
+    misses: &mut [f64],
+)
     ensures { length misses.new ≡ length misses.old }
 {
     for junction in 0..net.junctions() {
         if let Some(miss) = misses.get_mut(junction as usize) {
-            let leaves = near_outflow(net, junction, number_at(heads, junction));
+            let leaves = near_outflow(net, flat, junction, number_at(heads, junction));
             *miss = real_at(loads, junction) - leaves;
         }
     }
@@ -162,12 +200,13 @@ fn add_flows(net: &Net, curves: &[Curve], heads: &[i64], misses: &mut [f64])
 pub(crate) fn put_misses(
     net: &Net,
     curves: &[Curve],
+    flat: &[Option<f64>],
     heads: &[i64],
     loads: &[f64],
     misses: &mut [f64],
 )
     ensures { length misses.new ≡ length misses.old }
 {
-    put_outflows(net, heads, loads, misses);
+    put_outflows(net, flat, heads, loads, misses);
     add_flows(net, curves, heads, misses);
 }

@@ -6,8 +6,10 @@ ghost use Rattle.hyd_period_network.specs.SoundNets.{HasProblem};
 
 use crate::convergence::Progress;
 use crate::descent_to_tight_vector::Descent;
+use crate::earlier_middles::EarlierMiddles;
 use crate::finder::Finder;
 use crate::flow_form::FlowForm;
+use crate::flows::total_of;
 use crate::jacobian::Tangent;
 use crate::line_search::Course;
 use crate::mending::Mender;
@@ -75,6 +77,8 @@ pub struct Gradient {
     mender: Mender,
     /// Heads of the junctions that are tried as a certificate.
     proposal: Vec<i64>,
+    /// The middles of earlier periods.
+    earlier: EarlierMiddles,
     /// Whether there was a problem before.
     begun: bool,
 }
@@ -104,6 +108,7 @@ impl Gradient {
             weights: vec![in alloc; 0.0; junctions]?,
             mender: Mender::open(alloc, net)?,
             proposal: vec![in alloc; 0i64; junctions]?,
+            earlier: EarlierMiddles::open(alloc, net.junctions())?,
             begun: false,
         })
     }
@@ -127,6 +132,7 @@ impl Gradient {
         self.tangent.put(
             net,
             &self.course.curves,
+            &self.course.flat,
             &self.course.heads,
             &self.course.misses,
         );
@@ -154,13 +160,18 @@ impl Gradient {
     fn step_flows(&mut self, net: &Net) {
         self.form.put_misses(
             net,
+            &self.course.flat,
             &self.course.heads,
             &self.course.loads,
             self.tangent.slopes(),
             &mut self.course.misses,
         );
-        self.tangent
-            .solve_by_links(net, &self.course.heads, &self.course.misses);
+        self.tangent.solve_by_links(
+            net,
+            &self.course.flat,
+            &self.course.heads,
+            &self.course.misses,
+        );
         self.course.take(net, self.tangent.step());
         self.form.advance(
             net,
@@ -205,11 +216,23 @@ impl Gradient {
         true
     }
 
+    // Begins near the balance: where the last middle is far from it, at that of the earlier period whose demands were
+    // most alike.
+    fn begin_near(&mut self, net: &Net, total: f64) -> f64 {
+        self.begin(net);
+        let ratio = self.ratio(net);
+        if ratio > FAR && self.earlier.put_nearest(total, &mut self.middle) {
+            self.begin(net);
+            return self.ratio(net);
+        }
+        ratio
+    }
+
     // Finds heads near the balance without loads, and puts slopes and weights there.
     fn find_middle(&mut self, net: &Net) {
         clear(&mut self.course.loads);
-        self.begin(net);
-        let ratio = self.ratio(net);
+        let total = total_of(&self.course.flat);
+        let ratio = self.begin_near(net, total);
         let mut progress = Progress::from(ratio);
         if ratio > FAR {
             self.find_by_flows(net, &mut progress);
@@ -220,6 +243,7 @@ impl Gradient {
             self.begin(net);
         }
         put_weights(net, self.tangent.diagonal(), &mut self.weights);
+        self.earlier.keep(total, &self.middle);
     }
 
     // Moves the heads one step toward the balance of the loads. At the middle the slopes stand already.
@@ -303,6 +327,7 @@ impl Gradient {
         self.tangent.put(
             net,
             &self.course.curves,
+            &self.course.flat,
             &self.descent.heads,
             &self.course.misses,
         );

@@ -60,9 +60,16 @@ impl Tangent {
     }
 
     /// Puts the slopes at given heads of all nodes, where the junctions miss their balance by so much.
-    pub(crate) fn put(&mut self, net: &Net, curves: &[Curve], heads: &[i64], misses: &[f64]) {
+    pub(crate) fn put(
+        &mut self,
+        net: &Net,
+        curves: &[Curve],
+        flat: &[Option<f64>],
+        heads: &[i64],
+        misses: &[f64],
+    ) {
         put_slopes(net, curves, heads, &mut self.off);
-        put_diagonal(net, heads, misses, &self.off, &mut self.diagonal);
+        put_diagonal(net, flat, heads, misses, &self.off, &mut self.diagonal);
     }
 
     /// The slopes of links with the sign turned.
@@ -83,8 +90,14 @@ impl Tangent {
     }
 
     /// The same where the slopes of links stand already, and those of outflows are taken at given heads.
-    pub(crate) fn solve_by_links(&mut self, net: &Net, heads: &[i64], misses: &[f64]) {
-        put_diagonal(net, heads, misses, &self.off, &mut self.diagonal);
+    pub(crate) fn solve_by_links(
+        &mut self,
+        net: &Net,
+        flat: &[Option<f64>],
+        heads: &[i64],
+        misses: &[f64],
+    ) {
+        put_diagonal(net, flat, heads, misses, &self.off, &mut self.diagonal);
         self.solve(misses);
     }
 

@@ -7,6 +7,7 @@
 mod conjugate_gradients;
 mod convergence;
 mod descent_to_tight_vector;
+mod earlier_middles;
 mod finder;
 mod flow_curves;
 mod flow_form;
@@ -15,8 +16,10 @@ mod gradient;
 mod jacobian;
 mod junction_queue;
 mod line_search;
+mod logarithms;
 mod mending;
 mod number_lists;
+mod power_curves;
 mod raises;
 mod slopes;
 mod tightness_test;

@@ -5,7 +5,7 @@ ghost use Rattle.std.specs.Prelude.{◌≡◌, ◌<◌, length};
 ghost use Rattle.hyd_period_network.specs.SoundNets.{HasProblem};
 
 use crate::flow_curves::{Curve, no_flow, put_curves};
-use crate::flows::put_misses;
+use crate::flows::{put_flat, put_misses};
 use crate::mending::Mender;
 use crate::number_lists::{copy, product};
 use crate::raises::NoValue;
@@ -40,6 +40,8 @@ pub(crate) struct Course {
     slack: f64,
     /// The curves of the links.
     pub(crate) curves: Vec<Curve>,
+    /// What leaves junctions beside their links, where that is the same at every head.
+    pub(crate) flat: Vec<Option<f64>>,
 }
 
 // The nearest whole number.
@@ -86,6 +88,7 @@ impl Course {
             tried: 0.0,
             slack: 0.0,
             curves: vec![in alloc; no_flow(); net.links() as usize]?,
+            flat: vec![in alloc; None; junctions]?,
         })
     }
 
@@ -94,6 +97,7 @@ impl Course {
         requires { HasProblem net.now problem }
     {
         put_curves(net, &mut self.curves);
+        put_flat(net, &mut self.flat);
         put_fixed(net, problem, side, &mut self.heads);
     }
 
@@ -104,6 +108,7 @@ impl Course {
         put_misses(
             net,
             &self.curves,
+            &self.flat,
             &self.trial,
             &self.loads,
             &mut self.misses,
@@ -116,6 +121,7 @@ impl Course {
         put_misses(
             net,
             &self.curves,
+            &self.flat,
             &self.trial,
             &self.loads,
             &mut self.misses,
@@ -200,7 +206,7 @@ impl Course {
     ) -> Result<bool, NoValue>
         ensures { length proposal.new ≡ length proposal.old }
     {
-        mender.note_near(net, side, &self.curves, &self.heads);
+        mender.note_near(net, side, &self.curves, &self.flat, &self.heads);
         copy(&self.heads, &mut self.trial);
         let mended = mender.mend(net, side, &mut self.trial)?;
         if mended {

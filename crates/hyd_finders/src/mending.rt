@@ -4,7 +4,7 @@
 ghost use Rattle.std.specs.Prelude.{◌≡◌, length};
 
 use crate::flow_curves::{Curve, curve_at, flow, high_of, low_of};
-use crate::flows::{bound_outflow, difference};
+use crate::flows::{bound_outflow, difference, flat_at};
 use crate::junction_queue::JunctionQueue;
 use crate::number_lists::{add_real_at, number_at, real_at};
 use crate::raises::{NoValue, outward, passes, raise};
@@ -58,15 +58,24 @@ fn near_over(net: &Net, side: Side, junction: u32, load: f64, miss: f64) -> f64 
     outflow - nearest_i64_to_f64(net.margin(junction)) - 1.0
 }
 
+// What leaves a junction at a head beside its links, as it counts on a side: at least so much.
+fn outward_outflow(net: &Net, side: Side, flat: &[Option<f64>], junction: u32, head: i64) -> f64 {
+    match (flat_at(flat, junction), side) {
+        (Some(flow), Side::Upper) => flow,
+        (Some(flow), Side::Lower) => -flow,
+        (None, _) => nearest_i64_to_f64(outward(side, bound_outflow(net, side, junction, head))),
+    }
+}
+
 // Puts what each junction passes by beside its links: less than nothing, since a margin and 1 have to pass.
-fn put_own(net: &Net, side: Side, heads: &[i64], overs: &mut [f64])
+fn put_own(net: &Net, side: Side, flat: &[Option<f64>], heads: &[i64], overs: &mut [f64])
     ensures { length overs.new ≡ length overs.old }
 {
     for junction in 0..net.junctions() {
         if let Some(entry) = overs.get_mut(junction as usize) {
-            let outflow = bound_outflow(net, side, junction, number_at(heads, junction));
+            let outflow = outward_outflow(net, side, flat, junction, number_at(heads, junction));
             let needed = net.margin(junction).saturating_add(1);
-            *entry = nearest_i64_to_f64(outward(side, outflow).saturating_sub(needed));
+            *entry = outflow - nearest_i64_to_f64(needed);
         }
     }
 }
@@ -148,8 +157,15 @@ impl Mender {
     }
 
     /// Notes the junctions that may fall short at given heads of all nodes, by the curves of links.
-    pub(crate) fn note_near(&mut self, net: &Net, side: Side, curves: &[Curve], heads: &[i64]) {
-        put_own(net, side, heads, &mut self.overs);
+    pub(crate) fn note_near(
+        &mut self,
+        net: &Net,
+        side: Side,
+        curves: &[Curve],
+        flat: &[Option<f64>],
+        heads: &[i64],
+    ) {
+        put_own(net, side, flat, heads, &mut self.overs);
         add_bounds(net, side, curves, heads, &mut self.overs);
         self.note_by_bounds(net);
         self.left = self

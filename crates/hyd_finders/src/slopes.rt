@@ -4,7 +4,7 @@
 ghost use Rattle.std.specs.Prelude.{◌≡◌, ◌<◌, length};
 
 use crate::flow_curves::{Curve, curve_at, slope_at};
-use crate::flows::{difference, is_flat, low_outflow};
+use crate::flows::{difference, flat_at, low_outflow};
 use crate::number_lists::{add_real_at, number_at, real_at};
 use hyd_period_network::Net;
 use std::num::nearest_i64_to_f64;
@@ -29,8 +29,8 @@ fn slope(below: f64, above: f64, reach: i64) -> f64 {
 }
 
 // The slope of what leaves a junction beside its links.
-fn outflow_slope(net: &Net, junction: u32, head: i64) -> f64 {
-    if junction >= net.junctions() || is_flat(net, junction) {
+fn outflow_slope(net: &Net, flat: &[Option<f64>], junction: u32, head: i64) -> f64 {
+    if flat_at(flat, junction).is_some() || junction >= net.junctions() {
         return 0.0;
     }
     let reach = reach(head.saturating_sub(net.elevation(junction)));
@@ -62,13 +62,19 @@ pub(crate) fn put_slopes(net: &Net, curves: &[Curve], heads: &[i64], off: &mut [
 }
 
 // Puts the part of the diagonal that isn't of links.
-fn put_own_slopes(net: &Net, heads: &[i64], misses: &[f64], diagonal: &mut [f64])
+fn put_own_slopes(
+    net: &Net,
+    flat: &[Option<f64>],
+    heads: &[i64],
+    misses: &[f64],
+    diagonal: &mut [f64],
+)
     ensures { length diagonal.new ≡ length diagonal.old }
 {
     for junction in 0..net.junctions() {
         if let Some(entry) = diagonal.get_mut(junction as usize) {
             let hold = real_at(misses, junction).abs() * PART_OF_MISS;
-            let slope = outflow_slope(net, junction, number_at(heads, junction));
+            let slope = outflow_slope(net, flat, junction, number_at(heads, junction));
             *entry = hold + LEAST_SLOPE + slope;
         }
     }
@@ -89,6 +95,7 @@ fn add_slopes(net: &Net, off: &[f64], diagonal: &mut [f64])
 /// Puts the diagonal: the slopes of each junction's links and of what leaves it, and a hold on its step by its miss.
 pub(crate) fn put_diagonal(
     net: &Net,
+    flat: &[Option<f64>],
     heads: &[i64],
     misses: &[f64],
     off: &[f64],
@@ -96,6 +103,6 @@ pub(crate) fn put_diagonal(
 )
     ensures { length diagonal.new ≡ length diagonal.old }
 {
-    put_own_slopes(net, heads, misses, diagonal);
+    put_own_slopes(net, flat, heads, misses, diagonal);
     add_slopes(net, off, diagonal);
 }

@@ -2,7 +2,7 @@
 //! whether something was lost.
 #![tactic(auto)]
 
-ghost use Rattle.std.specs.Prelude.{◌≡◌, ℕ, ◌+◌, ◌*◌, ◌^◌, ◌<◌, ◌≤◌, unsigned_abs, pos, ◌+ℤ◌, ◌≤ℤ◌};
+ghost use Rattle.std.specs.Prelude.{◌≡◌, ℕ, ◌+◌, ◌*◌, ◌/◌, ◌%◌, ◌^◌, ◌<◌, ◌≤◌, unsigned_abs, pos, ◌+ℤ◌, ◌≤ℤ◌};
 ghost use Rattle.hyd_num.specs.BinaryNumbers.{numerator, denominator, reach, IsUp};
 ghost use Rattle.hyd_num.specs.CutsOfBinaryNumbers.{IsCut, IsNext, IsShortened};
 
@@ -100,12 +100,22 @@ pub fn quotient(a: Scaled, b: Scaled) -> Cut
     let exp = a.exp - b.exp;
     if a.mant >= b.mant {
         let dividend = u128::from(a.mant) * TWO_TO_62;
-        let mant = dividend / divisor;
-        return cut_at(mant as u64, exp - 62, dividend % divisor == 0);
+        let (mant, rest) = quotient_and_rest(dividend, divisor);
+        return cut_at(mant as u64, exp - 62, rest == 0);
     }
     let dividend = u128::from(a.mant) * TWO_TO_63;
-    let mant = dividend / divisor;
-    cut_at(mant as u64, exp - 63, dividend % divisor == 0)
+    let (mant, rest) = quotient_and_rest(dividend, divisor);
+    cut_at(mant as u64, exp - 63, rest == 0)
+}
+
+/// A quotient and what is left, by one division.
+pub(crate) fn quotient_and_rest(dividend: u128, divisor: u128) -> (u128, u128)
+    requires { 1 ≤ divisor }
+    ensures quotient { result.0 ≡ dividend / divisor }
+    ensures rest { result.1 ≡ dividend % divisor }
+{
+    let quotient = dividend / divisor;
+    (quotient, dividend - quotient * divisor)
 }
 
 /// The sum of two numbers, rounded down.

@@ -5,7 +5,7 @@ ghost use Rattle.std.specs.Prelude.{◌≡◌, ◌+◌, ◌*◌, ◌^◌, ◌<�
 ghost use Rattle.hyd_num.specs.BinaryNumbers.{reach};
 ghost use Rattle.hyd_num.specs.CutsOfBinaryNumbers.{IsCut};
 
-use crate::binary_arithmetic::{Cut, cut_at};
+use crate::binary_arithmetic::{Cut, cut_at, power_of_two, quotient_and_rest};
 
 const TWO_TO_62: u128 = 0x4000_0000_0000_0000;
 
@@ -53,7 +53,7 @@ fn doubled(p: u128, q: u128) -> Divisor
 {
     let mut value = q;
     let mut doublings = 0;
-    while p / value >= TWO_TO_63 {
+    while p / TWO_TO_63 >= value {
         value *= 2;
         doublings += 1;
     }
@@ -71,12 +71,12 @@ fn divided(p: u128, divisor: u128) -> Division
     ensures below { result.mant < 2 ^ 63 }
     ensures few { result.digits ≤ 163 }
 {
-    let mut mant = p / divisor;
-    let mut rest = p % divisor;
+    let (mut mant, mut rest) = quotient_and_rest(p, divisor);
     let mut digits = 0;
     while mant < TWO_TO_62 {
-        (mant, rest) = with_digit(mant, rest, divisor);
-        digits += 1;
+        let more = digits_at_once(mant, divisor);
+        (mant, rest) = with_digits(mant, rest, divisor, more);
+        digits += more;
     }
     Division {
         mant: mant as u64,
@@ -85,18 +85,44 @@ fn divided(p: u128, divisor: u128) -> Division
     }
 }
 
-// The quotient and the rest with one binary digit more.
-fn with_digit(mant: u128, rest: u128, divisor: u128) -> (u128, u128)
+// How many binary digits the quotient still lacks, but no more than can be had at once.
+fn digits_at_once(mant: u128, divisor: u128) -> u32
     requires below { mant < 2 ^ 62 }
-    requires small { rest < divisor }
+    requires positive { 1 ≤ divisor }
     requires fits { divisor < 2 ^ 101 }
-    ensures split { result.0 * divisor + result.1 ≡ 2 * (mant * divisor + rest) }
+    ensures some { 1 ≤ result }
+    ensures few { result ≤ 63 }
+    ensures below { (mant + 1) * 2 ^ result ≤ 2 ^ 63 }
+    ensures fits { divisor * 2 ^ result ≤ 2 ^ 128 }
+{
+    let room = 127 - divisor.ilog2();
+    room.min(lacking_digits(mant))
+}
+
+// How many binary digits a quotient lacks to 63, at most where it is 0.
+fn lacking_digits(mant: u128) -> u32
+    requires { mant < 2 ^ 62 }
+    ensures some { 1 ≤ result }
+    ensures few { result ≤ 63 }
+    ensures below { (mant + 1) * 2 ^ result ≤ 2 ^ 63 }
+{
+    if mant == 0 {
+        return 63;
+    }
+    62 - mant.ilog2()
+}
+
+// The quotient and the rest with so many binary digits more.
+fn with_digits(mant: u128, rest: u128, divisor: u128, more: u32) -> (u128, u128)
+    requires few { more ≤ 63 }
+    requires below { (mant + 1) * 2 ^ more ≤ 2 ^ 63 }
+    requires small { rest < divisor }
+    requires fits { divisor * 2 ^ more ≤ 2 ^ 128 }
+    ensures split { result.0 * divisor + result.1 ≡ 2 ^ more * (mant * divisor + rest) }
     ensures rest { result.1 < divisor }
     ensures short { result.0 < 2 ^ 63 }
 {
-    let twice = 2 * rest;
-    if twice >= divisor {
-        return (2 * mant + 1, twice - divisor);
-    }
-    (2 * mant, twice)
+    let unit = power_of_two(more);
+    let (behind, rest) = quotient_and_rest(rest * unit, divisor);
+    (mant * unit + behind, rest)
 }

@@ -10,6 +10,7 @@ mod binary_arithmetic;
 mod decimals;
 mod flow_units;
 mod fractions;
+mod guessed_roots;
 mod link_capacities;
 mod numerals;
 mod pair_arithmetic;

@@ -3,6 +3,7 @@
 ghost use Rattle.std.specs.Prelude.{◌≡◌, IfOk, vec_len};
 
 use crate::queue::Queue;
+use crate::stages::{DEEPEST, stages_of};
 use std::alloc::{AllocError as OutOfMemory, Global};
 
 /// A node that left the graph, and the neighbours that it had then. These are a clique: from then
@@ -91,6 +92,10 @@ struct Graph {
     outside: Vec<usize>,
     /// For each node that is left, a bound on the number of its neighbours.
     degrees: Vec<Option<usize>>,
+    /// For each node the stage in which it leaves, and the stage that stands.
+    stages: Vec<u32>,
+    stage: u32,
+    /// The nodes of the stages up to this one.
     queue: Queue,
 }
 
@@ -107,6 +112,8 @@ impl Graph {
             },
             outside: vec![in alloc; 0usize; size]?,
             degrees: vec![in alloc; None; size]?,
+            stages: Vec::new(alloc),
+            stage: 0,
             queue: Queue::new(alloc),
         })
     }
@@ -125,27 +132,62 @@ impl Graph {
         Ok(())
     }
 
+    fn stage_of(&self, node: u32) -> u32 {
+        self.stages.get(node as usize).copied().unwrap_or(0)
+    }
+
     fn set_degree(&mut self, node: u32, degree: usize) -> Result<(), OutOfMemory> {
+        let waits = self.stage_of(node) > self.stage;
         if let Some(entry) = self.degrees.get_mut(node as usize) {
             if *entry != Some(degree) {
                 *entry = Some(degree);
-                self.queue.push(node, degree)?;
+                if !waits {
+                    self.queue.push(node, degree)?;
+                }
             }
         }
         Ok(())
     }
 
-    /// Queues all nodes, so that of those with one degree the lowest comes first.
+    /// Leaves each neighbour once in the lists of links, in order.
+    fn sort_links(&mut self) {
+        for list in self.links.iter_mut() {
+            list.sort_unstable();
+            list.dedup();
+        }
+    }
+
+    /// Queues the nodes of the first stage, so that of those with one degree the lowest comes first.
     fn enqueue(&mut self, nodes: u32) -> Result<(), OutOfMemory> {
         for node in (0..nodes).rev() {
-            if let Some(list) = self.links.get_mut(node as usize) {
-                list.sort_unstable();
-                list.dedup();
-                let degree = list.len();
-                self.set_degree(node, degree)?;
+            let degree = list_of(&self.links, node).len();
+            self.set_degree(node, degree)?;
+        }
+        Ok(())
+    }
+
+    /// Goes on to the next stage, and queues its nodes.
+    fn begin_stage(&mut self, nodes: u32) -> Result<(), OutOfMemory> {
+        self.stage = self.stage.saturating_add(1);
+        for node in (0..nodes).rev() {
+            if self.stage_of(node) == self.stage {
+                if let Some(degree) = self.degrees.get(node as usize).copied().flatten() {
+                    self.queue.push(node, degree)?;
+                }
             }
         }
         Ok(())
+    }
+
+    /// A node of the least degree of the first stage that has nodes left.
+    fn next_by_stage(&mut self, nodes: u32) -> Result<Option<u32>, OutOfMemory> {
+        for _ in self.stage..DEEPEST {
+            if let Some(node) = self.next() {
+                return Ok(Some(node));
+            }
+            self.begin_stage(nodes)?;
+        }
+        Ok(self.next())
     }
 
     /// A node of the least degree, which is no longer left. Entries of the queue that are older
@@ -264,9 +306,11 @@ pub(crate) fn eliminate_nodes(
 ) -> Result<Vec<Eliminated>, OutOfMemory> {
     let mut graph = Graph::new(alloc, nodes)?;
     graph.join(links)?;
+    graph.sort_links();
+    graph.stages = stages_of(alloc, nodes, &graph.links)?;
     graph.enqueue(nodes)?;
     for newest in 0..nodes {
-        let Some(node) = graph.next() else {
+        let Some(node) = graph.next_by_stage(nodes)? else {
             break;
         };
         graph.eliminate(node, newest)?;

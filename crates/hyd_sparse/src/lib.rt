@@ -13,6 +13,7 @@ mod pattern_from_links;
 mod permutation;
 mod queue;
 mod solution;
+mod stages;
 mod tables;
 
 pub use factor::{Factor, UNIT};

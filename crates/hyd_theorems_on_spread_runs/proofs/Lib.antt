@@ -5,8 +5,8 @@ mod BoundedLevels
 mod BoundedLengths
 mod SpannedPairs
 mod BoundedByRecords
-mod StartsWithin
+pub mod StartsWithin
 mod HistoriesAlongRuns
-mod SameBoxes
-mod RunsAlone
-mod CertificatesInside
+pub mod SameBoxes
+pub mod RunsAlone
+pub mod CertificatesInside

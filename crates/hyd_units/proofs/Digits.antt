@@ -24,6 +24,17 @@ decimal_front n low high = rw (decimal_step_wide n low (omega arith))
 pub length-decimal_front : (n : ℕ) → 10 ≤ n → n < 2 ^ 128 → length (decimal n) ≡ length (decimal (n / 10)) + 1
 length-decimal_front n low high = ap length (decimal_step_wide n low (omega arith)) ∙ length-append _ _
 
+-- the same with the number's parts under names of their own
+pub last_digits_by : (places n t d : ℕ) → t ≡ n / 10 → d ≡ n % 10 → 0 < places
+    → last_digits (places - 1) t ++ (48 + d) ∷ [] ≡ last_digits places n
+last_digits_by places n t d e f some = rw (e, f) (last_digits_front places n some)
+
+pub decimal_by : (n t d : ℕ) → t ≡ n / 10 → d ≡ n % 10 → 10 ≤ n → n < 2 ^ 128 → decimal t ++ (48 + d) ∷ [] ≡ decimal n
+decimal_by n t d e f low high = rw (e, f) (decimal_front n low high)
+
+pub length-decimal_by : (n t : ℕ) → t ≡ n / 10 → 10 ≤ n → n < 2 ^ 128 → length (decimal n) ≡ length (decimal t) + 1
+length-decimal_by n t e low high = rw e (length-decimal_front n low high)
+
 -- four places: the whole part, a point, and they
 pub length-four_places : (n : ℕ) → length (fixed_point 4 n) ≡ length (decimal (n / 10000)) + 5
 unfolding fixed_point

@@ -1,6 +1,6 @@
 //! The decimal text of a number of ten-thousandths, in a buffer of the caller's.
 ghost use Rattle.std.specs.Fmt.{decimal, sign_text};
-ghost use Rattle.std.specs.Prelude.{◌+◌, ◌<◌, ◌≤◌, ◌∷◌, [], length};
+ghost use Rattle.std.specs.Prelude.{◌≡◌, ◌/◌, ◌%◌, ◌+◌, ◌<◌, ◌≤◌, ◌∷◌, [], length};
 ghost use Rattle.hyd_num.specs.PrintedDecimals.{decimal_text, fixed_point, last_digits};
 ghost use Rattle.hyd_units.specs.TextInBuffer.{Writes};
 
@@ -17,6 +17,29 @@ fn write_byte(byte: u8, out: &mut [u8], at: usize) -> usize
     at + 1
 }
 
+const TWO_TO_64: u128 = 1 << 64;
+
+// A number without its last digit. Within 64 bits that takes a fifth of the time.
+#[inline]
+fn without_last_digit(n: u128) -> u128
+    ensures { result ≡ n / 10 }
+{
+    if n < TWO_TO_64 {
+        return u128::from(n as u64 / 10);
+    }
+    n / 10
+}
+
+#[inline]
+fn last_digit(n: u128) -> u8
+    ensures { result ≡ n % 10 }
+{
+    if n < TWO_TO_64 {
+        return (n as u64 % 10) as u8;
+    }
+    (n % 10) as u8
+}
+
 fn write_whole(n: u128, out: &mut [u8], at: usize) -> usize
     requires { at + length (decimal n) ≤ length out.old }
     ensures { Writes out.old out.new at result (decimal n) }
@@ -24,8 +47,8 @@ fn write_whole(n: u128, out: &mut [u8], at: usize) -> usize
     if n < 10 {
         return write_byte(b'0' + n as u8, out, at);
     }
-    let ones = write_whole(n / 10, out, at);
-    write_byte(b'0' + (n % 10) as u8, out, ones)
+    let ones = write_whole(without_last_digit(n), out, at);
+    write_byte(b'0' + last_digit(n), out, ones)
 }
 
 fn write_last_digits(places: usize, n: u128, out: &mut [u8], at: usize) -> usize
@@ -35,8 +58,8 @@ fn write_last_digits(places: usize, n: u128, out: &mut [u8], at: usize) -> usize
     if places == 0 {
         return at;
     }
-    let ones = write_last_digits(places - 1, n / 10, out, at);
-    write_byte(b'0' + (n % 10) as u8, out, ones)
+    let ones = write_last_digits(places - 1, without_last_digit(n), out, at);
+    write_byte(b'0' + last_digit(n), out, ones)
 }
 
 fn write_sign(negative: bool, out: &mut [u8], at: usize) -> usize

@@ -1,11 +1,21 @@
 use Rattle.std.proofs.Common.{◌≡◌, ◌++◌, List, Option, length, sym, subst, ap, ◌∙◌, arith}
+use Rattle.std.proofs.lemmas.List.{nil_from_length}
 use Rattle.hyd_net.specs.ListView.{ListView}
 use Rattle.hyd_spec.specs.declared.Change.{Change}
 use Rattle.hyd_spec.specs.Rules.{offers_from, rule_changes}
 use Rattle.hyd_controls_and_rules.specs.declared.actions_by_priority.Offer as program
 use Rattle.hyd_controls_and_rules.specs.ActionsByPriority.{AreBest}
 use Rattle.hyd_controls_and_rules.proofs.ChangesByBestOffers.{whole_table, changes_are, states_are, spare_is}
+use Rattle.hyd_controls_and_rules.proofs.NoRules.{acted_alone, changes_alone}
 use Rattle.hyd_controls_and_rules.proofs.changes_by_rules.act.Goals as goal
+
+pub returns-then-len-eq0-clause-links : goal.returns-then-len-eq0-clause-links
+returns-then-len-eq0-clause-links c = acted_alone c.args.project.now c.args.values.now c.args.links.now
+    (nil_from_length c.args.project.now.rules.list (sym c.len.ensures ∙ c.if-len-eq0.true))
+
+pub returns-then-len-eq0-clause-rows : goal.returns-then-len-eq0-clause-rows
+returns-then-len-eq0-clause-rows c = changes_alone c.args.project.now c.args.values.now c.args.links.now
+    c.args.changes.now.list (nil_from_length c.args.project.now.rules.list (sym c.len.ensures ∙ c.if-len-eq0.true))
 
 pub returns-clause-links : goal.returns-clause-links
 returns-clause-links c =

@@ -11,8 +11,7 @@ overflow_add-doublings c =
 pub loop-value-preserved : goal.loop-value-preserved
 loop-value-preserved c = record {
   value_is = omega (arith, doubled_power c.args.q c.loop-value.doublings, c.loop-value.invariant.value_is);
-  short = room_to_double c.args.p c.loop-value.value c.requires.p_short c.loop-value.invariant.positive
-      c.loop-value-test.true;
+  short = room_to_double c.args.p c.loop-value.value c.requires.p_short c.loop-value-test.true;
   positive = omega arith;
 }
 

@@ -1,0 +1,8 @@
+use Rattle.std.proofs.Common.{is_ok}
+use Rattle.hyd_kept_capacities.specs.KeptPromises.{IsPowerPipeCapacity}
+use Rattle.hyd_kept_capacities.proofs.Keeping.{keeps}
+use Rattle.hyd_kept_capacities.proofs.kept_power_pipes.KeptPowerPipes.keep.Goals as goal
+
+pub invariant_of-self : goal.invariant_of-self
+invariant_of-self c = rw c.push.ensures.items
+    (keeps IsPowerPipeCapacity (is_ok c.push.result) c.self.inside.kept.items c.args.capacity c.self.invariant c.requires)

@@ -1,0 +1,2 @@
+pub mod DiameterRoots
+pub mod KeptPromises

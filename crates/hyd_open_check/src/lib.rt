@@ -1,0 +1,8 @@
+//! A check of a certificate of version 4 from its first record to its END line, read as it goes: each record is tried,
+//! and its report put out through a pen.
+#![tactic(auto)]
+
+mod records;
+mod whole_check;
+
+pub use whole_check::check_openly;

@@ -1,0 +1,4 @@
+pub mod LinesOfOpenTexts
+pub mod OpenReading
+pub mod OpenConclusions
+pub mod WholeOpenCheckLemmas

@@ -1,0 +1,24 @@
+-- The first line was put in, and nothing was read.
+use Rattle.std.proofs.Common.{ap}
+use Rattle.hyd_cert.specs.ReaderView.{fresh, to_come}
+use Rattle.hyd_cert_check.specs.declared.outcome.CheckFault.TheVariants.{Output}
+use Rattle.hyd_cert_check.proofs.PenLemmas.{not_cert, put-in, put-cut-off}
+use Rattle.hyd_open_check_so_far.proofs.WholeOpenCheckLemmas.{so-far-begins, first-cut-short}
+use Rattle.hyd_open_check_so_far.proofs.last_report_line.begin_check.Goals as goal
+
+pub put_first-requires : goal.put_first-requires
+put_first-requires g c = not_cert _ _ c.requires.unbroken.to
+
+pub returns-in-Ok-clause-begins : goal.returns-in-Ok-clause-begins
+returns-in-Ok-clause-begins g c = λ reader stands lines.
+    so-far-begins c.args.project.now _ _ stands lines (ap (to_come reader) c.in-Ok.ensures.rest_stays)
+    (put-in _ reader reader _ _ _ _ c.requires.unbroken c.in-Ok.ensures)
+
+pub returns-in-Ok-clause-unbroken : goal.returns-in-Ok-clause-unbroken
+returns-in-Ok-clause-unbroken g c =
+    (put-in _ fresh fresh _ _ _ _ c.requires.unbroken c.in-Ok.ensures).open_still
+
+pub returns-in-Err-clause-begins : goal.returns-in-Err-clause-begins
+returns-in-Err-clause-begins g c = λ reader stands lines.
+    first-cut-short c.args.project.now (Output c.in-Err.fault) _ _ c.requires.sound stands lines
+    (put-cut-off _ c.in-Err.fault reader reader _ _ _ _ c.requires.unbroken c.in-Err.ensures)

@@ -1,0 +1,11 @@
+//! A check of a certificate of version 4 as far as it has gone, whatever judges its records: the reading of each record,
+//! the last line of its report, and what was read and put in so far.
+#![tactic(auto)]
+
+mod conclusion;
+mod last_report_line;
+mod next_record;
+
+pub use conclusion::OpenConclusion;
+pub use last_report_line::{begin_check, end_check, finish_check};
+pub use next_record::read_record;

@@ -1,0 +1,10 @@
+//! The command `run` with a slack, on files: ends of periods may be open by some seconds.
+//!
+//! Tested by the commands of `hyd_stored_runs`.
+#![tactic(auto)]
+
+mod command;
+mod run_ends;
+mod whole_run;
+
+pub use command::run_with_slack;

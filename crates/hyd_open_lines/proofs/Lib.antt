@@ -1,0 +1,2 @@
+mod JoinedPieces
+mod ClockWords

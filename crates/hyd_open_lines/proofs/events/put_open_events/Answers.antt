@@ -1,0 +1,22 @@
+-- One line more, or a line that is cut off.
+use Rattle.std.proofs.Common.{ℕ, List}
+use Rattle.hyd_spec_certificates.specs.declared.Event.{Event}
+use Rattle.hyd_spec_reports.specs.Report.{event_line}
+use Rattle.hyd_spec_open_reports.specs.OpenReportLine.{open_line_text}
+use Rattle.hyd_open_lines.proofs.JoinedPieces.{joined-more, joined-split}
+use Rattle.hyd_io.proofs.PutLemmas.{puts_then, puts_cut_off, puts_same}
+use Rattle.hyd_open_lines.proofs.events.put_open_events.Goals as goal
+
+pub returns-in-Err : goal.returns-in-Err
+returns-in-Err g c =
+    let text : Event → List ℕ = λ event. open_line_text c.args.project.now
+    (record { line = event_line c.args.at.first event; late = c.args.at.late }) in
+    puts_same _ _ _ _ _ _ _ (joined-split text c.args.events.now c.loop-i.i _ c.loop-i-test.true)
+    (puts_cut_off _ _ c.in-Err.fault _ _ _ _ (puts_then _ _ _ _ _ _ _ _ _ c.loop-i.invariant c.in-Err.ensures))
+
+pub loop-i-preserved : goal.loop-i-preserved
+loop-i-preserved g c =
+    let text : Event → List ℕ = λ event. open_line_text c.args.project.now
+    (record { line = event_line c.args.at.first event; late = c.args.at.late }) in
+    puts_same _ _ _ _ _ _ _ (joined-more text c.args.events.now c.loop-i.i _ c.loop-i-test.true)
+    (puts_then _ _ _ _ _ _ _ _ _ c.loop-i.invariant c.in-Ok.ensures)

@@ -1,0 +1,3 @@
+mod CarriedLeftByFacts
+mod EndedOpenPeriods
+pub mod StocksThere

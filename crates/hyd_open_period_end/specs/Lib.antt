@@ -1,0 +1,3 @@
+pub mod CarriedAtEnd
+pub mod OpenMatters
+pub mod EndOfOpenPeriod

@@ -1,0 +1,14 @@
+//! The end of a period by its vectors, whose start or end may be open by some seconds: when it ends, what happens there,
+//! and what stands behind it; or the first matter that the vectors leave open.
+#![tactic(auto)]
+
+mod arrivals;
+mod carried_at_end;
+mod ending;
+mod following;
+mod inflows_and_readings;
+mod matters;
+mod open_period_end;
+mod telling;
+
+pub use open_period_end::{ANY_SLACK, OpenPeriodEnd};

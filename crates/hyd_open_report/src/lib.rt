@@ -1,0 +1,11 @@
+//! What puts out the report of a period whose start or end may be known to lie between two seconds.
+//!
+//! The first line of a report and its last one are those of other reports.
+#![tactic(auto)]
+
+mod late;
+mod open_report;
+mod start_and_end;
+
+pub use late::Late;
+pub use open_report::put_open_report;

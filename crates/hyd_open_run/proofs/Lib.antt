@@ -1,0 +1,2 @@
+pub mod OpenPeriodLemmas
+pub mod OpenStepLemmas

@@ -1,0 +1,11 @@
+//! A run with a slack from its first step to its last line, put out as it goes: the certificate, of version 4, through
+//! one pen and the report through another. With it what checks of such certificates use too: the report of the last
+//! period of a run.
+#![tactic(auto)]
+
+mod record_and_report;
+mod steps;
+mod whole_run;
+
+pub use record_and_report::put_period_lines;
+pub use whole_run::run_openly;

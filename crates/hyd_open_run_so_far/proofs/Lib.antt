@@ -1,0 +1,3 @@
+pub mod OpenRunTexts
+pub mod OpenRunLemmas
+pub mod WholeOpenRunLemmas

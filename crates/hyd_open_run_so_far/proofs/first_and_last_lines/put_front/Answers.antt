@@ -1,0 +1,17 @@
+-- The header, and then the first line.
+use Rattle.std.proofs.Common.{subst, sym}
+use Rattle.std.specs.Prelude.{IsTrue}
+use Rattle.hyd_run.proofs.PenLemmas.{on_any, both-put-in-order, cut-off-in-order}
+use Rattle.hyd_open_run_so_far.proofs.first_and_last_lines.put_front.Goals as goal
+
+pub put_open_header-requires : goal.put_open_header-requires
+put_open_header-requires g c = on_any _ _ c.requires.ready
+
+pub put_first-requires : goal.put_first-requires
+put_first-requires g c = on_any _ _ (subst IsTrue (sym c.in-Ok.ensures.ready_stays) c.requires.ready)
+
+pub returns-in-Err : goal.returns-in-Err
+returns-in-Err g c = cut-off-in-order _ _ c.in-Err.fault _ _ _ _ _ c.requires c.in-Err.ensures
+
+pub returns : goal.returns
+returns g c = both-put-in-order _ _ _ _ _ _ _ _ _ _ c.requires c.in-Ok.ensures c.put_first.ensures

@@ -1,0 +1,5 @@
+pub mod StandingsBehindPeriods
+pub mod EndsOfDuePeriods
+pub mod StopsOfDuePeriods
+pub mod DuePeriodLemmas
+pub mod TakenAndRefusedRecords

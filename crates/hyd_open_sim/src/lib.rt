@@ -1,0 +1,18 @@
+//! A run whose ends of periods may be open by some seconds, one period after another, found or checked: the record of
+//! each is valid, and its facts are its own.
+#![tactic(auto)]
+
+mod closing_of_run;
+mod due_period;
+mod end_of_due_period;
+mod handed_in_record;
+mod moving_on;
+mod narrow_records;
+mod open_settings;
+mod open_sim;
+mod period_attempt;
+mod run_at_start;
+mod steps;
+
+pub use open_settings::OpenSettings;
+pub use open_sim::OpenSim;

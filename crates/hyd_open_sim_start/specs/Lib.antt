@@ -1,0 +1,3 @@
+pub mod StandingsOfOpenRuns
+pub mod StartedPeriods
+pub mod GivenVectors

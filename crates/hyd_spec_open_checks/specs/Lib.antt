@@ -1,0 +1,2 @@
+pub mod OpenRunsBrokenOff
+pub mod OpenChecks

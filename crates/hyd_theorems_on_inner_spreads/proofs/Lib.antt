@@ -1,0 +1,2 @@
+pub mod GridsOfSpreads
+pub mod RecordsInside
