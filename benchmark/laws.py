@@ -24,7 +24,7 @@ from unproved import ROOT
 MAIN = ROOT / 'benchmark' / 'laws_main.txt'
 USES = ['hyd_vector_check', 'hyd_period_network', 'hyd_inp', 'hyd_law', 'hyd_net', 'hyd_finders', 'hyd_spec', 'hyd_spec_certificates', 'hyd_sweep']
 # The trials are made by the same module as in a run.
-MODULES = [ROOT / 'crates' / 'hyd_sweep' / 'src' / 'aim.rt']
+MODULES = [ROOT / 'crates' / 'hyd_sweep' / 'src' / 'next_trial_head.rt']
 RUNS = 5
 CALLS = 5_000_000
 # A network with a link of each kind and two demands; the pressures between 0 and 100 m are half of those that are tried.
@@ -69,6 +69,10 @@ LAWS = [
     ('`Fixed`', 7, 1), ('`Pda`', 7, 0), ('`LinkLaw`: a pipe', 5, 1), ('`LinkLaw`: a check valve', 5, 2), ('`LinkLaw`: a pump', 5, 4),
     ('`LinkLaw`: a flow control valve', 5, 7), ('`LinkLaw`: a curve', 5, 9),
 ]
+# The same network with Hazen-Williams losses, and the laws of its pipes.
+POWERS = KINDS.replace('HEADLOSS C-M', 'HEADLOSS H-W').replace(' 0.012 ', ' 110 ')
+POWER_LAWS = [('`LinkLaw`: a pipe with Hazen-Williams losses', 5, 1), ('`LinkLaw`: a check valve with them', 5, 2)]
+POWER_CALLS = 500_000
 PRESSURE_DRIVEN = ['DEMAND MODEL PDA', 'REQUIRED PRESSURE 20']
 
 
@@ -108,6 +112,9 @@ def tell_laws(program):
     for name, what, which in LAWS:
         times = [max(0, least(program, KINDS, what + high, which, CALLS)[0] - empty) for high in (0, 1)]
         print('| %s | %.1f | %.1f |' % (name, *times))
+    for name, what, which in POWER_LAWS:
+        times = [max(0, least(program, POWERS, what + high, which, POWER_CALLS)[0] - empty) for high in (0, 1)]
+        print('| %s | %.0f | %.0f |' % (name, *times))
 
 
 def tell_periods(program):

@@ -7,13 +7,14 @@
 
 `tables` writes nodes.csv, links.csv, tanks.csv and events.csv: a row for each node (link, tank) and time, with the
 lower and the upper end in columns; of a run with --flows it writes flows.csv too, with the narrower intervals of its FLOW
-lines. A spreadsheet opens them, and so does pandas.read_csv. A report has no units: with --net they are taken from the
-file and stand in the headings.
+lines. In events.csv `last` is the last time of a line with two times (of a run with --slack), else its one time. A
+spreadsheet opens them, and so does pandas.read_csv. A report has no units: with --net they are taken from the file and
+stand in the headings.
 
 `plot` draws over time what the IDs have: the level of a tank, the pressure of a junction, the flow of a link. What is
 drawn is the band between the two ends at the report's times, joined to guide the eye where no event lies between;
-events, controls and rules are lines across. Where a node and a link have one name, node:NAME and link:NAME
-tell them apart.
+events, controls and rules are lines across, at the first time where a line tells two. Where a node and a link have one
+name, node:NAME and link:NAME tell them apart.
 
 `map` draws the network by its [COORDINATES] at a TIME of the report, h:mm:ss (the first one without it). Junctions are
 coloured by the lower end of the pressure, or with --flow links by the least flow that they carry for sure. Links whose
@@ -97,17 +98,20 @@ class Report:
         self.flows.append(dict(time=seconds_of(words[1]), id=words[2], flow=self.pair(words, 3)))
 
     def take_event(self, words):
-        self.event("EVENT", "", words[1], words[2:])
+        self.event("EVENT", "", words[1:])
 
     def take_control(self, words):
-        self.event("CONTROL", words[1], words[2], words[3:])
+        self.event("CONTROL", words[1], words[2:])
 
     def take_rule(self, words):
-        self.event("RULE", words[1], words[2], words[3:])
+        self.event("RULE", words[1], words[2:])
 
-    def event(self, line, cause, time, words):
-        self.events.append(dict(time=seconds_of(time), line=line, cause=cause, object=words[0], id=words[1],
-                                what=" ".join(words[2:])))
+    def event(self, line, cause, words):
+        """What happened at a time, or from a first one to a last one (of a run with --slack)."""
+        last = 0 if words[1] in ("TANK", "LINK") else 1
+        rest = words[last + 1:]
+        self.events.append(dict(time=seconds_of(words[0]), last=clock(seconds_of(words[last])), line=line, cause=cause,
+                                object=rest[0], id=rest[1], what=" ".join(rest[2:])))
 
 
 class Net:
@@ -175,7 +179,7 @@ def tables(args):
     write_table(args.folder, "links.csv", ["id", "status"], ["flow"], report.links, net)
     if report.flows:
         write_table(args.folder, "flows.csv", ["id"], ["flow"], report.flows, net)
-    write_table(args.folder, "events.csv", ["line", "cause", "object", "id", "what"], [], report.events, None)
+    write_table(args.folder, "events.csv", ["last", "line", "cause", "object", "id", "what"], [], report.events, None)
     print(f"report: {len(report.nodes)} rows of nodes, {len(report.tanks)} of tanks, {len(report.links)} of links, "
           f"{len(report.events)} events; the report ends by {report.last}", file=sys.stderr)
 

@@ -5,7 +5,7 @@ use Rattle.hyd_io.specs.DeskBytes.{append_known}
 use Rattle.hyd_spec.specs.ProgramTypes.{Project}
 use Rattle.hyd_cert_check.specs.Checks.{CheckEnds, CheckBreaksOff}
 use Rattle.hyd_cert_check.specs.RecordByRecord.{IsPrinted}
-use Rattle.hyd_cert_check.specs.declared.outcome.CheckEnd.{CheckEnd}
+use Rattle.hyd_spec_check_ends.specs.declared.CheckEnd.{CheckEnd}
 use Rattle.hyd_as_library.specs.AtDesk.{NothingPut, IsCheckAt, IsCheckCutShort}
 use Rattle.hyd_lemmas.proofs.ListsOptionsAndResults.{same_item}
 

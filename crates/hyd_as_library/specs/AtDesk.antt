@@ -12,7 +12,7 @@ use Rattle.hyd_run.specs.Runs.{outcome_of, sharpness_of}
 use Rattle.hyd_run.specs.declared.outcome.RunEnd.{RunEnd}
 use Rattle.hyd_cert_check.specs.Checks.{CheckEnds, CheckBreaksOff}
 use Rattle.hyd_cert_check.specs.ReaderAndPen.{Rose}
-use Rattle.hyd_cert_check.specs.declared.outcome.CheckEnd.{CheckEnd}
+use Rattle.hyd_spec_check_ends.specs.declared.CheckEnd.{CheckEnd}
 use Rattle.hyd_cert_check.specs.declared.outcome.CheckFault.{CheckFault}
 use Rattle.hyd_as_library.specs.declared.Ended.{Ended}
 use Rattle.hyd_as_library.specs.declared.Ended.TheVariants.{OutOfMemory, NoPeriod, Desk, Print}

@@ -17,25 +17,37 @@ use crate::pumps::pump_kind;
 use crate::rows_to_build_links_from::RowsForLinks;
 use crate::statuses::gather_statuses;
 use crate::valves::valve_kind;
+use hyd_kept_capacities::KeptCapacities;
 use hyd_lex::{Line, Lines, Section};
 use hyd_net::{Link, LinkKind, OutOfMemory};
 use hyd_option_and_rule_lines::or_empty;
 use std::alloc::Global;
 
 // What the link of a row is.
-fn kind_of(text: &Lines<'_>, line: &Line, given: &RowsForLinks<'_>) -> LinkKind
+fn kind_of(
+    text: &Lines<'_>,
+    line: &Line,
+    given: &RowsForLinks<'_>,
+    kept: &mut KeptCapacities,
+) -> LinkKind
     requires { IsRowOf is_link text.now.text given.now line.now }
     ensures { IsKind (rows_from text.now.text given.now) (row_of text.now.text line.now) result }
 {
     match line.section {
-        Section::Pipes => pipe_kind(text, line, given),
+        Section::Pipes => pipe_kind(text, line, given, kept),
         Section::Pumps => pump_kind(text, line, given),
         _ => valve_kind(text, line, given),
     }
 }
 
 // The link of a row.
-fn link_of(text: &Lines<'_>, line: &Line, given: &RowsForLinks<'_>, last: &[Option<Line>]) -> Link
+fn link_of(
+    text: &Lines<'_>,
+    line: &Line,
+    given: &RowsForLinks<'_>,
+    last: &[Option<Line>],
+    kept: &mut KeptCapacities,
+) -> Link
     requires row { IsRowOf is_link text.now.text given.now line.now }
     requires statuses { AreStatuses text.now.text (rows_from text.now.text given.now) (length given.now.lines.now)
         given.now.links.now.names last.now }
@@ -44,7 +56,7 @@ fn link_of(text: &Lines<'_>, line: &Line, given: &RowsForLinks<'_>, last: &[Opti
     Link {
         from: number(given.nodes, or_empty(text, line, 1)),
         to: number(given.nodes, or_empty(text, line, 2)),
-        kind: kind_of(text, line, given),
+        kind: kind_of(text, line, given, kept),
         start: start_of(text, line, given, last),
     }
 }
@@ -79,6 +91,7 @@ fn add(
     place: usize,
     given: &RowsForLinks<'_>,
     last: &[Option<Line>],
+    kept: &mut KeptCapacities,
 ) -> Result<(), OutOfMemory>
     requires within { place < length given.now.lines.now }
     requires right { AreRightRowsForLinks text.now.text given.now }
@@ -93,7 +106,7 @@ fn add(
     if number_of(line.section) != number_of(section) {
         return Ok(());
     }
-    links.push(link_of(text, line, given, last))?;
+    links.push(link_of(text, line, given, last, kept))?;
     Ok(())
 }
 
@@ -104,6 +117,7 @@ fn add_section(
     section: Section,
     given: &RowsForLinks<'_>,
     last: &[Option<Line>],
+    kept: &mut KeptCapacities,
 ) -> Result<(), OutOfMemory>
     requires right { AreRightRowsForLinks text.now.text given.now }
     requires section { is_link_section section ≡ true }
@@ -114,18 +128,19 @@ fn add_section(
         (before ++ rows_of section (rows_from text.now.text given.now)) links.new.list) }
 {
     for place in 0..given.lines.len() {
-        add(links, text, section, place, given, last)?;
+        add(links, text, section, place, given, last, kept)?;
     }
     Ok(())
 }
 
 /// The links of a file whose rows are right by themselves and with the others: pipes, then pumps, then valves, each in
 /// the order of its rows. A link starts in the state of the last row of [STATUS] that names it, else in that of its own
-/// row.
+/// row. The capacities of pipes are taken from those that are kept, where they are there.
 pub fn build_links(
     alloc: Global,
     text: &Lines<'_>,
     given: &RowsForLinks<'_>,
+    kept: &mut KeptCapacities,
 ) -> Result<hyd_net::List<Link>, OutOfMemory>
     requires { AreRightRowsForLinks text.now.text given.now }
     ensures { IfOk result (λ links. Match (IsLink (rows_from text.now.text given.now))
@@ -133,8 +148,29 @@ pub fn build_links(
 {
     let last = gather_statuses(alloc, text, given.lines, given.links)?;
     let mut links = hyd_net::List::new(alloc);
-    add_section(&mut links, text, Section::Pipes, given, last.as_slice())?;
-    add_section(&mut links, text, Section::Pumps, given, last.as_slice())?;
-    add_section(&mut links, text, Section::Valves, given, last.as_slice())?;
+    add_section(
+        &mut links,
+        text,
+        Section::Pipes,
+        given,
+        last.as_slice(),
+        kept,
+    )?;
+    add_section(
+        &mut links,
+        text,
+        Section::Pumps,
+        given,
+        last.as_slice(),
+        kept,
+    )?;
+    add_section(
+        &mut links,
+        text,
+        Section::Valves,
+        given,
+        last.as_slice(),
+        kept,
+    )?;
     Ok(links)
 }

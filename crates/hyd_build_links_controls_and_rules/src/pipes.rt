@@ -16,15 +16,14 @@ ghost use Rattle.hyd_spec_input.specs.FaultsWithOtherRows as others;
 ghost use Rattle.hyd_build_links_controls_and_rules.specs.RowsToBuildLinksFrom.{IsRowOf, rows_from};
 
 use crate::rows_to_build_links_from::RowsForLinks;
-use hyd_capacities::pipe_capacity;
+use hyd_kept_capacities::KeptCapacities;
 use hyd_lex::{Line, Lines};
 use hyd_net::{LinkKind, PipeLoss};
 use hyd_network_rows::{PipeRow, PipeStatus, read_pipe};
-use hyd_power_capacities::hazen_williams_capacity;
 use hyd_spec_power_laws::HazenWilliamsPipe;
 
 // The loss of a pipe with Manning's coefficient.
-fn manning(pipe: &PipeRow<'_>, us: bool) -> PipeLoss
+fn manning(pipe: &PipeRow<'_>, us: bool, kept: &mut KeptCapacities) -> PipeLoss
     requires length { IsLength pipe.now.length }
     requires diameter { IsDiameter pipe.now.diameter }
     requires roughness { IsRoughness pipe.now.roughness }
@@ -34,14 +33,14 @@ fn manning(pipe: &PipeRow<'_>, us: bool) -> PipeLoss
     ensures { (rows : List Row) (row : Row) → us ≡ others.us rows → force.has_hazen_williams rows ≡ false
         → IsPipeRow row.words pipe.now → project.IsPipeRow rows row result }
 {
-    let Ok(cap) = pipe_capacity(pipe.length, pipe.diameter, pipe.roughness, pipe.minor, us) else {
+    let Ok(cap) = kept.pipe(pipe.length, pipe.diameter, pipe.roughness, pipe.minor, us) else {
         unreachable!()
     };
     PipeLoss::Manning(cap)
 }
 
 // The loss of a pipe with a Hazen-Williams coefficient.
-fn hazen_williams(pipe: &PipeRow<'_>, us: bool) -> PipeLoss
+fn hazen_williams(pipe: &PipeRow<'_>, us: bool, kept: &mut KeptCapacities) -> PipeLoss
     requires length { IsLength pipe.now.length }
     requires diameter { IsDiameter pipe.now.diameter }
     requires coefficient { IsPositiveUpTo (10 ^ 4) pipe.now.roughness }
@@ -57,14 +56,14 @@ fn hazen_williams(pipe: &PipeRow<'_>, us: bool) -> PipeLoss
         minor: pipe.minor,
         us,
     };
-    let Ok(cap) = hazen_williams_capacity(numbers) else {
+    let Ok(cap) = kept.power_pipe(numbers) else {
         unreachable!()
     };
     PipeLoss::HazenWilliams(cap)
 }
 
 // The loss of a pipe, by Hazen-Williams or not, whose capacity is in range.
-fn loss_of(pipe: &PipeRow<'_>, by_power: bool, us: bool) -> PipeLoss
+fn loss_of(pipe: &PipeRow<'_>, by_power: bool, us: bool, kept: &mut KeptCapacities) -> PipeLoss
     requires length { IsLength pipe.now.length }
     requires diameter { IsDiameter pipe.now.diameter }
     requires roughness { by_power ≡ false → IsRoughness pipe.now.roughness }
@@ -76,9 +75,9 @@ fn loss_of(pipe: &PipeRow<'_>, by_power: bool, us: bool) -> PipeLoss
         → IsPipeRow row.words pipe.now → project.IsPipeRow rows row result }
 {
     if by_power {
-        return hazen_williams(pipe, us);
+        return hazen_williams(pipe, us, kept);
     }
-    manning(pipe, us)
+    manning(pipe, us, kept)
 }
 
 // What a pipe with a loss is.
@@ -92,14 +91,19 @@ fn kind_of(status: PipeStatus, loss: PipeLoss) -> LinkKind
     }
 }
 
-/// What the pipe of a row is.
-pub(crate) fn pipe_kind(text: &Lines<'_>, line: &Line, given: &RowsForLinks<'_>) -> LinkKind
+/// What the pipe of a row is. Its capacity is taken from those that are kept, where it is there.
+pub(crate) fn pipe_kind(
+    text: &Lines<'_>,
+    line: &Line,
+    given: &RowsForLinks<'_>,
+    kept: &mut KeptCapacities,
+) -> LinkKind
     requires { IsRowOf (is_of Pipes) text.now.text given.now line.now }
     ensures { IsPipeKind (rows_from text.now.text given.now) (row_of text.now.text line.now) result }
 {
     let Ok(pipe) = read_pipe(text, line) else {
         unreachable!()
     };
-    let loss = loss_of(&pipe, given.by_power, given.unit.is_us());
+    let loss = loss_of(&pipe, given.by_power, given.unit.is_us(), kept);
     kind_of(pipe.status, loss)
 }

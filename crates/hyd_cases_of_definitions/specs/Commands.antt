@@ -13,6 +13,7 @@ asks_run net cert rounds width tight = Some (run (record {
   rounds = rounds;
   width = width;
   tight = tight;
+  slack = 0;
   flows = [];
 }))
 
@@ -23,7 +24,19 @@ asks_flows names = Some (run (record {
   rounds = 200;
   width = pos 100000000000;
   tight = false;
+  slack = 0;
   flows = names;
+}))
+
+-- `run a b`, by default but for the seconds by which ends of periods may be open
+abbrev pub asks_slack : ℕ → Option Order
+asks_slack seconds = Some (run (record {
+  files = record { net = codes "a"; cert = codes "b" };
+  rounds = 200;
+  width = pos 100000000000;
+  tight = false;
+  slack = seconds;
+  flows = [];
 }))
 
 abbrev pub asks_check : (net cert : List ℕ) → Option Order

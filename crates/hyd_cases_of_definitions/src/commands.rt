@@ -4,7 +4,7 @@
 ghost use Rattle.std.specs.Prelude.{◌≡◌, pos, neg_ℤ, true, false, [], ◌∷◌, map, codes};
 ghost use Rattle.hyd_command_words.specs.CommandGrammar.{order_of};
 ghost use Rattle.hyd_cases_of_definitions.specs.Commands.{typed, asks_run, asks_check, asks_gen, are_none};
-ghost use Rattle.hyd_cases_of_definitions.specs.Commands.{asks_fire, asks_closures, asks_flows, asks_meet};
+ghost use Rattle.hyd_cases_of_definitions.specs.Commands.{asks_fire, asks_closures, asks_flows, asks_meet, asks_slack};
 
 /// The words of `run`: its options in each form, and where they stand.
 pub fn runs()
@@ -62,6 +62,27 @@ pub fn runs_naming()
         asks_run (codes "--flows") (codes "-") 200 (pos 100000000000) false ∷
         asks_run (codes "a") (codes "--flows") 200 (pos 100000000000) false ∷
         asks_flows (codes "V" ∷ []) ∷ [] }
+{}
+
+/// The words of `run` with a slack: up to a day, in one to five digits. Names of links go with none.
+pub fn runs_with_slack()
+    ensures seconds { map order_of (map typed (
+        codes "run a b --slack 0" ∷ codes "run a b --slack 1" ∷ codes "run --slack=3600 a b" ∷
+        codes "run a --slack 00030 b" ∷ codes "run --slack 86400 -- a b" ∷ []))
+        ≡
+        asks_slack 0 ∷ asks_slack 1 ∷ asks_slack 3600 ∷ asks_slack 30 ∷ asks_slack 86400 ∷ [] }
+    ensures positions { map order_of (map typed (
+        codes "run -- --slack b" ∷ codes "run a b --slack 0 --flows V" ∷ codes "run a b --flows=V --slack=00000" ∷ []))
+        ≡
+        asks_run (codes "--slack") (codes "b") 200 (pos 100000000000) false ∷
+        asks_flows (codes "V" ∷ []) ∷ asks_flows (codes "V" ∷ []) ∷ [] }
+    ensures refused { are_none (map order_of (map typed (
+        codes "run a b --slack" ∷ codes "run a b --slack=" ∷ codes "run a b --slack -1" ∷ codes "run a b --slack=-1" ∷
+        codes "run a b --slack +1" ∷ codes "run a b --slack 86401" ∷ codes "run a b --slack 000001" ∷
+        codes "run a b --slack 1.5" ∷ codes "run a b --slack 1 --slack 1" ∷ codes "run a b --slack 1 --flows V" ∷
+        codes "run a b --flows=V --slack=1" ∷ codes "run a b --Slack 1" ∷ codes "check a b --slack 1" ∷
+        codes "gen 7 1 a b --slack 1" ∷ codes "fire a J 1 --slack 1" ∷ codes "closures a 1 --slack 0" ∷
+        codes "meet a b --slack 1" ∷ []))) ≡ true }
 {}
 
 /// The words of `check` and of `gen`.

@@ -245,6 +245,17 @@ impl CertReader {
         }
     }
 
+    /// A reader of a text whose first bytes stand in the source already: it has passed no line and has no fault.
+    pub fn behind(source: Source) -> CertReader
+        ensures { result ≡ record fresh { ahead = source } }
+    {
+        CertReader {
+            lines: Lines { source, line: 0 },
+            stand: Stand::First,
+            flows: false,
+        }
+    }
+
     /// How many lines it passed. It stays at 2^64 - 1 once it is there.
     pub fn line(&self) -> u64
         ensures { result ≡ self.now.line }

@@ -38,7 +38,7 @@ use Rattle.hyd_cert.proofs.CertificatesLineByLine.{fault_behind}
 use Rattle.hyd_sim.specs.RunView.{header_for}
 use Rattle.hyd_theorems_on_flow_texts.proofs.FirstLines.{flows_begin, plain_begin}
 use Rattle.hyd_theorems_on_flow_texts.proofs.LinesOfEntries.{entry-feeds, end-feeds, rows-feeds}
-use Rattle.hyd_cert_check.specs.LinesOfRefusals.{refused_grammar_line, refused_counts_line, printed_number}
+use Rattle.hyd_spec_check_ends.specs.LinesOfRefusals.{refused_grammar_line, refused_counts_line, printed_number}
 use Rattle.hyd_cert_check.specs.Checks.{grammar, counts, record_refused, other_end, CheckEnds}
 use Rattle.hyd_cert_check.specs.Checks.{CheckEndsPlainly, CheckFinds, CheckFindsPlainly}
 use Rattle.hyd_cert_check.specs.ChecksWithFlows.{CheckEndsNaming, CheckFindsNaming, part_refused}
@@ -49,8 +49,8 @@ use Rattle.hyd_cert_check.specs.RecordByRecord.{IsSo}
 use Rattle.hyd_cert_check.specs.RecordByRecord.{IsEnd, IsOtherEnd, IsRefusedNext, IsPartRefusedNext, IsGrammarFault}
 use Rattle.hyd_cert_check.specs.RecordByRecord.{IsCountsFault, IsFaultyLine, IsOtherHeader, read_text, conclusion_line}
 use Rattle.hyd_cert_check.specs.RecordByRecord.{end_of}
-use Rattle.hyd_cert_check.specs.declared.outcome.CheckEnd.{CheckEnd}
-use Rattle.hyd_cert_check.specs.declared.outcome.CheckEnd.TheVariants as ends
+use Rattle.hyd_spec_check_ends.specs.declared.CheckEnd.{CheckEnd}
+use Rattle.hyd_spec_check_ends.specs.declared.CheckEnd.TheVariants as ends
 use Rattle.hyd_cert_check.specs.declared.outcome.Conclusion.{Conclusion}
 use Rattle.hyd_cert_check.specs.declared.outcome.Conclusion.TheVariants.{Accepted, Refused, RefusedPart, OtherEnd}
 use Rattle.hyd_cert_check.specs.declared.outcome.Conclusion.TheVariants.{Grammar}

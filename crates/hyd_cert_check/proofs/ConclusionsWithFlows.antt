@@ -33,7 +33,7 @@ use Rattle.hyd_theorems_on_flows.proofs.FlowsOfHistories.{every_flow}
 use Rattle.hyd_theorems_on_flow_texts.specs.FaultyLineWithFlows.{IsFirstFaultWithFlows}
 use Rattle.hyd_theorems_on_flow_texts.proofs.FirstLines.{header_then}
 use Rattle.hyd_theorems_on_flow_texts.proofs.FaultsInEntries.{whole_text, fault_behind, fault_first, no_entry, stuck_as}
-use Rattle.hyd_cert_check.specs.LinesOfRefusals.{refused_grammar_line, refused_counts_line, printed_number}
+use Rattle.hyd_spec_check_ends.specs.LinesOfRefusals.{refused_grammar_line, refused_counts_line, printed_number}
 use Rattle.hyd_cert_check.specs.ChecksWithFlows.{BeginsWithNamings, HasNoMoreEntries, CheckRefusesGrammarNaming}
 use Rattle.hyd_cert_check.specs.ChecksWithFlows.{CheckRefusesCountsNaming, CheckFindsNaming}
 use Rattle.hyd_cert_check.specs.RecordByRecord.{IsEntryAsRead}

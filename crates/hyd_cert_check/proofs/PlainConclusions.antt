@@ -27,7 +27,7 @@ use Rattle.hyd_cert.proofs.WholeTextLemmas.{first_fault}
 use Rattle.hyd_lemmas.proofs.ListsOptionsAndResults.{join-more}
 use Rattle.hyd_sim.specs.RunView.{header_for}
 use Rattle.hyd_theorems_on_runs.proofs.HistoriesAlongRuns.{every_history}
-use Rattle.hyd_cert_check.specs.LinesOfRefusals.{refused_grammar_line, refused_counts_line, printed_number}
+use Rattle.hyd_spec_check_ends.specs.LinesOfRefusals.{refused_grammar_line, refused_counts_line, printed_number}
 use Rattle.hyd_cert_check.specs.Checks.{BeginsWithFound, HasNoMoreRecords, CheckRefusesGrammar, CheckRefusesCounts}
 use Rattle.hyd_cert_check.specs.Checks.{CheckFindsPlainly}
 use Rattle.hyd_cert_check.specs.RecordByRecord.{entry_as_read, IsEntryAsRead}

@@ -17,15 +17,15 @@ use Rattle.hyd_lemmas.proofs.ListsOptionsAndResults.{all-more}
 use Rattle.hyd_theorems_on_runs.proofs.OnePeriodMore.{run_more}
 use Rattle.hyd_io.specs.DeskBytes.{PutOut}
 use Rattle.hyd_io.specs.Output.{PenState}
-use Rattle.hyd_cert.specs.ReaderView.{ReaderView, fresh, to_come}
+use Rattle.hyd_cert.specs.ReaderView.{ReaderView, to_come}
 use Rattle.hyd_run.specs.Runs.{first_line}
 use Rattle.hyd_sim.specs.RunView.{header_for}
 use Rattle.hyd_cert_check.specs.Checks.{CheckEnds, CheckFinds, CheckBreaksOff, in_last_line, in_records}
-use Rattle.hyd_cert_check.specs.ReaderAndPen.{CheckMoment, new_pen, LeavesFiles, PutIn, IsCutOff, Rose}
+use Rattle.hyd_cert_check.specs.ReaderAndPen.{CheckMoment, new_pen, IsAtStart, LeavesFiles, PutIn, IsCutOff, Rose}
 use Rattle.hyd_cert_check.specs.RecordByRecord.{coming, IsReadTo, nothing, IsRead, IsEntryAsRead, IsStep, IsSoFar}
 use Rattle.hyd_cert_check.specs.RecordByRecord.{AllRead}
 use Rattle.hyd_cert_check.specs.RecordByRecord.{IsWhole, IsCutShort, IsPrinted, CheckPuts, conclusion_line, end_of}
-use Rattle.hyd_cert_check.specs.declared.outcome.CheckEnd.{CheckEnd}
+use Rattle.hyd_spec_check_ends.specs.declared.CheckEnd.{CheckEnd}
 use Rattle.hyd_cert_check.specs.declared.outcome.CheckFault.{CheckFault}
 use Rattle.hyd_cert_check.specs.declared.outcome.Conclusion.{Conclusion}
 use Rattle.hyd_run.proofs.RunLemmas.{moved-whole}
@@ -37,7 +37,7 @@ use Rattle.hyd_cert_check.proofs.ConclusionLemmas.{holds-whole, finds}
 -- ---- a check so far
 
 -- the first line was put in, and nothing was read
-so-far-begins : (project : Project) (start now : CheckMoment) → start.reader ≡ fresh → now.reader ≡ start.reader
+so-far-begins : (project : Project) (start now : CheckMoment) → IsAtStart start.reader → now.reader ≡ start.reader
     → now.told.rest ≡ start.told.rest → PutIn first_line start now
     → IsSoFar project (initial_standing project) start now
 so-far-begins project start now new same rest put = record {
@@ -46,15 +46,15 @@ so-far-begins project start now new same rest put = record {
   parts = tt;
   fit = All-nil (IsEntryAsRead now.reader.flows (junction_count project) (tank_count project));
   each = refl;
-  read = nothing (ap (λ (r : ReaderView). r.stand) (same ∙ new))
+  read = nothing (ap (λ (r : ReaderView). r.stand) same ∙ new.stand)
       (ap (λ (r : ReaderView). to_come r now.told.rest) same ∙ ap (to_come start.reader) rest)
-      (ap (λ (r : ReaderView). r.line) (same ∙ new));
+      (ap (λ (r : ReaderView). r.line) same ∙ new.line);
   put = put-as first_line (report_so_far_naming project (initial_standing project) [] None) start now (sym (append-nil
       first_line)) put;
 }
 
 pub so-far-begun : (project : Project) (left : Standing) (start now : CheckMoment) → left ≡ initial_standing project
-    → start.reader ≡ fresh → now.reader ≡ start.reader → now.told.rest ≡ start.told.rest → PutIn first_line start now
+    → IsAtStart start.reader → now.reader ≡ start.reader → now.told.rest ≡ start.told.rest → PutIn first_line start now
     → IsSoFar project left start now
 so-far-begun project left start now first new same rest put =
     subst (λ (s : Standing). IsSoFar project s start now) (sym first)
@@ -123,12 +123,12 @@ module _ (project : Project) (sound : IsSound project) (left next : Standing) (s
 
 -- the first line was cut off
 pub first-cut-short : (project : Project) (why : CheckFault) (start now : CheckMoment) → IsSound project
-    → start.reader ≡ fresh → IsCutOff why first_line start now → IsCutShort project why start now
+    → IsAtStart start.reader → IsCutOff why first_line start now → IsCutShort project why start now
 first-cut-short project why start now sound new cut_off = record {
   report = report_with_flows project [] [];
   holds = λ text told. inr (finds project sound (initial_standing project) start start [] IsRunFrom.none tt
       (All-nil (IsEntryAsRead start.reader.flows (junction_count project) (tank_count project)))
-      (nothing (ap (λ (r : ReaderView). r.stand) new) refl (ap (λ (r : ReaderView). r.line) new)) text told);
+      (nothing new.stand refl new.line) text told);
   cut_off = cut-off-as why first_line (report_with_flows project [] []) start now (sym (append-nil first_line)) cut_off;
 }
 

@@ -19,9 +19,9 @@ use Rattle.hyd_spec_flows.specs.declared.FlowFails.{FlowFails}
 use Rattle.hyd_cert.specs.ReaderWithFlows.{HasOtherCounts}
 use Rattle.hyd_sim.specs.RunView.{header_for}
 use Rattle.hyd_theorems_on_flow_texts.specs.FaultyLineWithFlows.{IsFirstFaultWithFlows}
-use Rattle.hyd_cert_check.specs.LinesOfRefusals.{refused_grammar_line, refused_counts_line, printed_number}
-use Rattle.hyd_cert_check.specs.declared.outcome.CheckEnd.{CheckEnd}
-use Rattle.hyd_cert_check.specs.declared.outcome.CheckEnd.TheVariants.{Accepted, Refused}
+use Rattle.hyd_spec_check_ends.specs.LinesOfRefusals.{refused_grammar_line, refused_counts_line, printed_number}
+use Rattle.hyd_spec_check_ends.specs.declared.CheckEnd.{CheckEnd}
+use Rattle.hyd_spec_check_ends.specs.declared.CheckEnd.TheVariants.{Accepted, Refused}
 
 -- ---- what a check refuses by its lines
 

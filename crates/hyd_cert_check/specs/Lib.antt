@@ -1,5 +1,4 @@
 pub mod ReaderAndPen
-pub mod LinesOfRefusals
 pub mod ChecksWithFlows
 pub mod Checks
 pub mod RecordByRecord

@@ -7,6 +7,7 @@ use Rattle.hyd_io.specs.DeskCounts.{with_read_fault}
 use Rattle.hyd_io.specs.DeskBytes.{Moves, PutOut}
 use Rattle.hyd_io.specs.Output.{HasOutCause, PenState}
 use Rattle.hyd_cert.specs.ReaderView.{ReaderView}
+use Rattle.hyd_cert.specs.declared.answers_of_reader.Stand.TheVariants.{First}
 use Rattle.hyd_run.specs.Pens.{Told}
 use Rattle.hyd_cert_check.specs.declared.outcome.CheckFault.{CheckFault}
 use Rattle.hyd_cert_check.specs.declared.outcome.CheckFault.TheVariants.{Read, Output}
@@ -16,6 +17,11 @@ pub record CheckMoment : Type 0 where
   pub reader : ReaderView
   pub pen : PenState
   pub told : Told
+
+-- A reader that has passed no line and answered nothing. What it read ahead is the front of the text.
+pub record IsAtStart (reader : ReaderView) : Type 0 where
+  pub stand : reader.stand ≡ First
+  pub line : reader.line ≡ 0
 
 abbrev pub moment : ReaderView → PenState → Told → CheckMoment
 moment reader pen told = record { reader = reader; pen = pen; told = told }

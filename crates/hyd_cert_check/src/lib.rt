@@ -10,5 +10,6 @@ mod records;
 mod refusals_by_a_line;
 mod whole_check;
 
-pub use outcome::{CheckEnd, CheckFault};
+pub use hyd_spec_check_ends::CheckEnd;
+pub use outcome::CheckFault;
 pub use whole_check::check;

@@ -5,15 +5,6 @@ use hyd_spec_certificates::CertRefused;
 use hyd_spec_flows::FlowFails;
 use thiserror::Error;
 
-/// How a check ended.
-#[derive(Clone, Copy, Drop)]
-pub enum CheckEnd {
-    /// The certificate was accepted.
-    Accepted,
-    /// The certificate was refused. The last line of the report says why.
-    Refused,
-}
-
 /// Why a check was broken off.
 #[derive(Clone, Copy, Debug, PartialEq, Eq, Error)]
 pub enum CheckFault {

@@ -4,7 +4,7 @@
 ghost use Rattle.std.specs.Prelude.{◌++◌, codes, decimal, IsTrue};
 ghost use Rattle.hyd_io.specs.Output.{OnCert};
 ghost use Rattle.hyd_io.specs.TextPutIn.{Puts};
-ghost use Rattle.hyd_cert_check.specs.LinesOfRefusals.{refused_grammar_line, refused_counts_line};
+ghost use Rattle.hyd_spec_check_ends.specs.LinesOfRefusals.{refused_grammar_line, refused_counts_line};
 
 use hyd_io::{Desk, OutFault, Pen, put_number};
 

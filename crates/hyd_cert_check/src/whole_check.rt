@@ -4,21 +4,22 @@
 ghost use Rattle.std.specs.Prelude.{◌≡◌, ⊤, ℕ, List, None, Some, IfErr, IfOk, OnOk};
 ghost use Rattle.hyd_spec.specs.ProgramTypes.{Project};
 ghost use Rattle.hyd_spec_certificates.specs.RecordAndStanding.{initial_standing};
-ghost use Rattle.hyd_cert.specs.ReaderView.{ReaderView, fresh};
+ghost use Rattle.hyd_cert.specs.ReaderView.{ReaderView, to_come};
 ghost use Rattle.hyd_cert.specs.RecordView.{header_of};
 ghost use Rattle.hyd_run.specs.Pens.{told};
 ghost use Rattle.hyd_sim.specs.RunView.{header_for, standing_of};
 ghost use Rattle.hyd_cert_check.specs.Checks.{CheckEnds, CheckBreaksOff};
-ghost use Rattle.hyd_cert_check.specs.ReaderAndPen.{CheckMoment, moment, new_pen, IsOpen, Rose};
+ghost use Rattle.hyd_cert_check.specs.ReaderAndPen.{CheckMoment, moment, new_pen, IsAtStart, IsOpen, Rose};
 ghost use Rattle.hyd_cert_check.specs.RecordByRecord.{AllRead, CheckPuts, IsPrinted, IsWhole, end_of};
 
 use crate::last_report_line::put_conclusion;
-use crate::outcome::{CheckEnd, CheckFault, Conclusion};
+use crate::outcome::{CheckFault, Conclusion};
 use crate::records::take_records;
 use hyd_cert::{CertReader, FlowPart, Record};
 use hyd_io::{Desk, Pen};
 use hyd_run::{empty, put_first};
 use hyd_sim::Sim;
+use hyd_spec_check_ends::CheckEnd;
 
 // How a check ends with what is found.
 fn end_of(conclusion: Conclusion) -> CheckEnd
@@ -61,7 +62,7 @@ fn put_check<D: Desk>(
 ) -> Result<CheckEnd, CheckFault>
     requires start { standing_of sim.old ≡ initial_standing sim.old.project }
     requires running { sim.old.stopped ≡ None }
-    requires reader { reader.old ≡ fresh }
+    requires reader { IsAtStart reader.old }
     requires header { header_of row.old ≡ header_for sim.old.project }
     requires part { part.old.junctions ≡ row.old.junctions }
     requires unbroken { IsOpen pen.old }
@@ -108,7 +109,7 @@ fn finish<D: Desk>(end: CheckEnd, pen: &mut Pen, desk: &mut D) -> Result<CheckEn
 /// last line that says how the check ends. Says to a person why a certificate is refused. Takes no memory. The pen is
 /// empty at the end.
 ///
-/// The run is at its start, the reader is new, the record has the version and the counts of the network, and the part
+/// The run is at its start, the reader has passed no line (it may have read ahead), the record has the version and the counts of the network, and the part
 /// was opened for its junctions.
 ///
 /// - `Accepted`: the text is the certificate of a run of the network, whole or as far as it went, with the flows of the
@@ -129,15 +130,15 @@ pub fn check<D: Desk>(
 ) -> Result<CheckEnd, CheckFault>
     requires start { standing_of sim.old ≡ initial_standing sim.old.project }
     requires running { sim.old.stopped ≡ None }
-    requires reader { reader.old ≡ fresh }
+    requires reader { IsAtStart reader.old }
     requires header { header_of row.old ≡ header_for sim.old.project }
     requires part { part.old.junctions ≡ row.old.junctions }
     requires report { report.old ≡ new_pen }
-    ensures whole { (text : List ℕ) → D.rest desk.old ≡ Some text → IfOk result (λ end.
+    ensures whole { (text : List ℕ) → to_come reader.old (D.rest desk.old) ≡ Some text → IfOk result (λ end.
         IsPrinted (λ printed. CheckEnds sim.old.project text printed end)
         (D.printed desk.old) (D.printed desk.new)) }
     ensures report_empty { OnOk result (report.new ≡ new_pen) }
-    ensures broken_off { (text : List ℕ) → D.rest desk.old ≡ Some text → IfErr result (λ fault.
+    ensures broken_off { (text : List ℕ) → to_come reader.old (D.rest desk.old) ≡ Some text → IfErr result (λ fault.
         IsPrinted (CheckBreaksOff sim.old.project text) (D.printed desk.old) (D.printed desk.new)) }
     ensures prints { IsPrinted (λ printed. ⊤) (D.printed desk.old) (D.printed desk.new) }
     ensures cause { IfErr result (λ fault. Rose fault (D.counts desk.old) (D.counts desk.new)) }

@@ -1,5 +1,4 @@
 pub mod AnswerLemmas
-pub mod CheckLemmas
 pub mod CommandsOfWords
 pub mod GenLemmas
 pub mod TaskWithoutMemory

@@ -8,7 +8,7 @@ use Rattle.hyd_target_commands.specs.CommandsOnTargets.{DoesFire, DoesClosures}
 use Rattle.hyd_witness_commands.specs.CommandMeet.{DoesMeet}
 use Rattle.hyd_written_witnesses.specs.CommandWitness.{DoesWitness}
 use Rattle.hyd_cli.specs.Commands.{DoesCheck}
-use Rattle.hyd_cli.proofs.CheckLemmas.{prints_nothing}
+use Rattle.hyd_check_command.proofs.CheckLemmas.{prints_nothing}
 
 untouched : (same : Seen) → IsUntouched same same
 untouched same = record { files = refl; written = refl; printed = refl }
@@ -17,7 +17,8 @@ pub checks_nothing : (files : TwoFiles) (same : Seen) (openings : Openings)
     → DoesCheck files OutOfMemory same same openings openings
 checks_nothing files same openings = record {
   refused = λ text line why told fault. untouched same;
-  checks = λ text certificate told none told_too. untouched same;
+  checks = λ text certificate told none told_too begins. untouched same;
+  checks_openly = λ text certificate told none told_too begins. untouched same;
   not_refused = λ text told none. λ e. cc;
   only_prints = prints_nothing same;
   once = inl refl;

@@ -6,8 +6,7 @@ use Rattle.hyd_command_answers.specs.DeskContents.{Seen, IsUntouched}
 use Rattle.hyd_cli.specs.TaskWithNetwork.{DoesTask}
 use Rattle.hyd_command_answers.specs.declared.status.Status.TheVariants.{OutOfMemory}
 use Rattle.hyd_cli.specs.declared.task_with_network.Task.{Task}
-use Rattle.hyd_cli.specs.declared.task_with_network.Task.TheVariants.{Run, Check, Gen}
-use Rattle.hyd_cli.proofs.CheckLemmas.{prints_nothing}
+use Rattle.hyd_cli.specs.declared.task_with_network.Task.TheVariants.{Run, Gen}
 
 untouched : (same : Seen) → IsUntouched same same
 untouched same = record { files = refl; written = refl; printed = refl }
@@ -18,12 +17,6 @@ does_nothing (Run cert settings) project same openings writable = record {
   answers = untouched same;
   others = λ other differs. refl;
   opens_cert = refl;
-}
-does_nothing (Check cert) project same openings writable = record {
-  answers = λ certificate told. untouched same;
-  leaves = untouched same;
-  only_prints = prints_nothing same;
-  reads = refl;
 }
 does_nothing (Gen text files) project same openings writable = record {
   answers = untouched same;

@@ -7,10 +7,11 @@ use Rattle.hyd_cli.specs.WordsAndUsageLine.{usage_line}
 use Rattle.hyd_command_answers.specs.declared.status.Status.{Status}
 use Rattle.hyd_command_answers.specs.declared.status.Status.TheVariants.{OutOfMemory, Usage, ReadFault, WriteFault}
 use Rattle.hyd_command_answers.specs.declared.status.Status.TheVariants.{InputRefused, Stalled}
-use Rattle.hyd_command_answers.specs.DeskContents.{Seen, IsUntouched, OnlyPrinted, OnlyPrintedFront, OnlyPrintedSome}
+use Rattle.hyd_command_answers.specs.DeskContents.{Seen, IsUntouched, OnlyPrinted, OnlyPrintedFront}
 use Rattle.hyd_command_answers.specs.FaultsAndRefusals.{PrintsRefusal}
 use Rattle.hyd_target_commands.specs.CommandsOnTargets.{LeavesNet}
 use Rattle.hyd_naming_command.specs.NamingAnswers.{LeavesNaming}
+use Rattle.hyd_check_command.specs.CheckAnswers.{LeavesCheck}
 use Rattle.hyd_written_witnesses.specs.CommandWitness.{LeavesSearch}
 
 -- ---- names
@@ -51,14 +52,6 @@ LeavesRun ReadFault before now = IsUntouched before now
 LeavesRun Usage before now = OnlyPrinted usage_line before now
 LeavesRun InputRefused before now = PrintsRefusal before now
 LeavesRun status before now = ⊤
-
--- What the answer of a check leaves: want of memory leaves all untouched, a refusal prints its one line, and every
--- other answer leaves some text printed and nothing created or written.
-abbrev pub LeavesCheck : Status → Seen → Seen → Type 0
-LeavesCheck OutOfMemory before now = IsUntouched before now
-LeavesCheck Usage before now = OnlyPrinted usage_line before now
-LeavesCheck InputRefused before now = PrintsRefusal before now
-LeavesCheck status before now = OnlyPrintedSome before now
 
 -- What the answer of a run leaves; where links were named, a refusal may be that of a name.
 abbrev pub LeavesOrder : List (List ℕ) → Status → Seen → Seen → Type 0

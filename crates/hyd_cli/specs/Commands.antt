@@ -1,7 +1,7 @@
 -- What each command does, by the name of its answer: what is said of what it was asked, of what the desk told before
 -- and tells now, of how often files were opened and created, and, of `gen`, of whether one can be written to.
 -- Source: this program's.
-use Rattle.std.specs.Prelude.{◌≢◌, ℕ, Bool, List, [], ◌∷◌}
+use Rattle.std.specs.Prelude.{◌≢◌, ℕ, zero, suc, Bool, List, [], ◌∷◌, Some}
 use Rattle.hyd_io.specs.declared.desk.Openings.{Openings}
 use Rattle.hyd_io.specs.DeskBytes.{IsTold}
 use Rattle.hyd_net.specs.declared.refusal_cause.Cause.{Cause}
@@ -11,18 +11,29 @@ use Rattle.hyd_command_answers.specs.DeskContents.{Seen, OnlyPrintedSome, Change
 use Rattle.hyd_command_answers.specs.FaultsAndRefusals.{AnswersRefused}
 use Rattle.hyd_command_answers.specs.OpeningsOfRuns.{OpensOnce}
 use Rattle.hyd_command_answers.specs.WrittenCertificates.{Holds}
-use Rattle.hyd_cli.specs.RunAnswers.{settings_of}
+use Rattle.hyd_cli.specs.RunAnswers.{settings_of, asked_for}
 use Rattle.hyd_cli.specs.RunAnswers.{AnswersText}
 use Rattle.hyd_naming_command.specs.NamingAnswers.{AnswersTextNaming}
-use Rattle.hyd_cli.specs.CheckAnswers.{AnswersCheck, ReadsBoth}
+use Rattle.hyd_open_command.specs.OpenAnswers.{AnswersTextOpenly}
+use Rattle.hyd_open_certificates.specs.OpenFaults.{HasOpenHeader, LacksOpenHeader}
+use Rattle.hyd_check_command.specs.CheckAnswers.{AnswersCheck, ReadsBoth}
+use Rattle.hyd_check_command.specs.OpenCheckAnswers.{AnswersOpenCheck}
 use Rattle.hyd_cli.specs.GenAnswers.{text_of, AnswersGen, ChangesBoth, CreatesBoth, KeepsCert, KeepsNet}
 use Rattle.hyd_command_answers.specs.declared.status.Status.{Status}
 use Rattle.hyd_command_answers.specs.declared.status.Status.TheVariants.{InputRefused}
 
+-- What an answer says of a text without a fault where no links are named: its network is run, with ends of periods that
+-- may be open by so many seconds.
+abbrev pub AnswersPlainOrder : List ℕ → RunOrder → ℕ → Status → Seen → Seen → Type 0
+AnswersPlainOrder text order zero status before now =
+    AnswersText text (settings_of order) order.files.cert status before now
+AnswersPlainOrder text order (suc seconds) status before now =
+    AnswersTextOpenly text (asked_for order) order.files.cert status before now
+
 -- What an answer says of a text without a fault: its network is run, with the flows of the links that are named if any
 -- are, or the first name that doesn't fit is refused.
 abbrev pub AnswersOrder : List ℕ → RunOrder → List (List ℕ) → Status → Seen → Seen → Type 0
-AnswersOrder text order [] status before now = AnswersText text (settings_of order) order.files.cert status before now
+AnswersOrder text order [] status before now = AnswersPlainOrder text order order.slack status before now
 AnswersOrder text order (name ∷ names) status before now =
     AnswersTextNaming text (name ∷ names) (settings_of order) order.files.cert status before now
 
@@ -37,13 +48,18 @@ pub record DoesRun (order : RunOrder) (status : Status) (before now : Seen) (ope
   pub others : ChangesOnly order.files.cert before now
   pub once : OpensOnce status opened opens
 
--- `check`: a text with a fault is refused with it, and no other; by its network the text of CERT is checked; nothing is
--- created or written; NET and CERT are opened once at most.
+-- `check`: a text with a fault is refused with it, and no other; by its network the text of CERT is checked, as one of
+-- version 4 where it begins with a header line of that version, and else as one of the others; nothing is created or
+-- written; NET and CERT are opened once at most.
 pub record DoesCheck (files : TwoFiles) (status : Status) (before now : Seen) (opened opens : Openings) : Type 0 where
   pub refused : (text : List ℕ) (line : ℕ) (why : Cause) → IsTold before.files files.net text
       → IsFault text line why → AnswersRefused line why status before now
   pub checks : (text certificate : List ℕ) → IsTold before.files files.net text → HasNoFault text
-      → IsTold before.files files.cert certificate → AnswersCheck text certificate status before now
+      → IsTold before.files files.cert certificate → LacksOpenHeader (Some certificate)
+      → AnswersCheck text certificate status before now
+  pub checks_openly : (text certificate : List ℕ) → IsTold before.files files.net text → HasNoFault text
+      → IsTold before.files files.cert certificate → HasOpenHeader (Some certificate)
+      → AnswersOpenCheck text certificate status before now
   pub not_refused : (text : List ℕ) → IsTold before.files files.net text → HasNoFault text → status ≢ InputRefused
   pub only_prints : OnlyPrintedSome before now
   pub once : ReadsBoth status opened opens

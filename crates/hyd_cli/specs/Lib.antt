@@ -1,7 +1,6 @@
 pub mod WordsAndUsageLine
 pub mod Answers
 pub mod RunAnswers
-pub mod CheckAnswers
 pub mod GenAnswers
 pub mod TaskWithNetwork
 pub mod Commands

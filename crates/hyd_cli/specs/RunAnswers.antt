@@ -5,6 +5,7 @@ use Rattle.hyd_io.specs.DeskBytes.{where_told, append_known, file_at}
 use Rattle.hyd_spec.specs.ProgramTypes.{Project}
 use Rattle.hyd_spec_reports.specs.PromisesOfRunsAndChecks.{Outcome, RunWrites, RunBreaksOff, outcome_number}
 use Rattle.hyd_run.specs.Runs.{sharpness_of, EndNames, EndsInOrder}
+use Rattle.hyd_open_command.specs.OpenAnswers.{Asked}
 use Rattle.hyd_sim.specs.declared.settings.Settings.{Settings}
 use Rattle.hyd_command_words.specs.CommandGrammar.{RunOrder}
 use Rattle.hyd_command_answers.specs.Statuses.{number_of}
@@ -18,6 +19,11 @@ use Rattle.hyd_command_answers.specs.FaultsAndRefusals.{OfNetwork}
 -- What an order asks a run for.
 abbrev pub settings_of : RunOrder → Settings
 settings_of order = record { rounds = order.rounds; width = order.width; tight = order.tight }
+
+-- What an order asks a run for whose ends of periods may be open.
+abbrev pub asked_for : RunOrder → Asked
+asked_for order =
+    record { slack = order.slack; rounds = order.rounds; sharpness = sharpness_of (settings_of order) }
 
 -- The certificate of a run of the network was written to the file created in this call, where files are told, its
 -- report was printed, and every history agrees with them; the status says how the run ended. Where it stopped since no

@@ -11,19 +11,20 @@ ghost use Rattle.hyd_command_answers.specs.FaultsAndRefusals.{HasCause, AnswersR
 ghost use Rattle.hyd_command_words.specs.CommandGrammar.{run};
 ghost use Rattle.hyd_command_words.specs.CommandView.{run_seen};
 ghost use Rattle.hyd_cli.specs.Answers.{LeavesRun, Leaves};
-ghost use Rattle.hyd_cli.specs.Commands.{DoesRun};
+ghost use Rattle.hyd_cli.specs.Commands.{AnswersPlainOrder, DoesRun};
 ghost use Rattle.hyd_command_answers.specs.OpeningsOfRuns.{OpensCert, OpensOnce};
 ghost use Rattle.hyd_command_answers.specs.WrittenCertificates.{Holds};
 ghost use Rattle.hyd_cli.specs.RunAnswers.{AnswersRun, AnswersText};
 ghost use Rattle.hyd_command_answers.specs.declared.status.Status.TheVariants.{Usage};
 
-use crate::run_settings::settings_of;
+use crate::run_settings::{open_settings_of, settings_of};
 use crate::task_with_network::{Task, do_with_network};
 use hyd_command_answers::{Status, Unread, fault_status, read_network, refuse_text};
 use hyd_command_words::RunWords;
 use hyd_finders::{Finder, Gradient};
 use hyd_io::{Channel, Desk, Pen};
 use hyd_naming_command::{run_naming_links, say_end, status_of_end};
+use hyd_open_command::run_with_slack;
 use hyd_run::run;
 use hyd_sim::{Settings, Sim};
 use std::alloc::Global;
@@ -108,6 +109,33 @@ fn run_files<D: Desk>(
     }
 }
 
+/// The command `run` without flows of links: where no end of a period may be open, or where one may.
+fn run_without_flows<D: Desk>(alloc: Global, words: &RunWords<'_>, desk: &mut D) -> Status
+    requires opens { IsTrue (D.may_open words.now.files.net.now) }
+    requires creates { IsTrue (D.may_create words.now.files.cert.now) }
+    ensures cause { HasCause result (D.counts desk.old) (D.counts desk.new) }
+    ensures leaves { LeavesRun result
+        (seen D.files D.written D.printed desk.old) (seen D.files D.written D.printed desk.new) }
+    ensures never_usage { result ≢ Usage }
+    ensures refused { (text : List ℕ) (line : ℕ) (why : Cause) → IsTold (D.files desk.old) words.now.files.net.now text
+        → IsFault text line why → AnswersRefused line why result
+        (seen D.files D.written D.printed desk.old) (seen D.files D.written D.printed desk.new) }
+    ensures run { (text : List ℕ) → IsTold (D.files desk.old) words.now.files.net.now text → HasNoFault text
+        → AnswersPlainOrder text (run_seen words.now) words.now.slack result
+        (seen D.files D.written D.printed desk.old) (seen D.files D.written D.printed desk.new) }
+    ensures holds { Holds result words.now.files.cert.now
+        (seen D.files D.written D.printed desk.old) (seen D.files D.written D.printed desk.new) }
+    ensures others { ChangesOnly words.now.files.cert.now
+        (seen D.files D.written D.printed desk.old) (seen D.files D.written D.printed desk.new) }
+    ensures once { OpensOnce result (D.openings desk.old) (D.openings desk.new) }
+{
+    let files = words.files;
+    if words.slack == 0 {
+        return run_files(alloc, files.net, files.cert, settings_of(words), desk);
+    }
+    run_with_slack(alloc, files.net, files.cert, open_settings_of(words), desk)
+}
+
 /// The command `run`, with or without the flows of links.
 pub(crate) fn run_words<D: Desk>(alloc: Global, words: &RunWords<'_>, desk: &mut D) -> Status
     requires opens { IsTrue (D.may_open words.now.files.net.now) }
@@ -120,11 +148,10 @@ pub(crate) fn run_words<D: Desk>(alloc: Global, words: &RunWords<'_>, desk: &mut
         (seen D.files D.written D.printed desk.old) (seen D.files D.written D.printed desk.new)
         (D.openings desk.old) (D.openings desk.new) }
 {
+    if words.flows.is_empty() {
+        return run_without_flows(alloc, words, desk);
+    }
     let files = words.files;
     let settings = settings_of(words);
-    if words.flows.is_empty() {
-        run_files(alloc, files.net, files.cert, settings, desk)
-    } else {
-        run_naming_links(alloc, files.net, files.cert, &words.flows, settings, desk)
-    }
+    run_naming_links(alloc, files.net, files.cert, &words.flows, settings, desk)
 }

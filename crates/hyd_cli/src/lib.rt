@@ -4,7 +4,6 @@
 //! Tested by `hyd_stored_runs`.
 #![tactic(auto)]
 
-mod command_check;
 mod command_gen;
 mod command_run;
 mod help;

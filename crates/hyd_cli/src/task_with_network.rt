@@ -8,7 +8,6 @@ ghost use Rattle.hyd_command_answers.specs.DeskContents.{seen};
 ghost use Rattle.hyd_command_answers.specs.FaultsAndRefusals.{HasCause};
 ghost use Rattle.hyd_cli.specs.TaskWithNetwork.{MayDo, settings_for, DoesTask};
 
-use crate::command_check::check_by_run;
 use crate::command_gen::write_and_run;
 use crate::command_run::run_by_gradient;
 use hyd_command_answers::Status;
@@ -17,13 +16,6 @@ use hyd_io::Desk;
 use hyd_net::Project;
 use hyd_sim::{Settings, Sim};
 use std::alloc::Global;
-
-/// A check finds no vectors, so it needs no rounds.
-const NO_SEARCH: Settings = Settings {
-    rounds: 0,
-    width: 0,
-    tight: false,
-};
 
 /// What the run of a generated network is asked for.
 const USUAL: Settings = Settings {
@@ -37,8 +29,6 @@ const USUAL: Settings = Settings {
 pub(crate) enum Task<'a> {
     /// It is run: the certificate goes to CERT, and the report is printed.
     Run { cert: &'a str, settings: Settings },
-    /// CERT is checked against it, and the report is printed.
-    Check { cert: &'a str },
     /// Its text goes to NET, and it is run: the certificate goes to CERT, and a summary is printed.
     Gen { text: &'a [u8], files: Files<'a> },
 }
@@ -49,7 +39,6 @@ fn settings_for(task: Task<'_>) -> Settings
 {
     match task {
         Task::Run { settings, .. } => settings,
-        Task::Check { .. } => NO_SEARCH,
         Task::Gen { .. } => USUAL,
     }
 }
@@ -59,7 +48,7 @@ fn do_by_run<D: Desk>(alloc: Global, sim: &mut Sim, task: Task<'_>, desk: &mut D
     requires start { standing_of sim.old ≡ initial_standing sim.old.project }
     requires running { sim.old.stopped ≡ None }
     requires settings { sim.old.settings ≡ settings_for task }
-    requires names { MayDo D.may_open D.may_create task }
+    requires names { MayDo D.may_create task }
     ensures cause { HasCause result (D.counts desk.old) (D.counts desk.new) }
     ensures does { DoesTask task.entry sim.old.project result
         (seen D.files D.written D.printed desk.old) (seen D.files D.written D.printed desk.new)
@@ -67,7 +56,6 @@ fn do_by_run<D: Desk>(alloc: Global, sim: &mut Sim, task: Task<'_>, desk: &mut D
 {
     match task {
         Task::Run { cert, .. } => run_by_gradient(alloc, sim, cert, desk),
-        Task::Check { cert } => check_by_run(alloc, sim, cert, desk),
         Task::Gen { text, files } => write_and_run(alloc, sim, text, files, desk),
     }
 }
@@ -80,7 +68,7 @@ pub(crate) fn do_with_network<D: Desk>(
     desk: &mut D,
 ) -> Status
     requires sound { IsSound project }
-    requires names { MayDo D.may_open D.may_create task }
+    requires names { MayDo D.may_create task }
     ensures cause { HasCause result (D.counts desk.old) (D.counts desk.new) }
     ensures does { DoesTask task.entry project result
         (seen D.files D.written D.printed desk.old) (seen D.files D.written D.printed desk.new)

@@ -15,11 +15,11 @@ ghost use Rattle.hyd_witness_commands.specs.CommandMeet.{DoesMeet};
 ghost use Rattle.hyd_written_witnesses.specs.CommandWitness.{DoesWitness};
 ghost use Rattle.hyd_command_answers.specs.declared.status.Status.TheVariants.{Usage};
 
-use crate::command_check::check_files;
 use crate::command_gen::generate_network;
 use crate::command_run::run_words;
 use crate::help::read_command;
 use crate::usage::print_usage;
+use hyd_check_command::check_files;
 use hyd_command_answers::{Status, fault_status};
 use hyd_command_words::Command;
 use hyd_io::Desk;
@@ -30,10 +30,13 @@ use std::alloc::Global;
 
 /// Runs the command of the words after the program's name.
 ///
-/// - `run NET CERT [--sweeps N] [--width W] [--tight] [--flows IDS]` reads the network of NET, writes its certificate to
+/// - `run NET CERT [--sweeps N] [--width W] [--tight] [--flows IDS] [--slack N]` reads the network of NET, writes its certificate to
 ///   CERT and prints its report. With `--flows` CERT has behind each record two vectors for each link of these names, and
-///   the report a FLOW line for each, behind the lines of a period that begins at a report time.
-/// - `check NET CERT` reads both, and prints the report of the certificate as far as it is right.
+///   the report a FLOW line for each, behind the lines of a period that begins at a report time. With `--slack` above 0
+///   ends of periods may be open by so many seconds, and what is said holds of each history that keeps what it reaches.
+/// - `check NET CERT` reads both, and prints the report of the certificate as far as it is right. Where CERT begins with a
+///   header line of version 4, ends of periods may be open by as many seconds as it says, and what is said holds of each
+///   history that keeps what it reaches.
 /// - `gen SEED JUNCTIONS NET CERT` makes a network, writes it to NET, runs it as `run` does, and prints a summary.
 /// - `fire NET J P [--sweeps N]` reads the network of NET, and prints how much may be drawn at junction J with the
 ///   pressure P there.

@@ -8,7 +8,8 @@ use Rattle.std.specs.Char.{encode_utf8}
 use Rattle.std.specs.Str.{chars}
 use Rattle.std.proofs.lemmas.Str.{encodes-chars}
 use Rattle.clap.specs.Lexer.{long_of, short_of, has_byte, name_and_value}
-use Rattle.hyd_command_words.specs.OptionsAndNames.{Word, Kind, sweeps, width, flows, tight, name, wrong, says, wants}
+use Rattle.hyd_command_words.specs.OptionsAndNames.{Word, Kind, sweeps, width, slack, flows, tight, name, wrong}
+use Rattle.hyd_command_words.specs.OptionsAndNames.{says, wants}
 use Rattle.hyd_command_words.specs.OptionsAndNames.{begins_with_dash, kind_of, option_kind, ends}
 use lib.Pointwise.{bytes_decides}
 use Rattle.hyd_lemmas.proofs.BooleanTests.{or-false}
@@ -101,27 +102,32 @@ not_key (x ∷ xs) u (y ∷ ys) f = and_false (x == y) _ (not_key xs u ys (or-fa
 abbrev valued_kind : Word → Word → Kind
 valued_kind n v = cond (bytes_eq (codes "sweeps") n) (says (sweeps v))
     (cond (bytes_eq (codes "width") n) (says (width v))
-    (cond (bytes_eq (codes "flows") n) (says (flows v)) (says wrong)))
+    (cond (bytes_eq (codes "slack") n) (says (slack v))
+    (cond (bytes_eq (codes "flows") n) (says (flows v)) (says wrong))))
 
 -- what an option is, by its name and the value behind `=`
-abbrev pub kind_by : (is_tight is_sweeps is_width is_flows : Bool) → Option Word → Kind
-kind_by is_tight is_sweeps is_width is_flows None = cond is_tight (says tight)
-    (cond is_sweeps (wants sweeps) (cond is_width (wants width) (cond is_flows (wants flows) (says wrong))))
-kind_by is_tight is_sweeps is_width is_flows (Some v) = cond is_tight (says wrong)
-    (cond is_sweeps (says (sweeps v)) (cond is_width (says (width v)) (cond is_flows (says (flows v)) (says wrong))))
+abbrev pub kind_by : (is_tight is_sweeps is_width is_slack is_flows : Bool) → Option Word → Kind
+kind_by is_tight is_sweeps is_width is_slack is_flows None = cond is_tight (says tight)
+    (cond is_sweeps (wants sweeps) (cond is_width (wants width) (cond is_slack (wants slack)
+    (cond is_flows (wants flows) (says wrong)))))
+kind_by is_tight is_sweeps is_width is_slack is_flows (Some v) = cond is_tight (says wrong)
+    (cond is_sweeps (says (sweeps v)) (cond is_width (says (width v)) (cond is_slack (says (slack v))
+    (cond is_flows (says (flows v)) (says wrong)))))
 
 abbrev pub named_kind : Word → Option Word → Kind
 named_kind n v = kind_by (bytes_eq (codes "tight") n) (bytes_eq (codes "sweeps") n) (bytes_eq (codes "width") n)
-    (bytes_eq (codes "flows") n) v
+    (bytes_eq (codes "slack") n) (bytes_eq (codes "flows") n) v
 
 kind_alone : (t : Word) → has_byte 61 t ≡ false → option_kind (45 ∷ 45 ∷ t) ≡ named_kind t None
 kind_alone t e = λ i. cond (same_swapped t (codes "tight") i) (says tight)
     (cond (same_swapped t (codes "sweeps") i) (wants sweeps)
     (cond (same_swapped t (codes "width") i) (wants width)
+    (cond (same_swapped t (codes "slack") i) (wants slack)
     (cond (same_swapped t (codes "flows") i) (wants flows)
     (cond (no_key t (codes "sweeps") e i) (says (sweeps (drop 7 t)))
     (cond (no_key t (codes "width") e i) (says (width (drop 6 t)))
-    (cond (no_key t (codes "flows") e i) (says (flows (drop 6 t))) (says wrong)))))))
+    (cond (no_key t (codes "slack") e i) (says (slack (drop 6 t)))
+    (cond (no_key t (codes "flows") e i) (says (flows (drop 6 t))) (says wrong)))))))))
 
 sweeps_at : (n u : Word) (other : Kind) (b : Bool) → bytes_eq (codes "sweeps") n ≡ b
     → cond b (says (sweeps (drop 7 (n ++ 61 ∷ u)))) other ≡ cond b (says (sweeps u)) other
@@ -135,6 +141,12 @@ width_at n u other true e =
     ap (λ (m : Word). says (width (drop 6 (m ++ 61 ∷ u)))) (sym ((bytes_decides (codes "width") n).0 e))
 width_at n u other false e = refl
 
+slack_at : (n u : Word) (other : Kind) (b : Bool) → bytes_eq (codes "slack") n ≡ b
+    → cond b (says (slack (drop 6 (n ++ 61 ∷ u)))) other ≡ cond b (says (slack u)) other
+slack_at n u other true e =
+    ap (λ (m : Word). says (slack (drop 6 (m ++ 61 ∷ u)))) (sym ((bytes_decides (codes "slack") n).0 e))
+slack_at n u other false e = refl
+
 flows_at : (n u : Word) (other : Kind) (b : Bool) → bytes_eq (codes "flows") n ≡ b
     → cond b (says (flows (drop 6 (n ++ 61 ∷ u)))) other ≡ cond b (says (flows u)) other
 flows_at n u other true e =
@@ -146,15 +158,19 @@ kind_with_value n u e =
     (λ i. cond (not_key n u (codes "tight") refl i) (says tight)
     (cond (not_key n u (codes "sweeps") refl i) (wants sweeps)
     (cond (not_key n u (codes "width") refl i) (wants width)
+    (cond (not_key n u (codes "slack") refl i) (wants slack)
     (cond (not_key n u (codes "flows") refl i) (wants flows)
     (cond (key_then_equals n u (codes "sweeps") e refl i) (says (sweeps (drop 7 (n ++ 61 ∷ u))))
     (cond (key_then_equals n u (codes "width") e refl i) (says (width (drop 6 (n ++ 61 ∷ u))))
-    (cond (key_then_equals n u (codes "flows") e refl i) (says (flows (drop 6 (n ++ 61 ∷ u)))) (says wrong))))))))
+    (cond (key_then_equals n u (codes "slack") e refl i) (says (slack (drop 6 (n ++ 61 ∷ u))))
+    (cond (key_then_equals n u (codes "flows") e refl i) (says (flows (drop 6 (n ++ 61 ∷ u)))) (says wrong))))))))))
     ∙ sweeps_at n u _ (bytes_eq (codes "sweeps") n) refl
     ∙ ap (λ (k : Kind). cond (bytes_eq (codes "sweeps") n) (says (sweeps u)) k)
     (width_at n u _ (bytes_eq (codes "width") n) refl
     ∙ ap (λ (k : Kind). cond (bytes_eq (codes "width") n) (says (width u)) k)
-    (flows_at n u (says wrong) (bytes_eq (codes "flows") n) refl))
+    (slack_at n u _ (bytes_eq (codes "slack") n) refl
+    ∙ ap (λ (k : Kind). cond (bytes_eq (codes "slack") n) (says (slack u)) k)
+    (flows_at n u (says wrong) (bytes_eq (codes "flows") n) refl)))
     ∙ no_value (bytes_eq (codes "tight") n) refl
   where
     no_value : (b : Bool) → bytes_eq (codes "tight") n ≡ b → valued_kind n u ≡ cond b (says wrong) (valued_kind n u)
@@ -238,10 +254,12 @@ one_dash x xs e u =
     (cond (e i && bytes_eq xs (codes "tight")) (says tight)
     (cond (e i && bytes_eq xs (codes "sweeps")) (wants sweeps)
     (cond (e i && bytes_eq xs (codes "width")) (wants width)
+    (cond (e i && bytes_eq xs (codes "slack")) (wants slack)
     (cond (e i && bytes_eq xs (codes "flows")) (wants flows)
     (cond (swapped i && starts_with nat_eq xs (codes "sweeps=")) (says (sweeps (drop 9 word)))
     (cond (swapped i && starts_with nat_eq xs (codes "width=")) (says (width (drop 8 word)))
-    (cond (swapped i && starts_with nat_eq xs (codes "flows=")) (says (flows (drop 8 word))) (says wrong)))))))) in
+    (cond (swapped i && starts_with nat_eq xs (codes "slack=")) (says (slack (drop 8 word)))
+    (cond (swapped i && starts_with nat_eq xs (codes "flows=")) (says (flows (drop 8 word))) (says wrong)))))))))) in
     (x, xs, letter.0, (ap (λ (b : Bool). b && bytes_eq xs []) e, rw e refl, rw e refl, letter.1, kind, refl))
 
 -- an option without a value is its whole word

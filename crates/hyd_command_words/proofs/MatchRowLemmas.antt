@@ -11,7 +11,7 @@ use Rattle.clap.specs.declared.parser.matches.ValueSource.{ValueSource}
 use Rattle.clap.specs.declared.parser.matches.ValueSource.TheVariants.{CommandLine}
 use Rattle.clap.specs.declared.builder.value_parser.Reading.TheVariants.{AsWritten}
 use Rattle.hyd_command_words.proofs.SaidLemmas.{joined}
-use Rattle.hyd_command_words.specs.OptionsAndNames.{Word, said_by, sweeps, width, flows, tight, name}
+use Rattle.hyd_command_words.specs.OptionsAndNames.{Word, said_by, sweeps, width, slack, flows, tight, name}
 use Rattle.hyd_command_words.specs.ClapParser.{all_values, words_command, said_of}
 use lib.Pointwise.{bytes_decides}
 
@@ -72,6 +72,7 @@ pub sweeps_used : (v : Word) (rows : List Row)
 sweeps_used v rows = λ i. record {
   sweeps_values = same_id (codes "sweeps") AsWritten CommandLine (v ∷ []) rows i;
   width_values = kept (codes "sweeps") AsWritten CommandLine (v ∷ []) rows (codes "width") refl i;
+  slack_values = kept (codes "sweeps") AsWritten CommandLine (v ∷ []) rows (codes "slack") refl i;
   flows_values = kept (codes "sweeps") AsWritten CommandLine (v ∷ []) rows (codes "flows") refl i;
   tight_count = count_kept (codes "sweeps") AsWritten CommandLine (v ∷ []) rows refl i;
   names = kept (codes "sweeps") AsWritten CommandLine (v ∷ []) rows (codes "names") refl i;
@@ -83,9 +84,22 @@ pub width_used : (v : Word) (rows : List Row)
 width_used v rows = λ i. record {
   sweeps_values = kept (codes "width") AsWritten CommandLine (v ∷ []) rows (codes "sweeps") refl i;
   width_values = same_id (codes "width") AsWritten CommandLine (v ∷ []) rows i;
+  slack_values = kept (codes "width") AsWritten CommandLine (v ∷ []) rows (codes "slack") refl i;
   flows_values = kept (codes "width") AsWritten CommandLine (v ∷ []) rows (codes "flows") refl i;
   tight_count = count_kept (codes "width") AsWritten CommandLine (v ∷ []) rows refl i;
   names = kept (codes "width") AsWritten CommandLine (v ∷ []) rows (codes "names") refl i;
+  has_wrong = false;
+}
+
+pub slack_used : (v : Word) (rows : List Row)
+    → said_of (used_by (codes "slack") (v ∷ []) rows) ≡ joined (said_of rows) (said_by (slack v ∷ []))
+slack_used v rows = λ i. record {
+  sweeps_values = kept (codes "slack") AsWritten CommandLine (v ∷ []) rows (codes "sweeps") refl i;
+  width_values = kept (codes "slack") AsWritten CommandLine (v ∷ []) rows (codes "width") refl i;
+  slack_values = same_id (codes "slack") AsWritten CommandLine (v ∷ []) rows i;
+  flows_values = kept (codes "slack") AsWritten CommandLine (v ∷ []) rows (codes "flows") refl i;
+  tight_count = count_kept (codes "slack") AsWritten CommandLine (v ∷ []) rows refl i;
+  names = kept (codes "slack") AsWritten CommandLine (v ∷ []) rows (codes "names") refl i;
   has_wrong = false;
 }
 
@@ -94,6 +108,7 @@ pub flows_used : (v : Word) (rows : List Row)
 flows_used v rows = λ i. record {
   sweeps_values = kept (codes "flows") AsWritten CommandLine (v ∷ []) rows (codes "sweeps") refl i;
   width_values = kept (codes "flows") AsWritten CommandLine (v ∷ []) rows (codes "width") refl i;
+  slack_values = kept (codes "flows") AsWritten CommandLine (v ∷ []) rows (codes "slack") refl i;
   flows_values = same_id (codes "flows") AsWritten CommandLine (v ∷ []) rows i;
   tight_count = count_kept (codes "flows") AsWritten CommandLine (v ∷ []) rows refl i;
   names = kept (codes "flows") AsWritten CommandLine (v ∷ []) rows (codes "names") refl i;
@@ -105,6 +120,7 @@ pub name_used : (v : Word) (rows : List Row)
 name_used v rows = λ i. record {
   sweeps_values = kept (codes "names") AsWritten CommandLine (v ∷ []) rows (codes "sweeps") refl i;
   width_values = kept (codes "names") AsWritten CommandLine (v ∷ []) rows (codes "width") refl i;
+  slack_values = kept (codes "names") AsWritten CommandLine (v ∷ []) rows (codes "slack") refl i;
   flows_values = kept (codes "names") AsWritten CommandLine (v ∷ []) rows (codes "flows") refl i;
   tight_count = count_kept (codes "names") AsWritten CommandLine (v ∷ []) rows refl i;
   names = same_id (codes "names") AsWritten CommandLine (v ∷ []) rows i;
@@ -120,6 +136,7 @@ pub tight_used : (rows : List Row)
 tight_used rows = λ i. record {
   sweeps_values = kept (codes "tight") AsWritten CommandLine ([] ∷ []) rows (codes "sweeps") refl i;
   width_values = kept (codes "tight") AsWritten CommandLine ([] ∷ []) rows (codes "width") refl i;
+  slack_values = kept (codes "tight") AsWritten CommandLine ([] ∷ []) rows (codes "slack") refl i;
   flows_values = kept (codes "tight") AsWritten CommandLine ([] ∷ []) rows (codes "flows") refl i;
   tight_count = (ap (λ (xs : List Text). length xs) (same_id (codes "tight") AsWritten CommandLine ([] ∷ []) rows)
       ∙ one_more (all_values (codes "tight") rows) []) i;

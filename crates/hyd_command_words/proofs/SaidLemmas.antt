@@ -4,8 +4,8 @@ use Rattle.std.proofs.Common.{append_assoc}
 use Rattle.std.specs.Prelude.{filter}
 use Rattle.std.specs.List.{list_any}
 use Rattle.std.proofs.lemmas.List.Elements.{filter_map-append}
-use Rattle.hyd_command_words.specs.OptionsAndNames.{Part, Said, sweeps, width, flows, tight, name, wrong}
-use Rattle.hyd_command_words.specs.OptionsAndNames.{sweeps_value, width_value, flows_value}
+use Rattle.hyd_command_words.specs.OptionsAndNames.{Part, Said, sweeps, width, slack, flows, tight, name, wrong}
+use Rattle.hyd_command_words.specs.OptionsAndNames.{sweeps_value, width_value, slack_value, flows_value}
 use Rattle.hyd_command_words.specs.OptionsAndNames.{named}
 use Rattle.hyd_command_words.specs.OptionsAndNames.{is_tight, is_wrong, said_by}
 
@@ -14,6 +14,7 @@ abbrev pub joined : Said → Said → Said
 joined first next = record {
   sweeps_values = first.sweeps_values ++ next.sweeps_values;
   width_values = first.width_values ++ next.width_values;
+  slack_values = first.slack_values ++ next.slack_values;
   flows_values = first.flows_values ++ next.flows_values;
   tight_count = first.tight_count + next.tight_count;
   names = first.names ++ next.names;
@@ -31,6 +32,7 @@ pub joined_assoc : (a b c : Said) → joined (joined a b) c ≡ joined a (joined
 joined_assoc a b c = λ i. record {
   sweeps_values = append_assoc a.sweeps_values b.sweeps_values c.sweeps_values i;
   width_values = append_assoc a.width_values b.width_values c.width_values i;
+  slack_values = append_assoc a.slack_values b.slack_values c.slack_values i;
   flows_values = append_assoc a.flows_values b.flows_values c.flows_values i;
   tight_count = add_assoc a.tight_count b.tight_count c.tight_count i;
   names = append_assoc a.names b.names c.names i;
@@ -41,6 +43,7 @@ wrong_first : (p : Part) (ps : List Part)
     → (is_wrong p || list_any is_wrong ps) ≡ ((is_wrong p || false) || list_any is_wrong ps)
 wrong_first (sweeps v) ps = refl
 wrong_first (width v) ps = refl
+wrong_first (slack v) ps = refl
 wrong_first (flows v) ps = refl
 wrong_first tight ps = refl
 wrong_first (name v) ps = refl
@@ -50,6 +53,7 @@ tight_first : (p : Part) (ps : List Part)
     → length (filter is_tight (p ∷ ps)) ≡ length (filter is_tight (p ∷ [])) + length (filter is_tight ps)
 tight_first (sweeps v) ps = omega arith
 tight_first (width v) ps = omega arith
+tight_first (slack v) ps = omega arith
 tight_first (flows v) ps = omega arith
 tight_first tight ps = omega arith
 tight_first (name v) ps = omega arith
@@ -59,6 +63,7 @@ pub part_first : (p : Part) (ps : List Part) → said_by (p ∷ ps) ≡ joined (
 part_first p ps = λ i. record {
   sweeps_values = filter_map-append sweeps_value (p ∷ []) ps i;
   width_values = filter_map-append width_value (p ∷ []) ps i;
+  slack_values = filter_map-append slack_value (p ∷ []) ps i;
   flows_values = filter_map-append flows_value (p ∷ []) ps i;
   tight_count = tight_first p ps i;
   names = filter_map-append named (p ∷ []) ps i;

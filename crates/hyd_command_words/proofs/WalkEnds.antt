@@ -116,6 +116,7 @@ nothing_more rows =
     λ i. record {
       sweeps_values = sym (append-nil s.sweeps_values) i;
       width_values = sym (append-nil s.width_values) i;
+      slack_values = sym (append-nil s.slack_values) i;
       flows_values = sym (append-nil s.flows_values) i;
       tight_count = count i;
       names = sym (append-nil s.names) i;

@@ -32,9 +32,12 @@ bare = record (new_app (codes "hyd")) {
   };
 }
 
+abbrev pub with_sharpness : App
+with_sharpness =
+    with_rule (with_rule (with_rule bare tight_rule) (valued_rule (codes "sweeps"))) (valued_rule (codes "width"))
+
 abbrev pub with_options : App
-with_options = with_rule (with_rule (with_rule (with_rule bare tight_rule) (valued_rule (codes "sweeps")))
-    (valued_rule (codes "width"))) (valued_rule (codes "flows"))
+with_options = with_rule (with_rule with_sharpness (valued_rule (codes "slack"))) (valued_rule (codes "flows"))
 
 abbrev pub words_command : App
 words_command = with_rule with_options names_rule
@@ -48,6 +51,7 @@ abbrev pub said_of : List Row → Said
 said_of rows = record {
   sweeps_values = all_values (codes "sweeps") rows;
   width_values = all_values (codes "width") rows;
+  slack_values = all_values (codes "slack") rows;
   flows_values = all_values (codes "flows") rows;
   tight_count = length (all_values (codes "tight") rows);
   names = all_values (codes "names") rows;

@@ -12,13 +12,14 @@ pub record TwoFiles : Type 0 where
   pub net : Word
   pub cert : Word
 
--- `run`: its files, the greatest number of rounds, the width in head ticks of 10^-13 m, whether vectors are tight, and
--- the names of the links whose flows are asked for
+-- `run`: its files, the greatest number of rounds, the width in head ticks of 10^-13 m, whether vectors are tight, by how
+-- many seconds ends of periods may be open, and the names of the links whose flows are asked for
 pub record RunOrder : Type 0 where
   pub files : TwoFiles
   pub rounds : ℕ
   pub width : ℤ
   pub tight : Bool
+  pub slack : ℕ
   pub flows : List Word
 
 -- `gen`: its seed, the number of junctions, and its files
@@ -101,6 +102,14 @@ default_width = pos (10 ^ 11)
 abbrev pub width_of : List Word → Option ℤ
 width_of values = once default_width width_in_ticks values
 
+-- N of `--slack` where a command does not give it: no end is open.
+abbrev pub default_slack : ℕ
+default_slack = 0
+
+-- the seconds of `--slack`: at most a day
+abbrev pub slack_of : List Word → Option ℕ
+slack_of values = once default_slack (number_within 5 0 86400) values
+
 -- IDS, by default none: no name
 abbrev pub flows_of : List Word → Option (List Word)
 flows_of values = once [] names_of_ids values
@@ -182,24 +191,32 @@ is_sound s = not s.has_wrong && nat_le s.tight_count 1
 abbrev pub has_names_alone : Said → Bool
 has_names_alone s =
     not s.has_wrong && (s.tight_count == 0 && (length s.sweeps_values == 0
-    && (length s.width_values == 0 && length s.flows_values == 0)))
+    && (length s.width_values == 0 && (length s.slack_values == 0 && length s.flows_values == 0))))
 
 -- nothing is wrong, and no option but `--sweeps` stands
 abbrev pub has_rounds_at_most : Said → Bool
 has_rounds_at_most s =
-    not s.has_wrong && (s.tight_count == 0 && (length s.width_values == 0 && length s.flows_values == 0))
+    not s.has_wrong && (s.tight_count == 0
+    && (length s.width_values == 0 && (length s.slack_values == 0 && length s.flows_values == 0)))
 
--- `run NET CERT`, with `--sweeps N`, `--width W`, `--tight` and `--flows IDS` once each at most
+-- flows of links are asked for only where no end may be open
+abbrev pub go_together : ℕ → List Word → Bool
+go_together slack links = (slack == 0) || (length links == 0)
+
+-- `run NET CERT`, with `--sweeps N`, `--width W`, `--tight`, `--slack N` and `--flows IDS` once each at most
 abbrev pub run_order : Said → Option RunOrder
 run_order s =
     if is_sound s
-    then option_and_then (λ n. option_and_then (λ w. option_and_then (λ links. option_map (λ f. record {
+    then option_and_then (λ n. option_and_then (λ w. option_and_then (λ late. option_and_then (λ links.
+    if go_together late links then option_map (λ f. record {
       files = f;
       rounds = n;
       width = w;
       tight = s.tight_count == 1;
+      slack = late;
       flows = links;
-    }) (two_files s.names)) (flows_of s.flows_values)) (width_of s.width_values)) (rounds_of s.sweeps_values)
+    }) (two_files s.names) else None) (flows_of s.flows_values)) (slack_of s.slack_values)) (width_of s.width_values))
+    (rounds_of s.sweeps_values)
     else None
 
 abbrev pub run_command : Said → Option Order

@@ -31,6 +31,7 @@ run_seen r = record {
   rounds = r.rounds;
   width = r.width;
   tight = r.tight;
+  slack = r.slack;
   flows = names_seen r.flows;
 }
 
@@ -69,6 +70,7 @@ abbrev pub said_seen : Read → Said
 said_seen s = record {
   sweeps_values = texts_seen s.sweeps_values.now;
   width_values = texts_seen s.width_values.now;
+  slack_values = texts_seen s.slack_values.now;
   flows_values = texts_seen s.flows_values.now;
   tight_count = s.tight_count;
   names = texts_seen s.names.now;

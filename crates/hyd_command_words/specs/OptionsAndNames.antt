@@ -14,6 +14,8 @@ pub data Part : Type 0 where
   sweeps : Word → Part
   -- `--width` with a value
   width : Word → Part
+  -- `--slack` with a value
+  slack : Word → Part
   -- `--flows` with a value
   flows : Word → Part
   -- `--tight`
@@ -44,8 +46,9 @@ abbrev pub option_with_value : Word → Kind
 option_with_value word =
     if starts_with nat_eq word (codes "--sweeps=") then says (sweeps (drop 9 word))
     else (if starts_with nat_eq word (codes "--width=") then says (width (drop 8 word))
+    else (if starts_with nat_eq word (codes "--slack=") then says (slack (drop 8 word))
     else (if starts_with nat_eq word (codes "--flows=") then says (flows (drop 8 word))
-    else says wrong))
+    else says wrong)))
 
 -- an option alone, before its value where it has one, or with its value
 abbrev pub option_kind : Word → Kind
@@ -53,8 +56,9 @@ option_kind word =
     if bytes_eq word (codes "--tight") then says tight
     else (if bytes_eq word (codes "--sweeps") then wants sweeps
     else (if bytes_eq word (codes "--width") then wants width
+    else (if bytes_eq word (codes "--slack") then wants slack
     else (if bytes_eq word (codes "--flows") then wants flows
-    else option_with_value word)))
+    else option_with_value word))))
 
 unfoldable pub kind_of : Word → Kind
 kind_of word =
@@ -92,6 +96,10 @@ abbrev pub width_value : Part → Option Word
 width_value (width value) = Some value
 width_value _ = None
 
+abbrev pub slack_value : Part → Option Word
+slack_value (slack value) = Some value
+slack_value _ = None
+
 abbrev pub flows_value : Part → Option Word
 flows_value (flows value) = Some value
 flows_value _ = None
@@ -112,6 +120,7 @@ is_wrong _ = false
 pub record Said : Type 0 where
   pub sweeps_values : List Word
   pub width_values : List Word
+  pub slack_values : List Word
   pub flows_values : List Word
   pub tight_count : ℕ
   pub names : List Word
@@ -122,6 +131,7 @@ abbrev pub said_by : List Part → Said
 said_by said = record {
   sweeps_values = filter_map sweeps_value said;
   width_values = filter_map width_value said;
+  slack_values = filter_map slack_value said;
   flows_values = filter_map flows_value said;
   tight_count = length (filter is_tight said);
   names = filter_map named said;

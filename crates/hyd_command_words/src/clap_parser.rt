@@ -40,10 +40,18 @@ fn words_command<'a>(alloc: Global) -> Result<Command<'a>, AllocError>
 fn with_options<'a>(alloc: Global) -> Result<Command<'a>, AllocError>
     ensures { IfOk result (λ command. app_of command ≡ parser.with_options) }
 {
+    let command = with_sharpness(alloc)?;
+    let command = command.arg(valued(alloc, "slack"))?;
+    command.arg(valued(alloc, "flows"))
+}
+
+// The options on how sharp vectors are.
+fn with_sharpness<'a>(alloc: Global) -> Result<Command<'a>, AllocError>
+    ensures { IfOk result (λ command. app_of command ≡ parser.with_sharpness) }
+{
     let command = bare(alloc).arg(tight(alloc))?;
     let command = command.arg(valued(alloc, "sweeps"))?;
-    let command = command.arg(valued(alloc, "width"))?;
-    command.arg(valued(alloc, "flows"))
+    command.arg(valued(alloc, "width"))
 }
 
 fn bare<'a>(alloc: Global) -> Command<'a>

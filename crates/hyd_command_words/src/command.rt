@@ -24,7 +24,7 @@ pub struct LinkNames<'a> {
     pub ghost distinct: { AllPairs (λ one later. one ≢ later) (names_given (option_map (λ text. text.now) ids)) },
 }
 
-/// What `run NET CERT [--sweeps N] [--width W] [--tight] [--flows IDS]` asks for.
+/// What `run NET CERT [--sweeps N] [--width W] [--tight] [--flows IDS] [--slack N]` asks for.
 #[derive(Clone, Copy)]
 pub struct RunWords<'a> {
     /// The network, which is read, and the certificate, which is written.
@@ -35,6 +35,9 @@ pub struct RunWords<'a> {
     pub width: i64,
     /// Whether `--tight` is given.
     pub tight: bool,
+    /// N of `--slack`: by at most how many seconds an end of a period may be open, from 0 to 86,400; 0 where it isn't
+    /// given. No flows are asked for where it is above 0.
+    pub slack: u32,
     /// The names of links that `--flows` gives.
     pub flows: LinkNames<'a>,
 }
@@ -98,7 +101,7 @@ pub struct MeetWords<'a> {
 /// A command of the program.
 #[derive(Clone, Copy)]
 pub enum Command<'a> {
-    /// `run NET CERT [--sweeps N] [--width W] [--tight] [--flows IDS]`.
+    /// `run NET CERT [--sweeps N] [--width W] [--tight] [--flows IDS] [--slack N]`.
     Run(RunWords<'a>),
     /// `check NET CERT`: both files are read.
     Check(Files<'a>),

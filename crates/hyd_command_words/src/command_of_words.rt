@@ -15,7 +15,7 @@ use std::alloc::{AllocError, Global};
 /// names in it are the words' own.
 ///
 /// The first word is the command's, in lower case. Of the others, from left to right, `--sweeps`,
-/// `--width` and `--flows` take the next word as value, which doesn't begin with `-`, or have it behind `=` in the
+/// `--width`, `--slack` and `--flows` take the next word as value, which doesn't begin with `-`, or have it behind `=` in the
 /// same word. Behind a word `--` every word stands by its position, and before it each word that
 /// doesn't begin with `-` or is `-` alone. Each option stands once at most: `--sweeps` for `run`, `fire` and
 /// `closures`, the others for `run` alone.

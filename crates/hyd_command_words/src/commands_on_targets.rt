@@ -36,7 +36,10 @@ pub(crate) fn closures_command<'a>(said: Said<'_, 'a>) -> Option<Command<'a>>
 fn has_more_than_rounds(said: Said<'_, '_>) -> bool
     ensures { result ≡ not (orders.has_rounds_at_most (said_seen said.entry)) }
 {
-    said.tight_count > 0 || said.width_values.len() > 0 || said.flows_values.len() > 0
+    said.tight_count > 0
+        || said.width_values.len() > 0
+        || said.slack_values.len() > 0
+        || said.flows_values.len() > 0
 }
 
 fn fire_words<'a>(rounds: u32, names: &[&'a str]) -> Option<FireWords<'a>>

@@ -3,12 +3,12 @@
 ghost use Rattle.std.specs.Prelude.{◌≡◌, ◌-◌, option_map, not, ◌==◌, ◌||◌};
 ghost use Rattle.hyd_command_words.specs.CommandGrammar as orders;
 ghost use Rattle.hyd_command_words.specs.CommandView.{said_seen, texts_seen, order_seen, gen_seen};
-ghost use Rattle.hyd_command_words.specs.CommandView.{files_seen, witness_seen, meet_seen};
+ghost use Rattle.hyd_command_words.specs.CommandView.{files_seen, names_seen, witness_seen, meet_seen};
 
-use crate::command::{Command, Files, GenWords, MeetWords, RunWords, WitnessWords};
+use crate::command::{Command, Files, GenWords, LinkNames, MeetWords, RunWords, WitnessWords};
 use crate::commands_on_targets::{closures_command, fire_command};
 use crate::names_of_links::flows_of;
-use crate::numbers::{number_within, rounds_of, width_of};
+use crate::numbers::{number_within, rounds_of, slack_of, width_of};
 use crate::said_words::Said;
 
 /// The command of this name, if what is said behind it fits.
@@ -47,15 +47,27 @@ fn run_command<'a>(said: Said<'_, 'a>) -> Option<Command<'a>>
     }
     let rounds = rounds_of(said.sweeps_values)?;
     let width = width_of(said.width_values)?;
+    let slack = slack_of(said.slack_values)?;
     let flows = flows_of(said.flows_values)?;
+    if !go_together(slack, &flows) {
+        return None;
+    }
     let files = two_files(said.names)?;
     Some(Command::Run(RunWords {
         files,
         rounds,
         width,
         tight: said.tight_count == 1,
+        slack,
         flows,
     }))
+}
+
+// Whether flows of links are asked for only where no end may be open.
+fn go_together(slack: u32, flows: &LinkNames<'_>) -> bool
+    ensures { result ≡ orders.go_together slack (names_seen flows.now) }
+{
+    slack == 0 || flows.is_empty()
 }
 
 fn check_command<'a>(said: Said<'_, 'a>) -> Option<Command<'a>>
@@ -105,6 +117,7 @@ fn has_options(said: Said<'_, '_>) -> bool
     said.tight_count > 0
         || said.sweeps_values.len() > 0
         || said.width_values.len() > 0
+        || said.slack_values.len() > 0
         || said.flows_values.len() > 0
 }
 

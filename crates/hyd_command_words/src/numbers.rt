@@ -22,6 +22,9 @@ const TICKS: i128 = HEAD_TICKS_IN_BILLIONTH_OF_METRE as i128;
 /// The greatest number of rounds of a vector where a command gives none.
 pub const DEFAULT_ROUNDS: u32 = 200;
 
+/// By how many seconds an end of a period may be open where a command doesn't say: by none.
+pub const DEFAULT_SLACK: u32 = 0;
+
 /// The width in head ticks of 10^-13 m where a command gives none: 0.01 m.
 pub const DEFAULT_WIDTH: i64 = 100_000_000_000;
 
@@ -60,6 +63,17 @@ fn width_in_ticks(text: &[u8]) -> Option<i64>
         return None;
     }
     Some((metres.nano * TICKS) as i64)
+}
+
+/// N of `--slack`, seconds, by the values that are given for it.
+pub(crate) fn slack_of(values: &[&str]) -> Option<u32>
+    ensures { result ≡ orders.slack_of (texts_seen values.now) }
+{
+    match values {
+        [] => Some(DEFAULT_SLACK),
+        [value] => number_within(value.as_bytes(), 5, 0, 86_400),
+        _ => None,
+    }
 }
 
 /// P, a number of at most 10^4 in magnitude.

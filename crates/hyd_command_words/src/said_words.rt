@@ -13,6 +13,7 @@ use clap::ArgMatches;
 pub(crate) struct Said<'m, 'a> {
     pub(crate) sweeps_values: &'m [&'a str],
     pub(crate) width_values: &'m [&'a str],
+    pub(crate) slack_values: &'m [&'a str],
     pub(crate) flows_values: &'m [&'a str],
     pub(crate) tight_count: usize,
     pub(crate) names: &'m [&'a str],
@@ -25,6 +26,7 @@ pub(crate) fn said_by<'m, 'a>(matches: &'m ArgMatches<'a>) -> Said<'m, 'a>
     Said {
         sweeps_values: values(matches, "sweeps"),
         width_values: values(matches, "width"),
+        slack_values: values(matches, "slack"),
         flows_values: values(matches, "flows"),
         tight_count: values(matches, "tight").len(),
         names: values(matches, "names"),

@@ -106,14 +106,6 @@ pub(crate) fn bound_flow(net: &Net, side: Side, tie: Tie, head: i64, other: i64)
     }
 }
 
-/// Whether what leaves a junction beside its links is the same at every head.
-pub(crate) fn is_flat(net: &Net, junction: u32) -> bool {
-    if junction >= net.junctions() {
-        return true;
-    }
-    matches!(net.demand_law(junction), OutLaw::Fixed(_)) && net.emitter_law(junction).is_none()
-}
-
 /// The head difference along a link.
 pub(crate) fn difference(heads: &[i64], ends: Ends) -> i64 {
     number_at(heads, ends.from).saturating_sub(number_at(heads, ends.to))

@@ -5,7 +5,6 @@ ghost use Rattle.std.specs.Prelude.{None};
 ghost use Rattle.hyd_period_network.specs.SoundNets.{HasProblem};
 
 use crate::convergence::Progress;
-use crate::descent_to_tight_vector::Descent;
 use crate::earlier_middles::EarlierMiddles;
 use crate::finder::Finder;
 use crate::flow_form::FlowForm;
@@ -18,6 +17,7 @@ use crate::raises::NoValue;
 use crate::weights_of_misses::{greatest_ratio, put_weights};
 use hyd_period_network::Net;
 use hyd_spec_certificates::{Problem, Side};
+use hyd_tight_starts::Descent;
 use std::alloc::{AllocError as OutOfMemory, Global};
 
 /// The ratio of misses to weights from which on flows and heads are moved together. Between the problems and sides of a
@@ -52,11 +52,6 @@ const LOADS: u32 = 35;
 const SMALL_LOADS: u32 = 10;
 
 const LITTLE_MORE: f64 = 1.125;
-
-/// The most steps from a certificate toward the tight vector, and how often sets of junctions are lowered after each.
-const DESCENTS: u32 = 200;
-
-const LOWERINGS: u32 = 10;
 
 /// Finds certificates by the gradient method: Newton steps on whole head ticks to heads at which the junctions' flows
 /// balance (Todini and Pilati 1988), then to heads at which a little is left over at each junction, or lacks, until
@@ -320,33 +315,6 @@ impl Gradient {
         self.find_middle(net);
         self.find_shifted(net, side).unwrap_or(false)
     }
-
-    // One step from the certificate toward where the junctions pass by nothing.
-    fn close(&mut self, net: &Net, side: Side) {
-        self.descent.put_over(net, side, &mut self.course.misses);
-        self.tangent.put(
-            net,
-            &self.course.curves,
-            &self.course.flat,
-            &self.descent.heads,
-            &self.course.misses,
-        );
-        self.tangent.solve(&self.course.misses);
-        self.descent
-            .go(net, side, self.tangent.step(), &mut self.mender);
-    }
-
-    // Whether the tight vector is reached from the proposal.
-    fn descend(&mut self, net: &Net, side: Side) -> bool {
-        self.descent.begin(&self.course.heads, &self.proposal);
-        for _ in 0..DESCENTS {
-            self.close(net, side);
-            if self.descent.settles(net, side, LOWERINGS) {
-                return true;
-            }
-        }
-        false
-    }
 }
 
 impl Finder for Gradient {
@@ -366,11 +334,11 @@ impl Finder for Gradient {
         out: &mut [i64],
         order: &mut [u32],
     ) -> bool {
-        if !self.find(net, problem, side) || !self.descend(net, side) {
+        if !self.find(net, problem, side) {
             return false;
         }
-        copy(&self.descent.heads, out);
-        self.descent.copy_order(order);
-        true
+        copy(&self.proposal, out);
+        self.descent
+            .descend_among(net, side, &self.course.heads, out, order)
     }
 }

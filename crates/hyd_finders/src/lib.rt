@@ -6,7 +6,6 @@
 
 mod conjugate_gradients;
 mod convergence;
-mod descent_to_tight_vector;
 mod earlier_middles;
 mod finder;
 mod flow_curves;
@@ -22,7 +21,6 @@ mod number_lists;
 mod power_curves;
 mod raises;
 mod slopes;
-mod tightness_test;
 mod weights_of_misses;
 
 pub use finder::{Finder, Null};

@@ -24,11 +24,6 @@ const RAISES: u32 = 4;
 
 const SPARE_RAISES: u32 = 20;
 
-/// On the way to the tight vector so many for each junction, and so many more.
-const RAISES_ON_WAY: u32 = 2;
-
-const SPARE_RAISES_ON_WAY: u32 = 200;
-
 /// The junctions that may fall short, opened once.
 #[derive(Drop)]
 pub(crate) struct Mender {
@@ -172,23 +167,6 @@ impl Mender {
             .short
             .saturating_mul(RAISES)
             .saturating_add(SPARE_RAISES);
-    }
-
-    /// Notes the junctions that fall short at given heads of all nodes, and tells whether they are few.
-    pub(crate) fn note_short(&mut self, net: &Net, side: Side, heads: &[i64]) -> bool {
-        self.queue.clear();
-        let mut short = 0u32;
-        for junction in 0..net.junctions() {
-            if !passes(net, side, heads, junction, number_at(heads, junction)) {
-                self.queue.put(junction);
-                short = short.saturating_add(1);
-            }
-        }
-        self.left = net
-            .junctions()
-            .saturating_mul(RAISES_ON_WAY)
-            .saturating_add(SPARE_RAISES_ON_WAY);
-        short <= most_short(net)
     }
 
     // Notes the junctions beside another.

@@ -13,15 +13,6 @@ pub(crate) fn real_at(numbers: &[f64], place: u32) -> f64 {
     numbers.get(place as usize).copied().unwrap_or(0.0)
 }
 
-/// Adds to the number at a place.
-pub(crate) fn add_at(numbers: &mut [i64], place: u32, more: i64)
-    ensures { length numbers.new ≡ length numbers.old }
-{
-    if let Some(number) = numbers.get_mut(place as usize) {
-        *number = number.saturating_add(more);
-    }
-}
-
 /// Adds to the number at a place, in floating point.
 pub(crate) fn add_real_at(numbers: &mut [f64], place: u32, more: f64)
     ensures { length numbers.new ≡ length numbers.old }

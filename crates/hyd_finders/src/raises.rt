@@ -8,7 +8,6 @@ use crate::number_lists::number_at;
 use hyd_period_network::Net;
 use hyd_spec_certificates::Side;
 use hyd_vector_check::is_in_box;
-use std::num::nearest_i64_to_f64;
 
 /// How often the way of a raise is doubled.
 const DOUBLINGS: u32 = 60;
@@ -39,8 +38,8 @@ pub(crate) fn outward(side: Side, ticks: i64) -> i64 {
     }
 }
 
-/// By how much a junction passes at a head: less than 0 where it falls short.
-pub(crate) fn over(net: &Net, side: Side, heads: &[i64], junction: u32, head: i64) -> i64 {
+// By how much a junction passes at a head: less than 0 where it falls short.
+fn over(net: &Net, side: Side, heads: &[i64], junction: u32, head: i64) -> i64 {
     if junction >= net.junctions() {
         return 0;
     }
@@ -55,34 +54,11 @@ pub(crate) fn passes(net: &Net, side: Side, heads: &[i64], junction: u32, head: 
     over(net, side, heads, junction, head) >= 0
 }
 
-/// The head so many ticks farther out.
-pub(crate) fn further(side: Side, head: i64, ticks: i64) -> i64 {
+// The head so many ticks farther out.
+fn further(side: Side, head: i64, ticks: i64) -> i64 {
     match side {
         Side::Upper => head.saturating_add(ticks),
         Side::Lower => head.saturating_sub(ticks),
-    }
-}
-
-/// Puts by how much each junction passes at given heads of all nodes.
-pub(crate) fn put_over(net: &Net, side: Side, heads: &[i64], amounts: &mut [i64])
-    ensures { length amounts.new ≡ length amounts.old }
-{
-    for junction in 0..net.junctions() {
-        if let Some(entry) = amounts.get_mut(junction as usize) {
-            *entry = over(net, side, heads, junction, number_at(heads, junction));
-        }
-    }
-}
-
-/// The same in floating point.
-pub(crate) fn put_near_over(net: &Net, side: Side, heads: &[i64], amounts: &mut [f64])
-    ensures { length amounts.new ≡ length amounts.old }
-{
-    for junction in 0..net.junctions() {
-        if let Some(entry) = amounts.get_mut(junction as usize) {
-            let amount = over(net, side, heads, junction, number_at(heads, junction));
-            *entry = nearest_i64_to_f64(amount);
-        }
     }
 }
 

@@ -3,7 +3,7 @@
 pub(crate) const HELP: &str = "simulates pressurised water networks from EPANET input files,
 and proves the intervals that it prints.
 
-  hyd run NET CERT [--sweeps N] [--width W] [--tight] [--flows IDS]
+  hyd run NET CERT [--sweeps N] [--width W] [--tight] [--flows IDS] [--slack N]
       runs the network in NET, writes the certificate CERT, prints the report
       hyd run examples/net1.inp net1.cert
   hyd check NET CERT
@@ -28,7 +28,7 @@ and proves the intervals that it prints.
       checks a witness: exact heads and flows, period by period
       hyd meet examples/one-valve.inp examples/one-valve.wit
 
-N is 200 where it isn't given, W is 0.01 metres.
+N of --sweeps is 200 where it isn't given, W is 0.01 metres, N of --slack 0.
 hyd help COMMAND explains the words of a command.
 
 Status 0: done. 2: the words aren't a command. 5: NET is refused.
@@ -41,7 +41,8 @@ README.md: how to read a report. docs/ANSWERS.md: each line and status.
 docs/REFUSALS.md: what NET may have. docs/CERTIFICATES.md: what CERT is worth.
 docs/WITNESSES.md: what OUT and FILE are worth.";
 
-pub(crate) const HELP_OF_RUN: &str = "run NET CERT [--sweeps N] [--width W] [--tight] [--flows IDS]
+pub(crate) const HELP_OF_RUN: &str =
+    "run NET CERT [--sweeps N] [--width W] [--tight] [--flows IDS] [--slack N]
 
 Runs the network, writes the certificate, prints the report.
 
@@ -56,6 +57,9 @@ Runs the network, writes the certificate, prints the report.
   --tight      the tightest certificate on the grid of 10^-13 metres
   --flows IDS  up to 16 links between junctions, parted by commas without
                spaces: tighter intervals of their flows, in FLOW lines
+  --slack N    goes on where a period may end in any of up to N seconds more,
+               which an event of a tank leaves open: 0 to 86400, else 0. Runs
+               of weeks take 3600 (docs/LONG_RUNS.md). Not with --flows
 
   hyd run examples/net1.inp net1.cert
 

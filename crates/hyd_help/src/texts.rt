@@ -26,6 +26,8 @@ pub(crate) enum WrongWord<'a> {
     TooFew(usize, Usage),
     /// A word too many for a command.
     TooMany(&'a str, Usage),
+    /// Two options that don't go together.
+    NotTogether(&'static str, &'static str),
     /// One name for two files: what the earlier word stands for, what the later one does, and the name.
     OneName(&'static str, &'static str, &'a str),
 }
@@ -40,6 +42,7 @@ fn values_of(asked: &str) -> &'static str {
         "--sweeps" => "a whole number from 0 to 100000",
         "--width" =>
             "a number of metres above 0 and at most 1000, with a point before its decimals, as 0.01",
+        "--slack" => "a whole number of seconds from 0 to 86400",
         "--flows" => "up to 16 IDs of links in one word, parted by commas without spaces, as P1,P2",
         "SEED" => "a whole number from 0 to 2147483647",
         "JUNCTIONS" => "a whole number from 1 to 10000",
@@ -60,7 +63,7 @@ fn file_named(asked: &str) -> &'static str {
 // The options of a command.
 fn options_of(usage: Usage) -> &'static str {
     match usage.name {
-        "run" => "--sweeps N, --width W, --tight and --flows IDS",
+        "run" => "--sweeps N, --width W, --tight, --flows IDS and --slack N",
         "fire" | "closures" => "--sweeps N alone",
         _ => "none",
     }
@@ -137,6 +140,9 @@ impl Display for WrongWord<'_> {
                 values_of(asked)
             ),
             WrongWord::Twice(option) => write!(f, "{option} stands twice"),
+            WrongWord::NotTogether(one, other) => {
+                write!(f, "{one} and {other} don't go together")
+            }
             WrongWord::TooFew(count, usage) => write_too_few(count, usage, f),
             WrongWord::TooMany(word, usage) => write_too_many(word, usage, f),
             WrongWord::OneName(one, other, name) => write!(

@@ -24,7 +24,7 @@ pub(crate) struct Usage {
 const RUN: Usage = Usage {
     name: "run",
     words: &["NET", "CERT"],
-    options: &["--sweeps", "--width", "--tight", "--flows"],
+    options: &["--sweeps", "--width", "--tight", "--flows", "--slack"],
 };
 
 const CHECK: Usage = Usage {
@@ -85,9 +85,14 @@ pub(crate) fn is_file(asked: &str) -> bool {
     }
 }
 
+/// Whether a word asks for some slack: 0 asks for none.
+pub(crate) fn is_some_slack(word: &str) -> bool {
+    is_whole(word, 1, 86_400)
+}
+
 /// Whether an option takes a value.
 pub(crate) fn takes_value(option: &str) -> bool {
-    option == "--sweeps" || option == "--width" || option == "--flows"
+    option == "--sweeps" || option == "--width" || option == "--flows" || option == "--slack"
 }
 
 /// Whether a word is a number below 0, as it may stand for a pressure.
@@ -155,6 +160,7 @@ pub(crate) fn fits(asked: &str, word: &str) -> bool {
     match asked {
         "--sweeps" => is_whole(word, 0, 100_000),
         "--width" => is_width(word),
+        "--slack" => is_whole(word, 0, 86_400),
         "--flows" => are_ids(word),
         "SEED" => is_whole(word, 0, 2_147_483_647),
         "JUNCTIONS" => is_whole(word, 1, 10_000),

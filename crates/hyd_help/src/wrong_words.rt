@@ -2,7 +2,7 @@
 
 use crate::spoken_words::{Spoken, is_repeated, spoken_in, word_at, word_count};
 use crate::texts::{GENERAL, WrongWord};
-use crate::usages::{Usage, fits, is_file, takes_value, usage_of};
+use crate::usages::{Usage, fits, is_file, is_some_slack, takes_value, usage_of};
 use std::fmt::{self, Display, Formatter};
 
 /// Why words aren't a command, and where help is. Where nothing certain is found, the sentence is a general one.
@@ -103,11 +103,46 @@ fn name_fault<'a>(usage: Usage, words: &'a [String]) -> Option<WrongWord<'a>> {
     None
 }
 
-// What is wrong with the number of words, or with the names among them.
+// Whether an option stands among the words.
+fn stands(words: &[String], option: &str) -> bool {
+    for one in spoken_in(words) {
+        if let Spoken::Option(name, _) = one {
+            if name == option {
+                return true;
+            }
+        }
+    }
+    false
+}
+
+// Whether some slack is asked for.
+fn has_slack(words: &[String]) -> bool {
+    for one in spoken_in(words) {
+        if let Spoken::Option(name, Some(value)) = one {
+            if name == "--slack" && is_some_slack(value) {
+                return true;
+            }
+        }
+    }
+    false
+}
+
+// Two options that don't go together: flows aren't told where ends of periods may be open.
+fn pair_fault<'a>(words: &[String]) -> Option<WrongWord<'a>> {
+    if stands(words, "--flows") && has_slack(words) {
+        return Some(WrongWord::NotTogether("--flows", "--slack"));
+    }
+    None
+}
+
+// What is wrong with the number of words, with the names among them, or with two options.
 fn late_fault<'a>(usage: Usage, words: &'a [String]) -> Option<WrongWord<'a>> {
-    match count_fault(usage, words) {
+    if let Some(fault) = count_fault(usage, words) {
+        return Some(fault);
+    }
+    match name_fault(usage, words) {
         Some(fault) => Some(fault),
-        None => name_fault(usage, words),
+        None => pair_fault(words),
     }
 }
 

@@ -23,6 +23,7 @@ use hyd_build_nodes_patterns_and_options::{
 };
 use hyd_curves::{gather_bends, gather_points, gather_shapes};
 use hyd_judge_nodes_curves_and_options::unit_in_force;
+use hyd_kept_capacities::KeptCapacities;
 use hyd_lex::{Line, Lines};
 use hyd_net::{OutOfMemory, Project};
 use hyd_network_rows::has_hazen_williams;
@@ -64,6 +65,7 @@ fn build_links(
     alloc: Global,
     text: &Lines<'_>,
     given: &RowsForNetwork<'_>,
+    kept: &mut KeptCapacities,
 ) -> Result<Links, OutOfMemory>
     requires { AreRowsForNetwork text.now.text given.now }
     ensures { IfOk result (AreLinks (rows_from text.now.text given.now)) }
@@ -87,7 +89,7 @@ fn build_links(
         unit: given.unit,
         by_power: has_hazen_williams(text, given.lines),
     };
-    let links = hyd_build_links_controls_and_rules::build_links(alloc, text, &of_links)?;
+    let links = hyd_build_links_controls_and_rules::build_links(alloc, text, &of_links, kept)?;
     Ok(Links {
         links,
         bends: bends.lists,
@@ -144,6 +146,7 @@ fn build_parts(
     lines: &[Line],
     numbers: &Numbers,
     unit: FlowUnit,
+    kept: &mut KeptCapacities,
 ) -> Result<Parts, OutOfMemory>
     requires few { length lines.now ≤ 2 ^ 26 }
     requires lie { All (LiesIn text.now.text) lines.now }
@@ -165,7 +168,7 @@ fn build_parts(
         unit,
     };
     let nodes = build_nodes(alloc, text, &given)?;
-    let links = build_links(alloc, text, &given)?;
+    let links = build_links(alloc, text, &given, kept)?;
     let patterns_controls_and_rules = build_patterns_controls_and_rules(alloc, text, &given)?;
     Ok(Parts {
         nodes,
@@ -174,8 +177,13 @@ fn build_parts(
     })
 }
 
-/// Builds the network of a file without a fault.
-pub(crate) fn build(alloc: Global, text: &Lines<'_>, lines: &[Line]) -> Result<Project, OutOfMemory>
+/// Builds the network of a file without a fault, with the capacities of pipes that were kept when it was judged.
+pub(crate) fn build(
+    alloc: Global,
+    text: &Lines<'_>,
+    lines: &[Line],
+    kept: &mut KeptCapacities,
+) -> Result<Project, OutOfMemory>
     requires few { length lines.now ≤ 2 ^ 26 }
     requires lie { All (LiesIn text.now.text) lines.now }
     requires by_itself { NoneIs (IsWrongByItself (rows_at text.now.text lines.now)) }
@@ -185,7 +193,7 @@ pub(crate) fn build(alloc: Global, text: &Lines<'_>, lines: &[Line]) -> Result<P
     let unit = unit_in_force(text, lines);
     let numbers = number(alloc, text, lines)?;
     let ids = ids_of(&numbers)?;
-    let parts = build_parts(alloc, text, lines, &numbers, unit)?;
+    let parts = build_parts(alloc, text, lines, &numbers, unit, kept)?;
     let options = options_in_force(text, lines, unit, &numbers.patterns);
     let times = times_in_force(text, lines);
     Ok(assemble(ids, parts, options, times))

@@ -11,6 +11,7 @@ ghost use Rattle.hyd_rows_and_tables.specs.RowsOfLines.{rows_at};
 use crate::fault::{InpFault, TEXT_TOO_LONG, line_cause};
 use crate::first_wrong_with_others::first_with_others;
 use crate::missing_from_file::lack;
+use hyd_kept_capacities::KeptCapacities;
 use hyd_lex::{LexFault, Line, Lines};
 use hyd_net::OutOfMemory;
 use hyd_network_rows::{first_by_itself, has_hazen_williams, has_hazen_williams_throughout};
@@ -34,12 +35,13 @@ fn is_by_power(text: &Lines<'_>, lines: &[Line], end: Option<LexFault>) -> bool
 }
 
 /// The fault of a text of at most 64 MiB: its first row that is wrong by itself, the fault that ends its rows, its
-/// first row that is wrong with the others, what it lacks.
+/// first row that is wrong with the others, what it lacks. The capacities of pipes are kept.
 pub(crate) fn fault_of(
     alloc: Global,
     text: &Lines<'_>,
     lines: &[Line],
     end: Option<LexFault>,
+    kept: &mut KeptCapacities,
 ) -> Result<Option<InpFault>, OutOfMemory>
     requires few { length lines.now ≤ 2 ^ 26 }
     requires lie { All (LiesIn text.now.text) lines.now }
@@ -62,7 +64,7 @@ pub(crate) fn fault_of(
             cause: line_cause(fault.cause),
         }));
     }
-    if let Some(found) = first_with_others(alloc, text, lines)? {
+    if let Some(found) = first_with_others(alloc, text, lines, kept)? {
         return Ok(Some(InpFault {
             line: found.line,
             cause: found.cause,
@@ -86,6 +88,13 @@ pub fn find_fault(alloc: Global, text: &[u8]) -> Result<Option<InpFault>, OutOfM
     }
     let gathered = gather(alloc, text)?;
     let reader = Lines::new(text);
-    let fault = fault_of(alloc, &reader, gathered.lines.as_slice(), gathered.fault)?;
+    let mut kept = KeptCapacities::new(alloc);
+    let fault = fault_of(
+        alloc,
+        &reader,
+        gathered.lines.as_slice(),
+        gathered.fault,
+        &mut kept,
+    )?;
     Ok(fault)
 }

@@ -27,6 +27,7 @@ use hyd_judge_nodes_curves_and_options::{
     NodeTables, Patterns, judge_curves, judge_demands, judge_emitters, judge_nodes, judge_options,
     judge_patterns, unit_in_force,
 };
+use hyd_kept_capacities::KeptCapacities;
 use hyd_lex::{Line, Lines};
 use hyd_net::OutOfMemory;
 use hyd_network_rows::has_hazen_williams;
@@ -64,6 +65,7 @@ fn first_from_links(
     text: &Lines<'_>,
     lines: &[Line],
     tables: &LinkTables<'_>,
+    kept: &mut KeptCapacities,
 ) -> Result<Option<Found>, OutOfMemory>
     requires few { length lines.now ≤ 2 ^ 26 }
     requires lie { All (LiesIn text.now.text) lines.now }
@@ -72,7 +74,7 @@ fn first_from_links(
     ensures { IfOk result (λ found. HasFound (rows_at text.now.text lines.now)
         (IsWrongOf family.from_links (rows_at text.now.text lines.now)) (length lines.now) found) }
 {
-    let links = judge_links(alloc, text, lines, tables)?;
+    let links = judge_links(alloc, text, lines, tables, kept)?;
     let commands = first_of_commands(alloc, text, lines, tables.nodes, &links.table, tables.unit)?;
     Ok(least(links.found, commands))
 }
@@ -84,6 +86,7 @@ fn first_behind_verdicts(
     lines: &[Line],
     tables: &NodeTables<'_>,
     nodes: &Table,
+    kept: &mut KeptCapacities,
 ) -> Result<Option<Found>, OutOfMemory>
     requires few { length lines.now ≤ 2 ^ 26 }
     requires lie { All (LiesIn text.now.text) lines.now }
@@ -102,7 +105,7 @@ fn first_behind_verdicts(
         unit: tables.unit,
         by_power: has_hazen_williams(text, lines),
     };
-    first_from_links(alloc, text, lines, &link_tables)
+    first_from_links(alloc, text, lines, &link_tables, kept)
 }
 
 // The first wrong row of what is judged against nodes.
@@ -112,6 +115,7 @@ fn first_behind_nodes(
     lines: &[Line],
     tables: &NodeTables<'_>,
     nodes: &Table,
+    kept: &mut KeptCapacities,
 ) -> Result<Option<Found>, OutOfMemory>
     requires few { length lines.now ≤ 2 ^ 26 }
     requires lie { All (LiesIn text.now.text) lines.now }
@@ -121,7 +125,7 @@ fn first_behind_nodes(
     ensures { IfOk result (λ found. HasFound (rows_at text.now.text lines.now)
         (IsWrongOf family.behind_nodes (rows_at text.now.text lines.now)) (length lines.now) found) }
 {
-    let links = first_behind_verdicts(alloc, text, lines, tables, nodes)?;
+    let links = first_behind_verdicts(alloc, text, lines, tables, nodes, kept)?;
     let demands = judge_demands(text, lines, nodes, &tables.patterns.table, tables.unit);
     let emitters = judge_emitters(text, lines, nodes, tables.unit);
     Ok(least(demands.found, least(emitters, links)))
@@ -133,6 +137,7 @@ fn first_from_nodes(
     text: &Lines<'_>,
     lines: &[Line],
     tables: &NodeTables<'_>,
+    kept: &mut KeptCapacities,
 ) -> Result<Option<Found>, OutOfMemory>
     requires few { length lines.now ≤ 2 ^ 26 }
     requires lie { All (LiesIn text.now.text) lines.now }
@@ -142,7 +147,7 @@ fn first_from_nodes(
         (IsWrongOf family.from_nodes (rows_at text.now.text lines.now)) (length lines.now) found) }
 {
     let nodes = judge_nodes(alloc, text, lines, tables)?;
-    let behind = first_behind_nodes(alloc, text, lines, tables, &nodes.table)?;
+    let behind = first_behind_nodes(alloc, text, lines, tables, &nodes.table, kept)?;
     Ok(least(nodes.found, behind))
 }
 
@@ -154,6 +159,7 @@ fn first_behind_curves(
     patterns: &Patterns,
     curves: &Table,
     unit: FlowUnit,
+    kept: &mut KeptCapacities,
 ) -> Result<Option<Found>, OutOfMemory>
     requires few { length lines.now ≤ 2 ^ 26 }
     requires lie { All (LiesIn text.now.text) lines.now }
@@ -171,7 +177,7 @@ fn first_behind_curves(
         points: &points,
         unit,
     };
-    first_from_nodes(alloc, text, lines, &tables)
+    first_from_nodes(alloc, text, lines, &tables, kept)
 }
 
 // The first wrong row of curves and of what is judged against them.
@@ -181,6 +187,7 @@ fn first_from_curves(
     lines: &[Line],
     patterns: &Patterns,
     unit: FlowUnit,
+    kept: &mut KeptCapacities,
 ) -> Result<Option<Found>, OutOfMemory>
     requires few { length lines.now ≤ 2 ^ 26 }
     requires lie { All (LiesIn text.now.text) lines.now }
@@ -191,7 +198,7 @@ fn first_from_curves(
         (IsWrongOf family.from_curves (rows_at text.now.text lines.now)) (length lines.now) found) }
 {
     let curves = judge_curves(alloc, text, lines)?;
-    let behind = first_behind_curves(alloc, text, lines, patterns, &curves.table, unit)?;
+    let behind = first_behind_curves(alloc, text, lines, patterns, &curves.table, unit, kept)?;
     Ok(least(curves.found, behind))
 }
 
@@ -200,6 +207,7 @@ pub(crate) fn first_with_others(
     alloc: Global,
     text: &Lines<'_>,
     lines: &[Line],
+    kept: &mut KeptCapacities,
 ) -> Result<Option<Found>, OutOfMemory>
     requires few { length lines.now ≤ 2 ^ 26 }
     requires lie { All (LiesIn text.now.text) lines.now }
@@ -210,6 +218,6 @@ pub(crate) fn first_with_others(
     let unit = unit_in_force(text, lines);
     let options = judge_options(text, lines, unit);
     let patterns = judge_patterns(alloc, text, lines)?;
-    let behind = first_from_curves(alloc, text, lines, &patterns, unit)?;
+    let behind = first_from_curves(alloc, text, lines, &patterns, unit, kept)?;
     Ok(least(options, least(patterns.found, behind)))
 }

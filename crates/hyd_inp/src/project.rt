@@ -11,6 +11,7 @@ ghost use Rattle.hyd_inp.specs.FaultOrNoMemory.{IfFault};
 use crate::build::build;
 use crate::fault::{InpRefused, TEXT_TOO_LONG};
 use crate::first_fault::{LONGEST_TEXT, fault_of};
+use hyd_kept_capacities::KeptCapacities;
 use hyd_lex::Lines;
 use hyd_net::Project;
 use hyd_rows_and_tables::gather;
@@ -31,9 +32,10 @@ pub fn read_project(alloc: Global, text: &[u8]) -> Result<Project, InpRefused>
     let gathered = gather(alloc, text)?;
     let reader = Lines::new(text);
     let lines = gathered.lines.as_slice();
-    if let Some(fault) = fault_of(alloc, &reader, lines, gathered.fault)? {
+    let mut kept = KeptCapacities::new(alloc);
+    if let Some(fault) = fault_of(alloc, &reader, lines, gathered.fault, &mut kept)? {
         return Err(InpRefused::Fault(fault));
     }
-    let project = build(alloc, &reader, lines)?;
+    let project = build(alloc, &reader, lines, &mut kept)?;
     Ok(project)
 }

@@ -20,9 +20,10 @@ use crate::judged_against::LinkTables;
 use crate::pipes::pipe_fault;
 use crate::pumps::pump_fault;
 use crate::valves::valve_fault;
+use hyd_kept_capacities::KeptCapacities;
 use hyd_lex::{Line, Lines, Section};
 use hyd_net::{Cause, OutOfMemory};
-use hyd_rows_and_tables::{Found, Table, kept};
+use hyd_rows_and_tables::{Found, Table};
 use std::alloc::Global;
 
 /// The links of a file, and the first of their rows that is wrong with the others.
@@ -54,6 +55,7 @@ fn link_fault(
     count: usize,
     new: bool,
     tables: &LinkTables<'_>,
+    kept: &mut KeptCapacities,
 ) -> Option<Cause>
     requires lies { LiesIn text.now.text line.now }
     requires even { AreEven tables.now }
@@ -71,6 +73,7 @@ fn link_fault(
             tables.nodes,
             tables.unit,
             tables.by_power,
+            kept,
         ),
         Section::Pumps => pump_fault(text, line, count, new, tables),
         Section::Valves => valve_fault(text, line, count, new, tables),
@@ -86,6 +89,7 @@ impl Links {
         lines: &[Line],
         place: usize,
         tables: &LinkTables<'_>,
+        kept: &mut KeptCapacities,
     ) -> Result<(), OutOfMemory>
         requires within { place < length lines.now }
         requires few { length lines.now < 2 ^ 31 }
@@ -101,8 +105,8 @@ impl Links {
         }
         let new = self.table.add(text, line)?;
         self.count += 1;
-        let cause = link_fault(text, line, self.count, new, tables);
-        self.found = kept(self.found, place, line.number, cause);
+        let cause = link_fault(text, line, self.count, new, tables, kept);
+        self.found = hyd_rows_and_tables::kept(self.found, place, line.number, cause);
         Ok(())
     }
 }
@@ -112,12 +116,13 @@ impl Links {
 /// (DuplicateId), a node, curve or pattern that isn't there (UnknownName), a pump's curve of a kind that isn't
 /// supported (Unsupported 4), a curve out of range, a multiplier of a pump's pattern that isn't from 0 to 10, the flow
 /// of a flow control valve above 10^15 flow ticks, a Hazen-Williams coefficient outside 0 to 10,000, also 0 (Range), and
-/// last a capacity out of range (Limit 13).
+/// last a capacity out of range (Limit 13). The capacities of pipes are kept.
 pub fn judge_links(
     alloc: Global,
     text: &Lines<'_>,
     lines: &[Line],
     tables: &LinkTables<'_>,
+    kept: &mut KeptCapacities,
 ) -> Result<Links, OutOfMemory>
     requires few { length lines.now < 2 ^ 31 }
     requires lie { All (LiesIn text.now.text) lines.now }
@@ -134,7 +139,7 @@ pub fn judge_links(
         found: None,
     };
     for place in 0..lines.len() {
-        links.add(text, lines, place, tables)?;
+        links.add(text, lines, place, tables, kept)?;
     }
     Ok(links)
 }

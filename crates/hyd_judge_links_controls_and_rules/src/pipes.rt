@@ -18,19 +18,18 @@ ghost use Rattle.hyd_judge_links_controls_and_rules.specs.LinkFaults as links;
 ghost use Rattle.hyd_judge_links_controls_and_rules.specs.LinkFaults.{IsRefusedPipeOf};
 
 use crate::id_and_ends::ends_fault;
-use hyd_capacities::pipe_capacity;
+use hyd_kept_capacities::KeptCapacities;
 use hyd_lex::{Line, Lines};
 use hyd_net::Cause;
 use hyd_network_rows::{PipeRow, read_pipe_by};
 use hyd_num::{Decimal, FlowUnit};
-use hyd_power_capacities::hazen_williams_capacity;
 use hyd_rows_and_tables::Table;
 use hyd_spec_power_laws::HazenWilliamsPipe;
 
 const GREATEST_COEFFICIENT: i128 = 10_000 * 1_000_000_000;
 
 // Limit 13 where the capacity of a pipe with Manning's coefficient is out of range.
-fn capacity_fault(pipe: &PipeRow<'_>, us: bool) -> Option<Cause>
+fn capacity_fault(pipe: &PipeRow<'_>, us: bool, kept: &mut KeptCapacities) -> Option<Cause>
     requires length { IsLength pipe.now.length }
     requires diameter { IsDiameter pipe.now.diameter }
     requires roughness { IsRoughness pipe.now.roughness }
@@ -38,14 +37,14 @@ fn capacity_fault(pipe: &PipeRow<'_>, us: bool) -> Option<Cause>
     ensures { IsCapacityFault (IsRefusedPipe pipe.now.length.nano pipe.now.diameter.nano pipe.now.roughness.nano
         pipe.now.minor.nano us) result }
 {
-    match pipe_capacity(pipe.length, pipe.diameter, pipe.roughness, pipe.minor, us) {
+    match kept.judged_pipe(pipe.length, pipe.diameter, pipe.roughness, pipe.minor, us) {
         Ok(_) => None,
         Err(_) => Some(Cause::Limit(13)),
     }
 }
 
 // Limit 13 where the capacity of a pipe with a Hazen-Williams coefficient is out of range.
-fn power_capacity_fault(pipe: &PipeRow<'_>, us: bool) -> Option<Cause>
+fn power_capacity_fault(pipe: &PipeRow<'_>, us: bool, kept: &mut KeptCapacities) -> Option<Cause>
     requires length { IsLength pipe.now.length }
     requires diameter { IsDiameter pipe.now.diameter }
     requires coefficient { IsPositiveUpTo (10 ^ 4) pipe.now.roughness }
@@ -59,7 +58,7 @@ fn power_capacity_fault(pipe: &PipeRow<'_>, us: bool) -> Option<Cause>
         minor: pipe.minor,
         us,
     };
-    match hazen_williams_capacity(numbers) {
+    match kept.judged_power_pipe(numbers) {
         Ok(_) => None,
         Err(_) => Some(Cause::Limit(13)),
     }
@@ -73,7 +72,7 @@ fn is_coefficient(coefficient: Decimal) -> bool
 }
 
 // Range where the Hazen-Williams coefficient of a pipe is out of range, Limit 13 where its capacity is.
-fn power_fault(pipe: &PipeRow<'_>, us: bool) -> Option<Cause>
+fn power_fault(pipe: &PipeRow<'_>, us: bool, kept: &mut KeptCapacities) -> Option<Cause>
     requires length { IsLength pipe.now.length }
     requires diameter { IsDiameter pipe.now.diameter }
     ensures { IsFaultThen (others.coefficient true pipe.now.roughness.nano) (IsRefusedPowerPipe pipe.now.length.nano
@@ -82,10 +81,10 @@ fn power_fault(pipe: &PipeRow<'_>, us: bool) -> Option<Cause>
     if !is_coefficient(pipe.roughness) {
         return Some(Cause::Range);
     }
-    power_capacity_fault(pipe, us)
+    power_capacity_fault(pipe, us, kept)
 }
 
-/// What is wrong with a pipe that is right by itself, where losses are by Hazen-Williams or not.
+/// What is wrong with a pipe that is right by itself, where losses are by Hazen-Williams or not. Its capacity is kept.
 pub(crate) fn pipe_fault(
     text: &Lines<'_>,
     line: &Line,
@@ -94,6 +93,7 @@ pub(crate) fn pipe_fault(
     nodes: &Table,
     unit: FlowUnit,
     by_power: bool,
+    kept: &mut KeptCapacities,
 ) -> Option<Cause>
     requires lies { LiesIn text.now.text line.now }
     requires even { IsEven nodes.now }
@@ -110,7 +110,7 @@ pub(crate) fn pipe_fault(
         return Some(cause);
     }
     if by_power {
-        return power_fault(&pipe, unit.is_us());
+        return power_fault(&pipe, unit.is_us(), kept);
     }
-    capacity_fault(&pipe, unit.is_us())
+    capacity_fault(&pipe, unit.is_us(), kept)
 }

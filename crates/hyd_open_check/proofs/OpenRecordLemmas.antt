@@ -14,13 +14,13 @@ use Rattle.hyd_open_report.proofs.OpenReports.{is_report}
 use Rattle.hyd_period_network.specs.NetAsPeriodNetwork.{grid_of}
 use Rattle.hyd_run.specs.Runs.{periods_left}
 use Rattle.hyd_run.proofs.PeriodLemmas.{tank-facts-of}
-use Rattle.hyd_open_sim.specs.RunView.{OpenSimView, IsOpenSim, standing_of}
-use Rattle.hyd_open_sim.specs.Acceptance.{IsAccepted}
-use Rattle.hyd_open_sim.specs.Steps.{found_between}
+use Rattle.hyd_open_run.specs.PeriodsOfOpenRuns.{OpenSimView, IsOpenSim, standing_of}
+use Rattle.hyd_open_run.specs.PeriodsOfOpenRuns.{IsAccepted}
+use Rattle.hyd_open_run.specs.PeriodsOfOpenRuns.{found_between}
 use Rattle.hyd_open_run.specs.PeriodsOfOpenRuns.{IsOfPeriod, lines_left}
 use Rattle.hyd_open_run.proofs.OpenPeriodLemmas.{number-next, fewer-left}
 use Rattle.hyd_cert_check.specs.ReaderAndPen.{CheckMoment, PutIn, IsCutOff}
-use Rattle.hyd_cert_check.specs.declared.outcome.CheckEnd.{CheckEnd}
+use Rattle.hyd_spec_check_ends.specs.declared.CheckEnd.{CheckEnd}
 use Rattle.hyd_cert_check.specs.declared.outcome.CheckFault.{CheckFault}
 use Rattle.hyd_cert_check.proofs.PenLemmas.{put-then, cut-off-then}
 use Rattle.hyd_open_check_so_far.specs.OpenCheckSoFar.{IsRead, IsOpenStep, DidRecord, LostRecord, IsOver, TurnGives}

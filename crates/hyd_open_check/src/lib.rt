@@ -5,4 +5,5 @@
 mod records;
 mod whole_check;
 
+pub use hyd_open_run::{OpenSettings, OpenSim, room_for_events};
 pub use whole_check::check_openly;

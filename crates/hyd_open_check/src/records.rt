@@ -4,7 +4,7 @@
 ghost use Rattle.std.specs.Prelude.{◌≡◌, None, OnOk, []};
 ghost use Rattle.hyd_cert.specs.ReaderView.{ReaderView};
 ghost use Rattle.hyd_open_certificates.specs.OpenRowView.{open_header_of, open_record_of};
-ghost use Rattle.hyd_open_sim.specs.RunView.{header_for, standing_of};
+ghost use Rattle.hyd_open_run.specs.PeriodsOfOpenRuns.{header_for, standing_of};
 ghost use Rattle.hyd_run.specs.Pens.{told};
 ghost use Rattle.hyd_cert_check.specs.ReaderAndPen.{CheckMoment, moment, IsOpen, PutIn};
 ghost use Rattle.hyd_cert_check.specs.RecordByRecord.{CanGoOn};
@@ -14,8 +14,7 @@ use hyd_cert_check::CheckFault;
 use hyd_io::{Desk, Pen};
 use hyd_open_certificates::{OpenCertReader, OpenRow};
 use hyd_open_check_so_far::{OpenConclusion, read_record};
-use hyd_open_run::put_period_lines;
-use hyd_open_sim::OpenSim;
+use hyd_open_run::{OpenSim, put_period_lines};
 
 // Tries a record as that of the period that is due, and puts its report. Answers why it is refused.
 fn try_record<D: Desk>(

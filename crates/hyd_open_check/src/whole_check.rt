@@ -7,7 +7,7 @@ ghost use Rattle.hyd_spec_open_checks.specs.OpenChecks.{CheckEndsOpenly, CheckBr
 ghost use Rattle.hyd_cert.specs.ReaderView.{to_come};
 ghost use Rattle.hyd_cert.specs.declared.answers_of_reader.Stand.TheVariants as stand;
 ghost use Rattle.hyd_open_certificates.specs.OpenRowView.{open_header_of};
-ghost use Rattle.hyd_open_sim.specs.RunView.{header_for, standing_of};
+ghost use Rattle.hyd_open_run.specs.PeriodsOfOpenRuns.{header_for, standing_of};
 ghost use Rattle.hyd_run.specs.Pens.{told};
 ghost use Rattle.hyd_cert_check.specs.ReaderAndPen.{moment, new_pen, IsOpen, Rose};
 ghost use Rattle.hyd_cert_check.specs.RecordByRecord.{IsPrinted};
@@ -18,7 +18,7 @@ use hyd_cert_check::{CheckEnd, CheckFault};
 use hyd_io::{Desk, Pen};
 use hyd_open_certificates::{OpenCertReader, OpenRow};
 use hyd_open_check_so_far::{begin_check, end_check, finish_check};
-use hyd_open_sim::OpenSim;
+use hyd_open_run::OpenSim;
 
 // Puts the report of a check in at the pen, from its first line to its last.
 fn put_check<D: Desk>(

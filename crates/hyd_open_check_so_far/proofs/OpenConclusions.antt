@@ -32,10 +32,10 @@ use Rattle.hyd_cert.specs.declared.answers_of_reader.Stand.TheVariants as stand
 use Rattle.hyd_open_certificates.specs.OpenTexts.{open_lines_of as lines_with_records}
 use Rattle.hyd_open_certificates.specs.OpenFaults.{IsOpenFault, LacksOpenRecord, HasOtherOpenHeader}
 use Rattle.hyd_open_certificates.proofs.WholeOpenTexts.{whole_reading, behind_records}
-use Rattle.hyd_cert_check.specs.LinesOfRefusals.{refused_grammar_line, refused_counts_line, printed_number}
+use Rattle.hyd_spec_check_ends.specs.LinesOfRefusals.{refused_grammar_line, refused_counts_line, printed_number}
 use Rattle.hyd_cert_check.specs.ReaderAndPen.{CheckMoment}
 use Rattle.hyd_cert_check.specs.RecordByRecord.{coming}
-use Rattle.hyd_cert_check.specs.declared.outcome.CheckEnd.TheVariants as ends
+use Rattle.hyd_spec_check_ends.specs.declared.CheckEnd.TheVariants as ends
 use Rattle.hyd_open_run_so_far.specs.OpenRunSoFar.{Fit}
 use Rattle.hyd_open_check_so_far.specs.OpenCheckSoFar.{IsEndLine, IsOtherEnd, IsRefusedNext, IsGrammarFault}
 use Rattle.hyd_open_check_so_far.specs.OpenCheckSoFar.{IsCountsFault, IsSo, conclusion_line, end_of}

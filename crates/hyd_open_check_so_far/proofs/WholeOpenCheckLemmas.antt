@@ -26,7 +26,7 @@ use Rattle.hyd_run.specs.Runs.{first_line}
 use Rattle.hyd_run.proofs.RunLemmas.{moved-whole}
 use Rattle.hyd_cert_check.specs.ReaderAndPen.{CheckMoment, new_pen, LeavesFiles, PutIn, IsCutOff, Rose}
 use Rattle.hyd_cert_check.specs.RecordByRecord.{coming, IsPrinted, CanGoOn}
-use Rattle.hyd_cert_check.specs.declared.outcome.CheckEnd.{CheckEnd}
+use Rattle.hyd_spec_check_ends.specs.declared.CheckEnd.{CheckEnd}
 use Rattle.hyd_cert_check.specs.declared.outcome.CheckFault.{CheckFault}
 use Rattle.hyd_cert_check.proofs.PenLemmas.{put-then, cut-off-then, put-as, cut-off-as}
 use Rattle.hyd_open_run_so_far.specs.OpenRunSoFar.{Fit, open_texts}

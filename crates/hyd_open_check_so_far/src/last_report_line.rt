@@ -11,7 +11,7 @@ ghost use Rattle.hyd_spec_open_ends.specs.OpenStandings.{OpenStanding, initial_o
 ghost use Rattle.hyd_cert.specs.ReaderView.{ReaderView};
 ghost use Rattle.hyd_cert.specs.declared.answers_of_reader.Stand.TheVariants as stand;
 ghost use Rattle.hyd_run.specs.Pens.{told};
-ghost use Rattle.hyd_cert_check.specs.LinesOfRefusals.{refused_grammar_line, refused_counts_line};
+ghost use Rattle.hyd_spec_check_ends.specs.LinesOfRefusals.{refused_grammar_line, refused_counts_line};
 ghost use Rattle.hyd_cert_check.specs.ReaderAndPen.{CheckMoment, moment, new_pen, IsOpen};
 ghost use Rattle.hyd_open_check_so_far.specs.OpenCheckSoFar.{conclusion_line, end_of, IsSoFar, IsWhole, AllRead};
 ghost use Rattle.hyd_open_check_so_far.specs.OpenCheckSoFar.{CheckBegins, CheckPuts};

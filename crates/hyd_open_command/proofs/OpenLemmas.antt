@@ -10,7 +10,7 @@ use Rattle.hyd_spec.specs.ProgramTypes.{Project}
 use Rattle.hyd_spec_input.specs.Project.{IsProject}
 use Rattle.hyd_spec_reports.specs.PromisesOfRunsAndChecks.{Outcome}
 use Rattle.hyd_run.specs.Pens.{Told, LeavesRest}
-use Rattle.hyd_open_run_so_far.specs.OpenRunSoFar.{Asked, IsPutOutOpenly, IsBrokenOffOpenly}
+use Rattle.hyd_open_run.specs.PeriodsOfOpenRuns.{Asked, IsPutOutOpenly, IsBrokenOffOpenly}
 use Rattle.hyd_command_answers.specs.DeskContents.{Seen, IsUntouched, FilesStay}
 use Rattle.hyd_command_answers.specs.FaultsAndRefusals.{AnswersRefused, status_of_fault}
 use Rattle.hyd_command_answers.specs.WrittenCertificates.{Holds}

@@ -7,7 +7,8 @@ use Rattle.hyd_spec_reports.specs.PromisesOfRunsAndChecks.{Outcome, outcome_numb
 use Rattle.hyd_spec_open_reports.specs.PromisesOfOpenReports.{RunTellsOpenly}
 use Rattle.hyd_spec_open_checks.specs.OpenRunsBrokenOff.{RunBreaksOffOpenly}
 use Rattle.hyd_run.specs.Runs.{EndNames}
-use Rattle.hyd_open_run_so_far.specs.OpenRunSoFar.{Asked, EndsInOrderOpenly}
+use Rattle.hyd_open_run.specs.PeriodsOfOpenRuns.{EndsInOrderOpenly}
+pub use Rattle.hyd_open_run.specs.PeriodsOfOpenRuns.{Asked, asked_of}
 use Rattle.hyd_command_answers.specs.Statuses.{number_of}
 use Rattle.hyd_command_answers.specs.declared.status.Status.{Status}
 use Rattle.hyd_command_answers.specs.declared.status.Status.TheVariants.{Done, OutOfMemory, ReadFault, WriteFault}

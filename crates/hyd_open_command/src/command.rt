@@ -15,7 +15,7 @@ ghost use Rattle.hyd_open_command.specs.OpenAnswers.{AnswersTextOpenly, LeavesOp
 use crate::whole_run::run_network;
 use hyd_command_answers::{Status, Unread, read_network, refuse_text};
 use hyd_io::Desk;
-use hyd_open_sim::OpenSettings;
+use hyd_open_run::OpenSettings;
 use std::alloc::Global;
 
 /// Reads NET, and runs its network with the slack of the settings: writes CERT, of version 4, and prints the report.

@@ -8,3 +8,4 @@ mod run_ends;
 mod whole_run;
 
 pub use command::run_with_slack;
+pub use hyd_open_run::OpenSettings;

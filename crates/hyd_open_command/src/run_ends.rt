@@ -4,7 +4,7 @@ ghost use Rattle.hyd_net.specs.Sound.{IsSound};
 
 use hyd_io::Desk;
 use hyd_net::Project;
-use hyd_open_sim::OpenSim;
+use hyd_open_run::OpenSim;
 use hyd_run::RunEnd;
 use hyd_sentences::{DuePeriod, Stopped};
 use hyd_spec_certificates::StopCause;

@@ -3,7 +3,7 @@
 ghost use Rattle.std.specs.Prelude.{◌≡◌, IsTrue};
 ghost use Rattle.hyd_net.specs.Sound.{IsSound};
 ghost use Rattle.hyd_spec_open_ends.specs.OpenStandings.{initial_open_standing};
-ghost use Rattle.hyd_open_sim.specs.RunView.{standing_of};
+ghost use Rattle.hyd_open_run.specs.PeriodsOfOpenRuns.{standing_of};
 ghost use Rattle.hyd_open_run.specs.PeriodsOfOpenRuns.{asked_of};
 ghost use Rattle.hyd_command_answers.specs.DeskContents.{seen, ChangesOnly};
 ghost use Rattle.hyd_command_answers.specs.FaultsAndRefusals.{HasCause};
@@ -16,8 +16,7 @@ use hyd_finders::{Finder, Gradient};
 use hyd_io::{Channel, Desk, Pen};
 use hyd_naming_command::status_of_end;
 use hyd_net::Project;
-use hyd_open_run::run_openly;
-use hyd_open_sim::{OpenSettings, OpenSim};
+use hyd_open_run::{OpenSettings, OpenSim, run_openly};
 use std::alloc::Global;
 
 /// Creates CERT, and puts a run out, the certificate into it and the report on standard output.

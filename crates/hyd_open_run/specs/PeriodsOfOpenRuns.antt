@@ -4,8 +4,12 @@ use Rattle.std.specs.Prelude.{◌≡◌, List}
 use Rattle.hyd_cert.specs.RecordView.{row_of}
 use Rattle.hyd_open_certificates.specs.OpenRowView.{open_record_of}
 use Rattle.hyd_open_report.specs.OpenPeriodLines.{open_lines_by}
-use Rattle.hyd_open_run_so_far.specs.OpenRunSoFar.{Asked}
-use Rattle.hyd_open_sim.specs.RunView.{OpenSimView, sharpness_of}
+pub use Rattle.hyd_open_run_so_far.specs.OpenRunSoFar.{Asked, IsPutOutOpenly, IsBrokenOffOpenly, EndsInOrderOpenly}
+pub use Rattle.hyd_open_sim.specs.RunView.{OpenSimView, IsOpenSim, header_for, standing_of}
+use Rattle.hyd_open_sim.specs.RunView.{sharpness_of}
+pub use Rattle.hyd_open_sim.specs.Acceptance.{IsAccepted}
+pub use Rattle.hyd_open_sim.specs.Steps.{found_between}
+pub use Rattle.hyd_open_sim.specs.RoomForEvents.{HasEventRoom}
 use Rattle.hyd_open_sim.specs.declared.open_settings.OpenSettings.{OpenSettings}
 use Rattle.hyd_period_facts.specs.FactsBeforeEnd.{HaveTanks}
 use Rattle.hyd_period_network.specs.LawsInSettings.{AreStates}

@@ -7,5 +7,6 @@ mod record_and_report;
 mod steps;
 mod whole_run;
 
+pub use hyd_open_sim::{OpenSettings, OpenSim, room_for_events};
 pub use record_and_report::put_period_lines;
 pub use whole_run::run_openly;

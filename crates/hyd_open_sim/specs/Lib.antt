@@ -1,3 +1,4 @@
+pub mod RoomForEvents
 pub mod EndedPeriods
 pub mod PeriodAttempt
 pub mod NarrowRecords

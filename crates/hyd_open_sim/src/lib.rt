@@ -12,7 +12,9 @@ mod open_settings;
 mod open_sim;
 mod period_attempt;
 mod run_at_start;
+mod run_out_of_parts;
 mod steps;
 
 pub use open_settings::OpenSettings;
 pub use open_sim::OpenSim;
+pub use run_out_of_parts::room_for_events;

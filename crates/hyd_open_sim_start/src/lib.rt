@@ -15,6 +15,6 @@ pub use facts_and_links_at_start::begin;
 pub use given_vectors::{Failing, check_vectors, take_vectors};
 pub use narrow_vectors::{are_close, are_steady};
 pub use period_start::start_period;
-pub use run_at_start::{begin_run, first_standing, starts};
+pub use run_at_start::{begin_run, first_standing, standing_within, starts};
 pub use standing::Standing;
 pub use stop_causes::{demand_stop, lack_fits, lack_stop, open_stop};

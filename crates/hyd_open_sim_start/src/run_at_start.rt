@@ -91,3 +91,23 @@ pub fn first_standing(alloc: Global, project: &Project) -> Result<Standing, OutO
         finished: false,
     })
 }
+
+/// The standing at which a run begins, in room that holds whatever it did. It takes no memory.
+pub fn standing_within(project: &Project, stocks: TankStart, commanded: Vec<LinkState>) -> Standing
+    requires sound { IsSound project.now }
+    requires room { HasNextRoom project.now stocks }
+    requires each { length commanded.items ≡ length project.now.links.list }
+    ensures initial { standing_for result ≡ initial_open_standing project.now }
+    ensures standing { IsStanding project.now result }
+{
+    let mut standing = Standing {
+        number: 0,
+        time: 0,
+        late: 0,
+        stocks,
+        commanded,
+        finished: false,
+    };
+    put_start(project, &mut standing);
+    standing
+}

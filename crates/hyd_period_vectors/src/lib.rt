@@ -9,5 +9,6 @@ mod one_vector;
 mod search;
 mod search_start;
 
+pub use hyd_finders::Finder;
 pub use missing_vector::Lack;
 pub use search::Search;

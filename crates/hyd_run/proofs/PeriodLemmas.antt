@@ -23,10 +23,8 @@ use Rattle.hyd_period_network.specs.NetView.{NetView}
 use Rattle.hyd_period_network.specs.NetsSetToPeriods.{IsNetOf, ends_of}
 use Rattle.hyd_period_network.proofs.GridJunctionsAndLinks.{junctions_count, links_count}
 use Rattle.hyd_period_network.proofs.NetOfSoundProject.{long_zipped}
-use Rattle.hyd_period_facts.specs.declared.facts.Facts.{Facts}
 use Rattle.hyd_report.specs.PeriodLines.{AreBounds, AreTankFacts}
-use Rattle.hyd_period_facts.specs.FactsBeforeEnd.{HaveTanks}
-use Rattle.hyd_sim.specs.RunView.{SimView, IsSim, standing_of}
+use Rattle.hyd_sim.specs.RunView.{SimView, IsSim, standing_of, Facts, HaveTanks}
 use Rattle.hyd_run.specs.Runs.{periods_left}
 
 -- ---- bounds

@@ -12,7 +12,7 @@ use Rattle.hyd_period_network.specs.NetsSetToPeriods.{IsNetOf}
 use Rattle.hyd_report.specs.PeriodLines.{AreTankFacts, lines_of}
 use Rattle.hyd_report.proofs.ReportLemmas.{lines_are_report}
 use Rattle.hyd_io.specs.declared.output.OutFault.{OutFault}
-use Rattle.hyd_sim.specs.RunView.{SimView, IsSim, standing_of}
+use Rattle.hyd_sim.specs.RunView.{SimView, IsSim, standing_of, Facts}
 use Rattle.hyd_sim.specs.NarrowRecordsAndStops.{NamesStuck}
 use Rattle.hyd_sim.specs.Steps.{IsPeriod}
 use Rattle.hyd_sim.specs.declared.settings.Settings.{Settings}
@@ -20,7 +20,6 @@ use Rattle.hyd_net.specs.Sound.{IsSound}
 use Rattle.hyd_spec_certificates.specs.Valid.{AreCertificates}
 use Rattle.hyd_spec_certificates.specs.CertificateText.{record_text}
 use Rattle.hyd_cert.specs.declared.record.Record.{Record as Row}
-use Rattle.hyd_period_facts.specs.declared.facts.Facts.{Facts}
 use Rattle.hyd_period_network.specs.NetView.{NetView}
 use Rattle.hyd_period_network.specs.LawsInSettings.{AreStates}
 use Rattle.hyd_report.specs.NodeAndLinkLines.{texts}

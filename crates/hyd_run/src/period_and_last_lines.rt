@@ -29,9 +29,9 @@ use crate::signs_of_life::Signs;
 use hyd_cert::{Record, put_end, put_record};
 use hyd_io::{Desk, OutFault, Pen};
 use hyd_net::Project;
-use hyd_period_facts::Facts;
 use hyd_period_network::Net;
 use hyd_report::{put_done, put_report, put_stop};
+use hyd_sim::Facts;
 
 // Puts the report of a period, and empties the pen where that is due.
 fn put_lines<D: Desk>(

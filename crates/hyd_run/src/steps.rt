@@ -9,9 +9,8 @@ use crate::outcome::RunEnd;
 use crate::period_and_last_lines::put_period;
 use crate::signs_of_life::Signs;
 use hyd_cert::has_small_numbers;
-use hyd_finders::Finder;
 use hyd_io::{Desk, OutFault, Pen};
-use hyd_sim::{Sim, Step};
+use hyd_sim::{Finder, Sim, Step};
 
 // Does the period that is due and puts its record and its report. Answers how the run ended where none is due.
 fn put_step<D: Desk, F: Finder>(

@@ -17,9 +17,8 @@ use crate::first_lines_and_emptied_pens::{empty_both, put_front};
 use crate::outcome::RunEnd;
 use crate::period_and_last_lines::put_last;
 use crate::steps::put_steps;
-use hyd_finders::Finder;
 use hyd_io::{Desk, OutFault, Pen};
-use hyd_sim::Sim;
+use hyd_sim::{Finder, Sim};
 
 // Puts the last lines of a run that is over.
 fn put_ending<D: Desk>(

@@ -15,11 +15,10 @@ use Rattle.hyd_theorems_on_definitions.proofs.CertificateLines.{vectors-equal}
 use Rattle.hyd_theorems_on_definitions.proofs.OneEndOfPeriod.{not-last, leaves-not-last, leaves-one, leaves-no-rule}
 use Rattle.hyd_theorems_on_definitions.proofs.OneEndOfPeriod.{leaves-no-event}
 use Rattle.hyd_theorems_on_definitions.proofs.OneRefusal.{states-decided, controls-decided}
-use Rattle.hyd_period_end.specs.OpenMatters.{SharesVectors, IsOpenAt, EndsWith, IsFirstControl}
+use Rattle.hyd_period_end.specs.OpenMatters.{SharesVectors, IsOpenAt, EndsWith, IsFirstControl, open_rule}
 use Rattle.hyd_period_end.specs.declared.undecided.Open.{Open}
 use Rattle.hyd_period_end.specs.declared.undecided.Open.TheVariants.{Rule, Event, Tank, Control}
 use Rattle.hyd_period_facts.specs.TankStart.{IsFirstOpen}
-use Rattle.hyd_period_length.specs.TriedRules.{open_rule}
 use Rattle.hyd_period_vectors.specs.SoughtVectors.{HaveSame}
 
 -- ---- the same vectors

@@ -1,3 +1,4 @@
+pub mod RoomOfRuns
 pub mod PeriodAttempt
 pub mod NarrowRecordsAndStops
 pub mod RunView

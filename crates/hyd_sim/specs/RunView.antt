@@ -13,7 +13,8 @@ use Rattle.hyd_cert.specs.Lines.{Header}
 use Rattle.hyd_cert.specs.RecordView.{header_of}
 use Rattle.hyd_cert.specs.declared.record.Record.{Record}
 use Rattle.hyd_tank.specs.StockIntervals.{volumes_of}
-use Rattle.hyd_period_facts.specs.declared.facts.Facts.{Facts}
+pub use Rattle.hyd_period_facts.specs.FactsBeforeEnd.{HaveTanks}
+pub use Rattle.hyd_period_facts.specs.declared.facts.Facts.{Facts}
 use Rattle.hyd_period_facts.specs.ReservedMemory.{HasRoom}
 use Rattle.hyd_period_network.specs.NetView.{NetView}
 use Rattle.hyd_period_network.specs.NetsSetToPeriods.{IsNetOf}

@@ -26,12 +26,11 @@ use crate::settings::Settings;
 use crate::standing_between_periods::Standing;
 use crate::stop_causes::{demand_stop, lack_fits, lack_stop, open_stop};
 use hyd_cert::Record;
-use hyd_finders::Finder;
 use hyd_net::{LinkState, Project};
 use hyd_period_end::PeriodEnd;
 use hyd_period_facts::Facts;
 use hyd_period_network::Net;
-use hyd_period_vectors::Search;
+use hyd_period_vectors::{Finder, Search};
 use hyd_spec_certificates::{Problem, Side, StopCause};
 
 // Whether the record of a period that is over is narrow.

@@ -18,6 +18,9 @@ mod standing_between_periods;
 mod steps;
 mod stop_causes;
 
+pub use closing_of_run::SimParts;
+pub use hyd_period_facts::Facts;
+pub use hyd_period_vectors::Finder;
 pub use settings::Settings;
 pub use sim::Sim;
 pub use steps::Step;

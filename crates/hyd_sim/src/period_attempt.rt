@@ -15,12 +15,11 @@ ghost use Rattle.hyd_sim.specs.PeriodAttempt.{AreSought, IsFault, IsMade, IsStar
 use crate::end_of_due_period::end_period;
 use crate::standing_between_periods::Standing;
 use hyd_cert::Record;
-use hyd_finders::Finder;
 use hyd_net::Project;
 use hyd_period_end::{Open, PeriodEnd};
 use hyd_period_facts::Facts;
 use hyd_period_network::Net;
-use hyd_period_vectors::{Lack, Search};
+use hyd_period_vectors::{Finder, Lack, Search};
 
 /// Why an attempt failed.
 #[derive(Clone, Copy, Drop)]

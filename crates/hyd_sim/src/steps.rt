@@ -14,7 +14,7 @@ ghost use Rattle.hyd_sim.specs.RunView.{standing_of};
 
 use crate::due_period::advance;
 use crate::sim::Sim;
-use hyd_finders::Finder;
+use hyd_period_vectors::Finder;
 use hyd_spec_certificates::StopCause;
 
 /// What a step did.

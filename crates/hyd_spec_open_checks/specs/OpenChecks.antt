@@ -18,9 +18,9 @@ use Rattle.hyd_cert.specs.Lines.{Header}
 use Rattle.hyd_cert.specs.declared.answers_of_reader.Stand.TheVariants as stand
 use Rattle.hyd_open_certificates.specs.OpenLines.{open_header}
 use Rattle.hyd_open_certificates.specs.OpenFaults.{IsOpenFault, HasOtherOpenHeader}
-use Rattle.hyd_cert_check.specs.LinesOfRefusals.{refused_grammar_line, refused_counts_line, printed_number}
-use Rattle.hyd_cert_check.specs.declared.outcome.CheckEnd.{CheckEnd}
-use Rattle.hyd_cert_check.specs.declared.outcome.CheckEnd.TheVariants.{Accepted, Refused}
+use Rattle.hyd_spec_check_ends.specs.LinesOfRefusals.{refused_grammar_line, refused_counts_line, printed_number}
+use Rattle.hyd_spec_check_ends.specs.declared.CheckEnd.{CheckEnd}
+use Rattle.hyd_spec_check_ends.specs.declared.CheckEnd.TheVariants.{Accepted, Refused}
 
 -- The header of the texts of version 4 with the network's counts.
 abbrev pub open_header_for : Project → Header

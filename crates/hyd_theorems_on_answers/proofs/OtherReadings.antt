@@ -14,8 +14,8 @@ use Rattle.hyd_spec_reports.specs.PromisesOfRunsAndChecks.{rows_of, lines_of, Sh
 use Rattle.hyd_spec_reports.specs.PromisesOfRunsAndChecks.{accepted_line}
 use Rattle.hyd_spec_reports.specs.PromisesOfRunsAndChecks.{RunWrites}
 use Rattle.hyd_cert_check.specs.Checks.{CheckRefusal, CheckEnds}
-use Rattle.hyd_cert_check.specs.declared.outcome.CheckEnd.{CheckEnd}
-use Rattle.hyd_cert_check.specs.declared.outcome.CheckEnd.TheVariants.{Accepted}
+use Rattle.hyd_spec_check_ends.specs.declared.CheckEnd.{CheckEnd}
+use Rattle.hyd_spec_check_ends.specs.declared.CheckEnd.TheVariants.{Accepted}
 use Rattle.hyd_theorems_on_checks.specs.CertificateOfRun.{IsCertificateOfRun}
 use Rattle.hyd_theorems_on_checks.proofs.WrittenAndAccepted.{written_is}
 use Rattle.hyd_theorems_on_checks.proofs.NeverRefused.{never_refused, ends_accepted, ends_with_report}

@@ -24,8 +24,8 @@ use Rattle.hyd_spec_reports_with_flows.specs.FlowLines.{FlowLine, IsFlowLine, Ar
 use Rattle.hyd_spec_reports_with_flows.specs.PromisesWithFlows.{FoundNaming, IsFoundNaming, founds_in, entries_of}
 use Rattle.hyd_spec_reports_with_flows.specs.PromisesWithFlows.{period_text, report_with_flows, RunWritesNaming}
 use Rattle.hyd_cert_check.specs.Checks.{CheckEnds}
-use Rattle.hyd_cert_check.specs.declared.outcome.CheckEnd.{CheckEnd}
-use Rattle.hyd_cert_check.specs.declared.outcome.CheckEnd.TheVariants.{Accepted, Refused}
+use Rattle.hyd_spec_check_ends.specs.declared.CheckEnd.{CheckEnd}
+use Rattle.hyd_spec_check_ends.specs.declared.CheckEnd.TheVariants.{Accepted, Refused}
 use Rattle.hyd_theorems_on_checks.specs.CertificateOfRun.{IsCertificateOfRunNaming, IsCertificateOfSomeRun}
 use Rattle.hyd_theorems_on_checks.proofs.WrittenAndAccepted.{written_naming_is}
 use Rattle.hyd_theorems_on_checks.proofs.NeverRefusedNaming.{naming_with_report, some_accepted, some_not_refused}

@@ -11,7 +11,7 @@ use Rattle.hyd_spec_reports.specs.PromisesOfRunsAndChecks.{Outcome, Finished, St
 use Rattle.hyd_io.specs.DeskBytes.{Files, where_told, append_known}
 use Rattle.hyd_run.specs.Runs.{sharpness_of}
 use Rattle.hyd_sim.specs.declared.settings.Settings.{Settings}
-use Rattle.hyd_cert_check.specs.declared.outcome.CheckEnd.TheVariants.{Accepted}
+use Rattle.hyd_spec_check_ends.specs.declared.CheckEnd.TheVariants.{Accepted}
 use Rattle.hyd_theorems_on_checks.specs.CertificateOfRun.{IsCertificateOfRun}
 use Rattle.hyd_theorems_on_checks.proofs.WrittenAndAccepted.{written_is}
 use Rattle.hyd_theorems_on_rereading.proofs.OneNetwork.{one_network}
@@ -23,7 +23,7 @@ use Rattle.hyd_command_answers.specs.declared.status.Status.TheVariants.{InputRe
 use Rattle.hyd_command_answers.specs.declared.status.Status.TheVariants.{CertificateRefused, Stalled}
 use Rattle.hyd_command_answers.specs.DeskContents.{Seen}
 use Rattle.hyd_cli.specs.RunAnswers.{Delivered, AnswersText}
-use Rattle.hyd_cli.specs.CheckAnswers.{AnswersCheck}
+use Rattle.hyd_check_command.specs.CheckAnswers.{AnswersCheck}
 use Rattle.hyd_theorems_on_answers.specs.StatusesThatWrote.{HasWritten}
 
 -- ---- what was written

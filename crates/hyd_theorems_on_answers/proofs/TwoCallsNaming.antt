@@ -9,7 +9,7 @@ use Rattle.hyd_spec_reports_with_flows.specs.PromisesWithFlows.{RunWritesNaming}
 use Rattle.hyd_io.specs.DeskBytes.{append_known}
 use Rattle.hyd_run.specs.Runs.{sharpness_of}
 use Rattle.hyd_sim.specs.declared.settings.Settings.{Settings}
-use Rattle.hyd_cert_check.specs.declared.outcome.CheckEnd.TheVariants.{Accepted}
+use Rattle.hyd_spec_check_ends.specs.declared.CheckEnd.TheVariants.{Accepted}
 use Rattle.hyd_theorems_on_checks.specs.CertificateOfRun.{IsCertificateOfRunNaming}
 use Rattle.hyd_theorems_on_checks.proofs.WrittenAndAccepted.{written_naming_is}
 use Rattle.hyd_theorems_on_rereading.proofs.OneNetwork.{one_network}
@@ -21,37 +21,37 @@ use Rattle.hyd_command_answers.specs.declared.status.Status.TheVariants.{InputRe
 use Rattle.hyd_command_answers.specs.declared.status.Status.TheVariants.{CertificateRefused, Stalled}
 use Rattle.hyd_command_answers.specs.DeskContents.{Seen}
 use Rattle.hyd_naming_command.specs.NamingAnswers.{DeliveredNaming, AnswersNames, named, refused, AnswersTextNaming}
-use Rattle.hyd_cli.specs.CheckAnswers.{AnswersCheck}
+use Rattle.hyd_check_command.specs.CheckAnswers.{AnswersCheck}
 use Rattle.hyd_theorems_on_answers.specs.StatusesThatWrote.{HasWritten}
 
 -- ---- what was delivered
 
 -- the names were those of links, and the network was run with the flows of these
-record Ran (project : Project) (settings : Settings) (cert : List ℕ) (status : Status) (before now : Seen) : Type 0
+pub record Ran (project : Project) (settings : Settings) (cert : List ℕ) (status : Status) (before now : Seen) : Type 0
   where
-    links : List ℕ
-    delivered : DeliveredNaming project links settings cert status before now
+    pub links : List ℕ
+    pub delivered : DeliveredNaming project links settings cert status before now
 
-ran_done : (project : Project) (names : List (List ℕ)) (settings : Settings) (cert : List ℕ) (before now : Seen)
+pub ran_done : (project : Project) (names : List (List ℕ)) (settings : Settings) (cert : List ℕ) (before now : Seen)
     → AnswersNames project names settings cert Done before now → Ran project settings cert Done before now
 ran_done project names settings cert before now (named links are may answers) =
     record { links = links; delivered = answers }
 ran_done project names settings cert before now (refused place cause is answers) = absurd answers
 
-ran_undecided : (project : Project) (names : List (List ℕ)) (settings : Settings) (cert : List ℕ) (before now : Seen)
+pub ran_undecided : (project : Project) (names : List (List ℕ)) (settings : Settings) (cert : List ℕ) (before now : Seen)
     → AnswersNames project names settings cert Undecided before now → Ran project settings cert Undecided before now
 ran_undecided project names settings cert before now (named links are may answers) =
     record { links = links; delivered = answers }
 ran_undecided project names settings cert before now (refused place cause is answers) = absurd answers
 
-ran_spent : (project : Project) (names : List (List ℕ)) (settings : Settings) (cert : List ℕ) (before now : Seen)
+pub ran_spent : (project : Project) (names : List (List ℕ)) (settings : Settings) (cert : List ℕ) (before now : Seen)
     → AnswersNames project names settings cert RoundsSpent before now
     → Ran project settings cert RoundsSpent before now
 ran_spent project names settings cert before now (named links are may answers) =
     record { links = links; delivered = answers }
 ran_spent project names settings cert before now (refused place cause is answers) = absurd answers
 
-ran_demand : (project : Project) (names : List (List ℕ)) (settings : Settings) (cert : List ℕ) (before now : Seen)
+pub ran_demand : (project : Project) (names : List (List ℕ)) (settings : Settings) (cert : List ℕ) (before now : Seen)
     → AnswersNames project names settings cert Demand before now → Ran project settings cert Demand before now
 ran_demand project names settings cert before now (named links are may answers) =
     record { links = links; delivered = answers }

@@ -17,8 +17,8 @@ ghost use Rattle.hyd_spec_reports.specs.PromisesOfRunsAndChecks.{lines_of, Sharp
 ghost use Rattle.hyd_spec_reports.specs.PromisesOfRunsAndChecks.{RunWrites};
 ghost use Rattle.hyd_spec_reports_with_flows.specs.PromisesWithFlows.{report_with_flows, RunWritesNaming};
 ghost use Rattle.hyd_cert_check.specs.Checks.{CheckRefusal, CheckEnds};
-ghost use Rattle.hyd_cert_check.specs.declared.outcome.CheckEnd.{CheckEnd};
-ghost use Rattle.hyd_cert_check.specs.declared.outcome.CheckEnd.TheVariants.{Accepted, Refused};
+ghost use Rattle.hyd_spec_check_ends.specs.declared.CheckEnd.{CheckEnd};
+ghost use Rattle.hyd_spec_check_ends.specs.declared.CheckEnd.TheVariants.{Accepted, Refused};
 ghost use Rattle.hyd_theorems_on_checks.specs.CertificateOfRun.{IsCertificateOfRun, IsCertificateOfRunNaming};
 ghost use Rattle.hyd_theorems_on_checks.specs.CertificateOfRun.{IsCertificateOfSomeRun};
 ghost use Rattle.hyd_theorems_on_rereading.specs.WithoutSpare.{bare_project};

@@ -4,4 +4,5 @@
 #![tactic(auto)]
 
 pub mod checks_after_rereading;
+pub mod open_checks_after_rereading;
 pub mod two_calls;

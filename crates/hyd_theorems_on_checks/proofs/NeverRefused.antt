@@ -9,8 +9,8 @@ use Rattle.hyd_sim.specs.RunView.{header_for}
 use Rattle.hyd_cert_check.specs.Checks.{CheckRefusesGrammar, CheckRefusesCounts, CheckRefusal, CheckEnds}
 use Rattle.hyd_cert_check.specs.Checks.{CheckEndsPlainly}
 use Rattle.hyd_cert_check.specs.Checks.{grammar, counts, record_refused, other_end}
-use Rattle.hyd_cert_check.specs.declared.outcome.CheckEnd.{CheckEnd}
-use Rattle.hyd_cert_check.specs.declared.outcome.CheckEnd.TheVariants.{Accepted, Refused}
+use Rattle.hyd_spec_check_ends.specs.declared.CheckEnd.{CheckEnd}
+use Rattle.hyd_spec_check_ends.specs.declared.CheckEnd.TheVariants.{Accepted, Refused}
 use Rattle.hyd_theorems_on_checks.specs.CertificateOfRun.{IsCertificateOfRun}
 use Rattle.hyd_theorems_on_checks.proofs.RecordsNotRefused.{no_record_refused}
 use Rattle.hyd_theorems_on_checks.proofs.TextsWithoutFlows.{run_without_flows, plain_end}

@@ -21,8 +21,8 @@ use Rattle.hyd_cert_check.specs.Checks.{CheckEnds}
 use Rattle.hyd_cert_check.specs.ChecksWithFlows.{CheckRefusesGrammarNaming, CheckRefusesCountsNaming, CheckEndsNaming}
 use Rattle.hyd_cert_check.specs.ChecksWithFlows.{CheckRefusalNaming, grammar, counts, record_refused, part_refused}
 use Rattle.hyd_cert_check.specs.ChecksWithFlows.{other_end}
-use Rattle.hyd_cert_check.specs.declared.outcome.CheckEnd.{CheckEnd}
-use Rattle.hyd_cert_check.specs.declared.outcome.CheckEnd.TheVariants.{Accepted, Refused}
+use Rattle.hyd_spec_check_ends.specs.declared.CheckEnd.{CheckEnd}
+use Rattle.hyd_spec_check_ends.specs.declared.CheckEnd.TheVariants.{Accepted, Refused}
 use Rattle.hyd_theorems_on_checks.specs.CertificateOfRun.{IsCertificateOfRunNaming}
 use Rattle.hyd_theorems_on_checks.specs.CertificateOfRun.{IsCertificateOfSomeRun}
 use Rattle.hyd_theorems_on_checks.proofs.BeginningsOfLists.{Begins}

@@ -8,7 +8,7 @@ use Rattle.hyd_spec_reports.specs.PromisesOfRunsAndChecks.{rows_of}
 use Rattle.hyd_spec_flows.specs.FlowTexts.{is_with_flows}
 use Rattle.hyd_cert_check.specs.Checks.{CheckEnds, CheckEndsPlainly, CheckFinds, CheckFindsPlainly}
 use Rattle.hyd_cert_check.specs.ChecksWithFlows.{CheckEndsNaming, CheckFindsNaming}
-use Rattle.hyd_cert_check.specs.declared.outcome.CheckEnd.{CheckEnd}
+use Rattle.hyd_spec_check_ends.specs.declared.CheckEnd.{CheckEnd}
 use Rattle.hyd_theorems_on_flow_texts.proofs.FirstLines.{plain_text}
 use Rattle.hyd_theorems_on_checks.specs.CertificateOfRun.{IsCertificateOfRun}
 

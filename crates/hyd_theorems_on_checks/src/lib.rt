@@ -26,8 +26,8 @@ ghost use Rattle.hyd_spec_reports_with_flows.specs.PromisesWithFlows.{report_wit
 ghost use Rattle.hyd_spec_reports_with_flows.specs.PromisesWithFlows.{CheckAcceptsNaming};
 ghost use Rattle.hyd_cert_check.specs.Checks.{CheckRefusal, CheckEnds};
 ghost use Rattle.hyd_cert_check.specs.ChecksWithFlows.{CheckRefusalNaming};
-ghost use Rattle.hyd_cert_check.specs.declared.outcome.CheckEnd.{CheckEnd};
-ghost use Rattle.hyd_cert_check.specs.declared.outcome.CheckEnd.TheVariants.{Accepted, Refused};
+ghost use Rattle.hyd_spec_check_ends.specs.declared.CheckEnd.{CheckEnd};
+ghost use Rattle.hyd_spec_check_ends.specs.declared.CheckEnd.TheVariants.{Accepted, Refused};
 ghost use Rattle.hyd_theorems_on_checks.specs.CertificateOfRun.{IsCertificateOfRun, IsCertificateOfRunNaming};
 ghost use Rattle.hyd_theorems_on_checks.specs.CertificateOfRun.{IsCertificateOfSomeRun, IsRunOf};
 

@@ -13,12 +13,12 @@ use Rattle.hyd_spec_reports.specs.ReportLine.{ReportLine, report_text, line_text
 use Rattle.hyd_spec_certificates.specs.declared.CertRefused.{CertRefused}
 use Rattle.hyd_spec_reports.specs.PromisesOfRunsAndChecks.{Found, IsRun, rows_of, lines_of, CheckAccepts, CheckRefuses}
 use Rattle.hyd_spec_reports.specs.PromisesOfRunsAndChecks.{CheckRefusesEnd}
-use Rattle.hyd_cert_check.specs.LinesOfRefusals.{refused_counts_line}
+use Rattle.hyd_spec_check_ends.specs.LinesOfRefusals.{refused_counts_line}
 use Rattle.hyd_cert_check.specs.Checks.{BeginsWithFound, CheckEndsPlainly, CheckFindsPlainly}
 use Rattle.hyd_cert_check.specs.Checks.{CheckRefusesGrammar, CheckRefusesCounts, CheckRefusal}
 use Rattle.hyd_cert_check.specs.Checks.{grammar, counts, record_refused, other_end}
-use Rattle.hyd_cert_check.specs.declared.outcome.CheckEnd.{CheckEnd}
-use Rattle.hyd_cert_check.specs.declared.outcome.CheckEnd.TheVariants.{Accepted, Refused}
+use Rattle.hyd_spec_check_ends.specs.declared.CheckEnd.{CheckEnd}
+use Rattle.hyd_spec_check_ends.specs.declared.CheckEnd.TheVariants.{Accepted, Refused}
 use Rattle.hyd_theorems_on_checks.proofs.RecordsNotRefused.{none_refused}
 use Rattle.hyd_theorems_on_reports_of_checks.proofs.RecordsOfOneText.{compared, other_header}
 use Rattle.hyd_theorems_on_checks.proofs.FirstRecords.{first_rows}

@@ -21,12 +21,12 @@ use Rattle.hyd_sim.specs.RunView.{header_for}
 use Rattle.hyd_lemmas.proofs.ListsOptionsAndResults.{joined_append}
 use Rattle.hyd_theorems_on_flow_texts.proofs.EntriesOfOneText.{front_entries}
 use Rattle.hyd_theorems_on_flow_texts.proofs.OneFaultWithFlows.{other_counts as not_of_others}
-use Rattle.hyd_cert_check.specs.LinesOfRefusals.{refused_counts_line}
+use Rattle.hyd_spec_check_ends.specs.LinesOfRefusals.{refused_counts_line}
 use Rattle.hyd_cert_check.specs.ChecksWithFlows.{BeginsWithNamings, CheckRefusesGrammarNaming, CheckFindsNaming}
 use Rattle.hyd_cert_check.specs.ChecksWithFlows.{CheckRefusesCountsNaming, CheckRefusalNaming, CheckEndsNaming}
 use Rattle.hyd_cert_check.specs.ChecksWithFlows.{grammar, counts, record_refused, part_refused, other_end}
-use Rattle.hyd_cert_check.specs.declared.outcome.CheckEnd.{CheckEnd}
-use Rattle.hyd_cert_check.specs.declared.outcome.CheckEnd.TheVariants.{Accepted, Refused}
+use Rattle.hyd_spec_check_ends.specs.declared.CheckEnd.{CheckEnd}
+use Rattle.hyd_spec_check_ends.specs.declared.CheckEnd.TheVariants.{Accepted, Refused}
 use Rattle.hyd_theorems_on_checks.proofs.BeginningsOfLists.{Begins, before_last}
 use Rattle.hyd_theorems_on_checks.proofs.RunsByEntries.{rows_are, begins_with_namings}
 use Rattle.hyd_theorems_on_checks.proofs.EntriesNotRefused.{no_refused_record, no_refused_part}

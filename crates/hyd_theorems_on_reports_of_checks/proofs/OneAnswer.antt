@@ -5,7 +5,7 @@ use Rattle.hyd_spec.specs.ProgramTypes.{Project}
 use Rattle.hyd_spec.specs.Lists.{IsFrontOf}
 use Rattle.hyd_spec_flows.specs.FlowTexts.{is_with_flows}
 use Rattle.hyd_cert_check.specs.Checks.{CheckEnds, CheckFinds, CheckBreaksOff, in_last_line, in_records}
-use Rattle.hyd_cert_check.specs.declared.outcome.CheckEnd.{CheckEnd}
+use Rattle.hyd_spec_check_ends.specs.declared.CheckEnd.{CheckEnd}
 use Rattle.hyd_theorems_on_checks.proofs.TextsWithoutFlows.{plain_end, plain_find}
 use Rattle.hyd_theorems_on_checks.proofs.TextsWithFlows.{naming_end, naming_find}
 use Rattle.hyd_theorems_on_reports_of_checks.proofs.OneReason.{one_answer_plainly}

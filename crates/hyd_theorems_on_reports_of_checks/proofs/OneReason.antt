@@ -20,12 +20,12 @@ use Rattle.hyd_theorems_on_runs.proofs.OneRun.{one_left}
 use Rattle.hyd_cert.specs.FaultyLine.{IsCertificate}
 use Rattle.hyd_cert.proofs.WholeTextLemmas.{fault_no_certificate, no_certificate_of_others, one_fault, fault_or_header}
 use Rattle.hyd_sim.specs.RunView.{header_for}
-use Rattle.hyd_cert_check.specs.LinesOfRefusals.{refused_grammar_line, printed_number}
+use Rattle.hyd_spec_check_ends.specs.LinesOfRefusals.{refused_grammar_line, printed_number}
 use Rattle.hyd_cert_check.specs.Checks.{BeginsWithFound, CheckRefusesGrammar}
 use Rattle.hyd_cert_check.specs.Checks.{CheckRefusesCounts, CheckRefusal, CheckEndsPlainly}
 use Rattle.hyd_cert_check.specs.Checks.{grammar, counts, record_refused, other_end}
-use Rattle.hyd_cert_check.specs.declared.outcome.CheckEnd.{CheckEnd}
-use Rattle.hyd_cert_check.specs.declared.outcome.CheckEnd.TheVariants.{Accepted, Refused}
+use Rattle.hyd_spec_check_ends.specs.declared.CheckEnd.{CheckEnd}
+use Rattle.hyd_spec_check_ends.specs.declared.CheckEnd.TheVariants.{Accepted, Refused}
 use Rattle.hyd_theorems_on_reports_of_checks.specs.SameEnding.{HaveOneReason}
 use Rattle.hyd_theorems_on_checks.proofs.EndLineNotRefused.{one_report}
 use Rattle.hyd_theorems_on_reports_of_checks.proofs.RecordsOfOneText.{AreRows, BeginsWith, compared, other_header}

@@ -25,12 +25,12 @@ use Rattle.hyd_theorems_on_flows.proofs.OneCause.{one_cause as one_cause_of_part
 use Rattle.hyd_theorems_on_flow_texts.proofs.EntriesOfOneText.{one_reading, front_entries}
 use Rattle.hyd_theorems_on_flow_texts.proofs.OneFaultWithFlows.{one_fault, fault_no_text, other_counts as not_of_others}
 use Rattle.hyd_theorems_on_flow_texts.proofs.OneFaultWithFlows.{fault_or_counts}
-use Rattle.hyd_cert_check.specs.LinesOfRefusals.{refused_grammar_line, printed_number}
+use Rattle.hyd_spec_check_ends.specs.LinesOfRefusals.{refused_grammar_line, printed_number}
 use Rattle.hyd_cert_check.specs.ChecksWithFlows.{BeginsWithNamings, CheckRefusesGrammarNaming}
 use Rattle.hyd_cert_check.specs.ChecksWithFlows.{CheckRefusesCountsNaming, CheckRefusalNaming, CheckEndsNaming}
 use Rattle.hyd_cert_check.specs.ChecksWithFlows.{grammar, counts, record_refused, part_refused, other_end}
-use Rattle.hyd_cert_check.specs.declared.outcome.CheckEnd.{CheckEnd}
-use Rattle.hyd_cert_check.specs.declared.outcome.CheckEnd.TheVariants.{Accepted, Refused}
+use Rattle.hyd_spec_check_ends.specs.declared.CheckEnd.{CheckEnd}
+use Rattle.hyd_spec_check_ends.specs.declared.CheckEnd.TheVariants.{Accepted, Refused}
 use Rattle.hyd_theorems_on_checks.proofs.BeginningsOfLists.{Begins, both_ways, before_last, lasts}
 use Rattle.hyd_theorems_on_checks.proofs.RunsByRecords.{one_by_records}
 use Rattle.hyd_theorems_on_checks.proofs.RunsByEntries.{rows_are, one_by_entries}

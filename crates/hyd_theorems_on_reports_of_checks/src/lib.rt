@@ -7,7 +7,7 @@ ghost use Rattle.hyd_net.specs.Sound.{IsSound};
 ghost use Rattle.hyd_spec.specs.ProgramTypes.{Project};
 ghost use Rattle.hyd_cert_check.specs.Checks.{CheckRefusal, CheckEnds, CheckBreaksOff};
 ghost use Rattle.hyd_cert_check.specs.ChecksWithFlows.{CheckRefusalNaming};
-ghost use Rattle.hyd_cert_check.specs.declared.outcome.CheckEnd.{CheckEnd};
+ghost use Rattle.hyd_spec_check_ends.specs.declared.CheckEnd.{CheckEnd};
 ghost use Rattle.hyd_theorems_on_reports_of_checks.specs.SameEnding.{HaveOneReason, HaveOneReasonNaming};
 
 /// Checks of one text by a sound network that come to their end end in one way: all of them accept it, or all refuse it

@@ -46,7 +46,7 @@ clock_length_on p x y time cap is = least_on (EndsByClock (with_inner p x) time)
 
 module _ (test : Walls → Tank → Stocks → Interval → ℤ → Bool → ℕ → Bool) (p : Project) (grid : Grid)
     (standing : Standing) (row : Record) where
-  reaches_on : (x y : Inner) → AreAlike x y → (seconds : ℕ)
+  pub reaches_on : (x y : Inner) → AreAlike x y → (seconds : ℕ)
       → SomeReaches test (with_inner p x) grid standing row seconds
       → SomeReaches test (with_inner p y) grid standing row seconds
   reaches_on x y alike seconds is = record {
@@ -88,7 +88,7 @@ module _ (p : Project) (grid : Grid) (standing : Standing) (row : Record) where
 
   -- ---- rules
 
-  tried_on : (x y : Inner) (seconds : ℕ) → IsTried (with_inner p x) standing seconds
+  pub tried_on : (x y : Inner) (seconds : ℕ) → IsTried (with_inner p x) standing seconds
       → IsTried (with_inner p y) standing seconds
   tried_on x y seconds is = record { later = is.later; is_multiple = is.is_multiple }
 

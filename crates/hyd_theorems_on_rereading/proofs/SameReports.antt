@@ -111,7 +111,7 @@ module _ (p : Project) (x y : Inner) (alike : AreAlike x y) where
       (same_control_changes time acts (suc k) rest (slice_set links control.link control.to))
       (same_control_changes time acts (suc k) rest links)
 
-  same_changes_at : (standing : Standing)
+  pub same_changes_at : (standing : Standing)
       → changes_at (with_inner p x) standing ≡ changes_at (with_inner p y) standing
   same_changes_at standing =
       ap (λ (links : List LinkState). control_changes (with_inner p x) standing.time (acts_on standing.levels) 0
@@ -204,7 +204,7 @@ module _ (p : Project) (x y : Inner) (alike : AreAlike x y) where
       lines_are = are.lines_are;
     }
 
-    state_by : (told : Bool) (lines : List ReportLine)
+    pub state_by : (told : Bool) (lines : List ReportLine)
         → MatchBool told (AreStateLines (with_inner p x) grid standing row lines) (lines ≡ [])
         → MatchBool told (AreStateLines (with_inner p y) grid standing row lines) (lines ≡ [])
     state_by true lines are = state_lines_on lines are
@@ -257,7 +257,7 @@ module _ (p : Project) (x y : Inner) (alike : AreAlike x y) where
 
   -- ---- texts
 
-  same_tank_id : (k : ℕ) → tank_id (with_inner p x) k ≡ tank_id (with_inner p y) k
+  pub same_tank_id : (k : ℕ) → tank_id (with_inner p x) k ≡ tank_id (with_inner p y) k
   same_tank_id k = ap (λ (node : ℕ). slice_index_or p.node_ids node []) (same_node p x y alike k)
 
   same_reservoir_id : (r : ℕ) → reservoir_id (with_inner p x) r ≡ reservoir_id (with_inner p y) r
@@ -268,7 +268,7 @@ module _ (p : Project) (x y : Inner) (alike : AreAlike x y) where
       ap (λ (ids : List (List ℕ)). slice_index_or ids rule []) (zip_map IsLikeRule (λ (r : Rule). r.id.list)
       (λ (r : Rule). r.id.list) (λ a b like. like.id) x.rules.list y.rules.list alike.rules)
 
-  same_words : (each : ReportLine) → line_words (with_inner p x) each ≡ line_words (with_inner p y) each
+  pub same_words : (each : ReportLine) → line_words (with_inner p x) each ≡ line_words (with_inner p y) each
   same_words (ControlLine time number link state) = refl
   same_words (TimeLine time) = refl
   same_words (JunctionLine j head pressure outflow) = refl

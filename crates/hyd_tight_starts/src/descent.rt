@@ -1,6 +1,7 @@
 //! The way from a certificate to the tight vector: at falling steps, all junctions step nearer; those that fall short go
 //! back, and so do those that fall short then (the burning test, Dhar 1990), until the rest passes; it goes on as far as
-//! it passes together. Where every junction goes back at the step of one tick, the tight vector is reached.
+//! it passes together. After a few steps leaps go on along their way. Where every junction goes back at the step of one
+//! tick, the tight vector is reached.
 #![tactic(auto)]
 
 ghost use Rattle.std.specs.Prelude.{◌≡◌, length};
@@ -9,6 +10,7 @@ ghost use Rattle.hyd_period_network.specs.SoundNets.{HasProblem};
 
 use crate::flows::{nearer, over};
 use crate::held_balance::HeldBalance;
+use crate::leaps::Leaps;
 use crate::places::{copy, number_at, put_at};
 use crate::steps::Steps;
 use hyd_period_network::Net;
@@ -19,26 +21,32 @@ use std::alloc::{AllocError as OutOfMemory, Global};
 /// The first step is 2 to the power of this many ticks: some 100 m.
 const FIRST_POWER: u32 = 50;
 
-/// So many junctions may step in all.
+/// So many junctions may step in all on each of many ways, as one for each pipe.
 const MOST_STEPS: u64 = 4_000_000;
 
-/// So many where one is held, of which there is one way for each side, and not one for each pipe.
-const MOST_STEPS_HELD: u64 = 32_000_000;
+/// So many on one of few ways: one for each side.
+const MOST_STEPS_OF_FEW: u64 = 32_000_000;
+
+/// After so many steps a leap is tried. Where it leads nowhere, twice as many are made before the next one, up to the
+/// most.
+const STEPS_TO_LEAP: u32 = 8;
+
+const MOST_STEPS_TO_LEAP: u32 = 16;
+
+/// At most so many leaps are made one after the other.
+const LEAPS: u32 = 60;
+
+/// The work of a leap, as so many steps.
+const WORK_OF_LEAP: u64 = 8;
 
 /// Room for the way, opened once.
 #[derive(Drop)]
 pub struct Descent {
     steps: Steps,
+    leaps: Leaps,
     balance: HeldBalance,
-}
-
-// So many junctions may step in all.
-fn most_steps(net: &Net, held: u32) -> u64 {
-    if held < net.junctions() {
-        MOST_STEPS_HELD
-    } else {
-        MOST_STEPS
-    }
+    /// How many junctions may still step.
+    left: u64,
 }
 
 // The number of a held junction, or one that there isn't.
@@ -99,7 +107,9 @@ impl Descent {
     pub fn open(alloc: Global, net: &Net) -> Result<Descent, OutOfMemory> {
         Ok(Descent {
             steps: Steps::open(alloc, net)?,
+            leaps: Leaps::open(alloc, net)?,
             balance: HeldBalance::open(alloc, net)?,
+            left: 0,
         })
     }
 
@@ -110,17 +120,82 @@ impl Descent {
         balance.find(net, side, held.junction, &mut self.steps.heads);
     }
 
+    // Leaps on and on, and tells whether any leap led to another certificate.
+    fn leap_on(&mut self, net: &Net, side: Side, held: u32) -> bool {
+        self.leaps.aim(net, side, &self.steps.heads);
+        let mut led = false;
+        for _ in 0..LEAPS {
+            self.spend(net, WORK_OF_LEAP);
+            if !self.leaps.leap(net, side, held, &self.steps.heads) {
+                return led;
+            }
+            self.steps.take(&self.leaps.trial);
+            led = true;
+        }
+        led
+    }
+
+    // Counts all junctions as many times.
+    fn spend(&mut self, net: &Net, times: u64) {
+        let spent = u64::from(net.junctions()).saturating_mul(times);
+        self.left = self.left.saturating_sub(spent);
+    }
+
+    // Goes at a step until none moves, and tells whether that came before so many junctions had stepped as were left.
+    fn go_at(&mut self, net: &Net, side: Side, held: u32, step: i64) -> bool {
+        let mut times = STEPS_TO_LEAP;
+        for _ in 0..self.left {
+            self.leaps.begin(&self.steps.heads);
+            if self.steps.go_times(net, side, held, step, times) {
+                return true;
+            }
+            self.spend(net, u64::from(times));
+            times = if self.leap_on(net, side, held) {
+                STEPS_TO_LEAP
+            } else {
+                times.saturating_mul(2).min(MOST_STEPS_TO_LEAP)
+            };
+            if self.left == 0 {
+                return false;
+            }
+        }
+        false
+    }
+
     // Goes at one step after another, each half of the one before.
     fn go(&mut self, net: &Net, side: Side, held: u32) -> bool {
-        let mut left = most_steps(net, held);
         let mut step = 1i64 << FIRST_POWER;
         for _ in 0..FIRST_POWER {
-            if !self.steps.go_at(net, side, held, step, &mut left) {
+            if !self.go_at(net, side, held, step) {
                 return false;
             }
             step /= 2;
         }
-        self.steps.go_at(net, side, held, 1, &mut left)
+        self.go_at(net, side, held, 1)
+    }
+
+    // Goes on from heads of all nodes that are in place.
+    fn come_down(
+        &mut self,
+        net: &Net,
+        side: Side,
+        held: u32,
+        heads: &mut [i64],
+        order: &mut [u32],
+    ) -> bool
+        ensures each { length heads.new ≡ length heads.old }
+        ensures places { length order.new ≡ length order.old }
+    {
+        if !pass_all(net, side, held, &self.steps.heads) {
+            return false;
+        }
+        self.steps.begin(net, side);
+        if !self.go(net, side, held) {
+            return false;
+        }
+        copy(&self.steps.heads, heads);
+        self.steps.copy_order(order);
+        true
     }
 
     /// Goes from a certificate, a head for each junction, with or without a junction held, to heads that may be the
@@ -139,18 +214,30 @@ impl Descent {
     {
         copy(heads, &mut self.steps.heads);
         put_fixed(net, side, &mut self.steps.heads);
+        self.left = MOST_STEPS;
         if let Some(there) = held {
+            self.left = MOST_STEPS_OF_FEW;
             self.hold(net, side, there);
         }
-        if !pass_all(net, side, number_of(held), &self.steps.heads) {
-            return false;
-        }
-        self.steps.begin(net, side);
-        if !self.go(net, side, number_of(held)) {
-            return false;
-        }
-        copy(&self.steps.heads, heads);
-        self.steps.copy_order(order);
-        true
+        self.come_down(net, side, number_of(held), heads, order)
+    }
+
+    /// The same with none held, among heads of all nodes, junctions first: those of reservoirs and tanks stay as they
+    /// are there, so that it serves a problem with a tank's head pinned too.
+    pub fn descend_among(
+        &mut self,
+        net: &Net,
+        side: Side,
+        nodes: &[i64],
+        heads: &mut [i64],
+        order: &mut [u32],
+    ) -> bool
+        ensures each { length heads.new ≡ length heads.old }
+        ensures places { length order.new ≡ length order.old }
+    {
+        copy(nodes, &mut self.steps.heads);
+        copy(heads, &mut self.steps.heads);
+        self.left = MOST_STEPS_OF_FEW;
+        self.come_down(net, side, u32::MAX, heads, order)
     }
 }

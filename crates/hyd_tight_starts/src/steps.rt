@@ -4,7 +4,8 @@
 ghost use Rattle.std.specs.Prelude.{◌≡◌, length};
 
 use crate::flows::{nearer, over, own_part, part, turned};
-use crate::places::{add_at, is_marked, mark, number_at, put_at};
+use crate::places::{add_at, copy, is_marked, mark, number_at, put_at};
+use crate::raises::Trial;
 use crate::strides::{put_rim, reach};
 use hyd_period_network::Net;
 use hyd_spec_certificates::Side;
@@ -232,25 +233,26 @@ impl Steps {
         moved
     }
 
-    /// Goes at a step until none moves, and tells whether that came before so many junctions had stepped as were left.
-    pub(crate) fn go_at(
+    /// Goes so many times at a step, and tells whether none moved at last.
+    pub(crate) fn go_times(
         &mut self,
         net: &Net,
         side: Side,
         held: u32,
         step: i64,
-        left: &mut u64,
+        times: u32,
     ) -> bool {
-        for _ in 0..*left {
+        for _ in 0..times {
             if self.go_once(net, side, held, step) == 0 {
                 return true;
             }
-            let junctions = u64::from(net.junctions());
-            if *left < junctions {
-                return false;
-            }
-            *left -= junctions;
         }
         false
+    }
+
+    /// Takes another certificate in place of this one.
+    pub(crate) fn take(&mut self, trial: &Trial) {
+        copy(&trial.heads, &mut self.heads);
+        copy(&trial.over, &mut self.over);
     }
 }

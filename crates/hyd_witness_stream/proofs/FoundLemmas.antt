@@ -35,7 +35,7 @@ use Rattle.hyd_report.proofs.ReportLemmas.{lines_are_report}
 use Rattle.hyd_run.proofs.PeriodLemmas.{tank-facts-of, number-next, each-link, fewer-left}
 use Rattle.hyd_run.specs.Runs.{first_line, periods_left}
 use Rattle.hyd_sim.specs.RunView.{SimView, IsSim, standing_of, header_for}
-use Rattle.hyd_cert_check.specs.ReaderAndPen.{CheckMoment, PutIn}
+use Rattle.hyd_cert_check.specs.ReaderAndPen.{CheckMoment, IsAtStart, PutIn}
 use Rattle.hyd_cert_check.specs.RecordByRecord.{DidRecord, IsPartRefusedNext, IsRead, IsSoFar, IsStep}
 use Rattle.hyd_cert_check.proofs.RecordLemmas.{did-there, part-refused}
 use Rattle.hyd_cert_check.proofs.RecordByRecordLemmas.{turn-more}
@@ -91,6 +91,13 @@ one-more-text project S moments moment =
 
 -- ---- the start
 
+-- a reader that has read nothing has passed no line
+new_at_start : (reader : ReaderView) → reader ≡ fresh → IsAtStart reader
+new_at_start reader new = record {
+  stand = ap (λ (r : ReaderView). r.stand) new;
+  line = ap (λ (r : ReaderView). r.line) new;
+}
+
 begins : (project : Project) (S : ℕ) (course : Course) (start now : CheckMoment) → start.reader ≡ fresh
     → now.reader ≡ start.reader → now.told.rest ≡ start.told.rest → IsCourseOf project S at_start course
     → WrittenIn (witness_header S (counts_of project)) start now
@@ -98,7 +105,7 @@ begins : (project : Project) (S : ℕ) (course : Course) (start now : CheckMomen
 begins project S course start now new same rest stands put = record {
   held = [] ++ first_line;
   check = so-far-begun project (initial_standing project) (checks_at start []) (checks_at now ([] ++ first_line)) refl
-      new same rest (imagined start.reader now.reader start.told.rest now.told.rest [] first_line);
+      (new_at_start start.reader new) same rest (imagined start.reader now.reader start.told.rest now.told.rest [] first_line);
   moments = [];
   each = refl;
   fit = All-nil (IsMoment (counts_of project));

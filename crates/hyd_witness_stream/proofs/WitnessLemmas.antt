@@ -14,7 +14,7 @@ use Rattle.hyd_spec_certificates.specs.RefusedRecords.{refused_period}
 use Rattle.hyd_spec_reports.specs.PromisesOfRunsAndChecks.{Found}
 use Rattle.hyd_spec_reports.specs.ReportLine.{refused_line, refused_end_line, refusal_words}
 use Rattle.hyd_spec_reports_with_flows.specs.FlowLines.{flow_refusal_words, refused_flow_line}
-use Rattle.hyd_cert_check.specs.LinesOfRefusals.{refused_grammar_line, refused_counts_line}
+use Rattle.hyd_spec_check_ends.specs.LinesOfRefusals.{refused_grammar_line, refused_counts_line}
 use Rattle.hyd_spec_reports_with_flows.specs.PromisesWithFlows.{FoundNaming, founds_in, report_with_flows}
 use Rattle.hyd_spec_witnesses.specs.MetPeriods.{Moment, AreMet, HasItsLists}
 use Rattle.hyd_spec_witnesses.specs.MiddleCandidate.{halves}
@@ -27,7 +27,7 @@ use Rattle.hyd_theorems_on_witnesses.proofs.MetHistories.{met-history}
 use Rattle.hyd_cert_check.specs.Checks.{CheckEnds}
 use Rattle.hyd_cert_check.specs.ReaderAndPen.{CheckMoment}
 use Rattle.hyd_cert_check.specs.RecordByRecord.{coming}
-use Rattle.hyd_cert_check.specs.declared.outcome.CheckEnd.TheVariants as ends
+use Rattle.hyd_spec_check_ends.specs.declared.CheckEnd.TheVariants as ends
 use Rattle.hyd_cert_check.proofs.ConclusionLemmas.{refused-record, refused-part, refused-end, refused-grammar}
 use Rattle.hyd_cert_check.proofs.ConclusionLemmas.{refused-counts}
 use Rattle.hyd_witness_trials.proofs.MetMoments.{has_lists}

@@ -10,7 +10,7 @@ use Rattle.hyd_spec_witnesses.specs.MetPeriods.{Moment}
 use Rattle.hyd_spec_witness_answers.specs.PromisesOfWitnesses.{IsWrittenScale, WritesWitness, BeginsCertificateOf}
 use Rattle.hyd_spec_witness_answers.specs.PromisesOfWitnesses.{no_witness_line}
 use Rattle.hyd_cert_check.specs.Checks.{CheckEnds}
-use Rattle.hyd_cert_check.specs.declared.outcome.CheckEnd.TheVariants.{Refused}
+use Rattle.hyd_spec_check_ends.specs.declared.CheckEnd.TheVariants.{Refused}
 
 -- The line is that of a refusal: its first word says so.
 pub record IsRefusalLine (printed : List ℕ) : Type 0 where

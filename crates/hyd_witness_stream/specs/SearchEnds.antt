@@ -7,7 +7,7 @@ use Rattle.hyd_spec_reports_with_flows.specs.FlowLines.{refused_flow_line}
 use Rattle.hyd_spec_witnesses.specs.MiddleCandidate.{halves}
 use Rattle.hyd_spec_witness_answers.specs.PromisesOfWitnesses.{witness_line, no_witness_line, FindsWitness}
 use Rattle.hyd_spec_witness_answers.specs.PromisesOfWitnesses.{FindsNoWitness}
-use Rattle.hyd_cert_check.specs.LinesOfRefusals.{refused_grammar_line, refused_counts_line}
+use Rattle.hyd_spec_check_ends.specs.LinesOfRefusals.{refused_grammar_line, refused_counts_line}
 use Rattle.hyd_witness_stream.specs.RefusedCertificates.{RefusesCertificate, StopsShort}
 use Rattle.hyd_witness_stream.specs.declared.ending.Halt.{Halt}
 use Rattle.hyd_witness_stream.specs.declared.ending.Halt.TheVariants.{Accepted, NoMoment, Refused, RefusedPart}

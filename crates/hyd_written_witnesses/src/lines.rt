@@ -5,7 +5,7 @@ ghost use Rattle.hyd_io.specs.Output.{OnCert};
 ghost use Rattle.hyd_io.specs.TextPutIn.{Puts};
 ghost use Rattle.hyd_net.specs.Sound.{IsSound};
 ghost use Rattle.hyd_spec_witness_answers.specs.PromisesOfWitnesses.{witness_line, no_witness_line};
-ghost use Rattle.hyd_cert_check.specs.LinesOfRefusals.{refused_grammar_line, refused_counts_line};
+ghost use Rattle.hyd_spec_check_ends.specs.LinesOfRefusals.{refused_grammar_line, refused_counts_line};
 ghost use Rattle.hyd_witness_stream.specs.SearchEnds.{halt_line};
 
 use hyd_io::{Desk, OutFault, Pen, put_number};

@@ -1,8 +1,5 @@
 -- What was put in went out.
 use Rattle.std.specs.Prelude.{Err}
-use Rattle.std.proofs.Common.{◌∙◌, ap}
-use Rattle.hyd_cert.specs.ReaderView.{ReaderView, to_come}
-use Rattle.hyd_cert.proofs.CertificatesLineByLine.{nothing-before}
 use Rattle.hyd_cert_check.proofs.PenLemmas.{new-open}
 use Rattle.hyd_cert_check.proofs.WholeCheckLemmas.{prints-whole, prints-front, says-printed, says-rose, says-steady}
 use Rattle.hyd_cert_check.proofs.WholeCheckLemmas.{says-leaves}
@@ -16,16 +13,12 @@ finish-requires g c = c.in-Ok.ensures.puts.put.open_still
 
 pub returns-in-Ok-clause-whole : goal.returns-in-Ok-clause-whole
 returns-in-Ok-clause-whole g c = λ text told.
-    let coming_is = ap (λ (r : ReaderView). to_come r (g.D.Desk.rest c.args.desk.now)) c.requires.reader
-    ∙ (nothing-before (g.D.Desk.rest c.args.desk.now) ∙ told) in
-    prints-whole c.args.sim.now.project _ _ text coming_is c.requires.report c.finish.result
+    prints-whole c.args.sim.now.project _ _ text told c.requires.report c.finish.result
     (c.finish.ensures.puts _ _ c.put_check.new.reader c.in-Ok.ensures.puts) c.finish.ensures.report
 
 pub returns-in-Ok-clause-broken_off : goal.returns-in-Ok-clause-broken_off
 returns-in-Ok-clause-broken_off g c = λ text told.
-    let coming_is = ap (λ (r : ReaderView). to_come r (g.D.Desk.rest c.args.desk.now)) c.requires.reader
-    ∙ (nothing-before (g.D.Desk.rest c.args.desk.now) ∙ told) in
-    prints-front c.args.sim.now.project _ _ text coming_is c.requires.report c.finish.result
+    prints-front c.args.sim.now.project _ _ text told c.requires.report c.finish.result
     (c.finish.ensures.puts _ _ c.put_check.new.reader c.in-Ok.ensures.puts)
 
 pub returns-in-Ok-clause-prints : goal.returns-in-Ok-clause-prints
@@ -70,9 +63,7 @@ returns-in-Ok-clause-openings_stay g c =
 
 pub returns-in-Err-clause-broken_off : goal.returns-in-Err-clause-broken_off
 returns-in-Err-clause-broken_off g c = λ text told.
-    let coming_is = ap (λ (r : ReaderView). to_come r (g.D.Desk.rest c.args.desk.now)) c.requires.reader
-    ∙ (nothing-before (g.D.Desk.rest c.args.desk.now) ∙ told) in
-    prints-front c.args.sim.now.project _ _ text coming_is c.requires.report (Err c.in-Err.fault) c.in-Err.ensures.puts
+    prints-front c.args.sim.now.project _ _ text told c.requires.report (Err c.in-Err.fault) c.in-Err.ensures.puts
 
 pub returns-in-Err-clause-prints : goal.returns-in-Err-clause-prints
 returns-in-Err-clause-prints g c =

@@ -1,6 +1,6 @@
 -- The first line, the records, and the last line.
 use Rattle.std.proofs.Common.{sym, subst, refl}
-use Rattle.hyd_cert.specs.ReaderView.{ReaderView, IsGoing}
+use Rattle.hyd_cert.specs.ReaderView.{IsGoing}
 use Rattle.hyd_sim.specs.RunView.{standing_of}
 use Rattle.hyd_cert_check.specs.declared.outcome.CheckFault.TheVariants.{Output}
 use Rattle.hyd_cert_check.proofs.PenLemmas.{not_cert, put-in, put-cut-off}
@@ -18,7 +18,7 @@ take_records-requires g c =
       header = c.requires.header;
       part = c.requires.part;
       going = record {
-        going = subst (λ (v : ReaderView). IsGoing v.stand) (sym c.requires.reader) tt;
+        going = subst IsGoing (sym c.requires.reader.stand) tt;
         pen = (put-in _ r r _ _ _ _ c.requires.unbroken c.in-Ok.ensures).open_still;
       };
     }

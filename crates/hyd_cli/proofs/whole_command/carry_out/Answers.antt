@@ -48,8 +48,7 @@ returns-in-Some-Check-clause-leaves g c =
     let now = seen g.D.Desk.files g.D.Desk.written g.D.Desk.printed c.check_files.new.desk in
     let known : option_map order_seen c.args.found ≡ Some (check (files_seen files)) =
     ap (λ (f : Option Command). option_map order_seen f) found in
-    subst (λ (o : Option Order). Leaves o c.check_files.result before now) (sym known)
-    (c.check_files.ensures.leaves (files_seen files))
+    subst (λ (o : Option Order). Leaves o c.check_files.result before now) (sym known) c.check_files.ensures.leaves
 
 pub returns-in-Some-Check-clause-checks : goal.returns-in-Some-Check-clause-checks
 returns-in-Some-Check-clause-checks g c asked_files asked =
@@ -62,6 +61,7 @@ returns-in-Some-Check-clause-checks g c asked_files asked =
     (g.D.Desk.openings c.check_files.new.desk)) (sym (same_check files c.args.found asked_files found asked)) (record {
       refused = c.check_files.ensures.refused;
       checks = c.check_files.ensures.answers;
+      checks_openly = c.check_files.ensures.answers_openly;
       not_refused = c.check_files.ensures.not_refused;
       only_prints = c.check_files.ensures.only_prints;
       once = c.check_files.ensures.once;

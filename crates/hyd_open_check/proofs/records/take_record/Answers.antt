@@ -1,6 +1,6 @@
 -- What was read, and what was found of it.
 use Rattle.std.proofs.Common.{refl, sym, ◌∙◌}
-use Rattle.hyd_open_sim.specs.RunView.{standing_of}
+use Rattle.hyd_open_run.specs.PeriodsOfOpenRuns.{standing_of}
 use Rattle.hyd_run.specs.Pens.{told}
 use Rattle.hyd_cert_check.specs.ReaderAndPen.{moment}
 use Rattle.hyd_open_check_so_far.specs.OpenCheckSoFar.{in_reading}

@@ -1,7 +1,7 @@
 -- One record after another.
 use Rattle.std.proofs.Common.{◌∙◌, sym, ap}
 use Rattle.std.specs.Prelude.{Ok, Err, Some, None}
-use Rattle.hyd_open_sim.specs.RunView.{header_for}
+use Rattle.hyd_open_run.specs.PeriodsOfOpenRuns.{header_for}
 use Rattle.hyd_open_check_so_far.proofs.WholeOpenCheckLemmas.{turn-more, turn-over, turn-lost, goes-on}
 use Rattle.hyd_open_check.proofs.OpenRecordLemmas.{turn-as}
 use Rattle.hyd_open_check.proofs.records.take_records.Goals as goal

@@ -2,7 +2,7 @@ use Rattle.std.proofs.Common.{◌≡◌, None}
 use Rattle.hyd_open_certificates.specs.OpenRowView.{open_header_of}
 use Rattle.hyd_run.specs.Pens.{told}
 use Rattle.hyd_run.specs.Runs.{periods_left}
-use Rattle.hyd_open_sim.specs.RunView.{header_for, standing_of}
+use Rattle.hyd_open_run.specs.PeriodsOfOpenRuns.{header_for, standing_of}
 use Rattle.hyd_cert_check.specs.ReaderAndPen.{CheckMoment, moment}
 use Rattle.hyd_cert_check.specs.RecordByRecord.{CanGoOn}
 use Rattle.hyd_open_check_so_far.specs.OpenCheckSoFar.{IsSoFar}

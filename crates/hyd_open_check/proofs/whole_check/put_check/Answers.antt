@@ -5,7 +5,7 @@ use Rattle.hyd_spec.specs.ProgramTypes.{Project}
 use Rattle.hyd_spec_open_ends.specs.OpenStandings.{OpenStanding}
 use Rattle.hyd_cert.specs.ReaderView.{IsGoing}
 use Rattle.hyd_cert.specs.declared.answers_of_reader.Stand.{Stand}
-use Rattle.hyd_open_sim.specs.RunView.{standing_of}
+use Rattle.hyd_open_run.specs.PeriodsOfOpenRuns.{standing_of}
 use Rattle.hyd_open_check.proofs.OpenRecordLemmas.{begun-at, ended-as}
 use Rattle.hyd_open_check.proofs.whole_check.put_check.Goals as goal
 

@@ -1,0 +1,4 @@
+pub mod CheckAnswers
+pub mod OpenCertificateOfRun
+pub mod OpenCheckAnswers
+pub mod RoomOfChecks

@@ -1,0 +1,4 @@
+pub mod OneOpenRun
+pub mod NeverRefusedOpenly
+pub mod LongestReadings
+pub mod OneOpenAnswer

@@ -1,0 +1,4 @@
+pub mod SameOpenEnds
+pub mod SameOpenRecords
+pub mod SameOpenReports
+pub mod OpenRunsWithoutSpare
