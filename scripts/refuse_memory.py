@@ -97,15 +97,18 @@ AND TANK T LEVEL > 1
 THEN VALVE W STATUS IS CLOSED
 '''
 NAMES = ('n.inp', 'n.cert')
+# The words of a command, the text of its network, and the words of the run that writes its certificate, if it has one.
 COMMANDS = {
-    'run': (['run', *NAMES, '--tight'], VALVE, False),
-    'run of a town': (['run', *NAMES], TOWN, False),
-    'check': (['check', *NAMES], VALVE, True),
-    'check of a town': (['check', *NAMES], TOWN, True),
-    'gen': (['gen', '7', '1', *NAMES], None, False),
-    'gen of 60 junctions': (['gen', '7', '60', *NAMES], None, False),
-    'a refusal': (['run', *NAMES], '[JUNCTIONS]\nJ x\n', False),
-    'no command': (['walk'], None, False),
+    'run': (['run', *NAMES, '--tight'], VALVE, None),
+    'run of a town': (['run', *NAMES], TOWN, None),
+    'run with a slack': (['run', *NAMES, '--slack', '60'], TOWN, None),
+    'check': (['check', *NAMES], VALVE, ['run', *NAMES]),
+    'check of a town': (['check', *NAMES], TOWN, ['run', *NAMES]),
+    'check of a run with a slack': (['check', *NAMES], TOWN, ['run', *NAMES, '--slack', '60']),
+    'gen': (['gen', '7', '1', *NAMES], None, None),
+    'gen of 60 junctions': (['gen', '7', '60', *NAMES], None, None),
+    'a refusal': (['run', *NAMES], '[JUNCTIONS]\nJ x\n', None),
+    'no command': (['walk'], None, None),
 }
 
 
@@ -123,11 +126,11 @@ def files_in(folder):
     return {path.name: path.read_bytes() for path in Path(folder).iterdir()}
 
 
-def files_before(program, text, has_cert):
+def files_before(program, text, writing):
     """The files that a command finds."""
     files = {} if text is None else {'n.inp': text.encode()}
-    if has_cert:
-        files['n.cert'] = files_behind(program, ['run', *NAMES], files)[3]['n.cert']
+    if writing:
+        files['n.cert'] = files_behind(program, writing, files)[3]['n.cert']
     return files
 
 
@@ -151,8 +154,8 @@ def kind(left, files, usual):
 
 def growths_of(program, name):
     """How many growths of each kind a command has, and the ends of those that ended otherwise."""
-    words, text, has_cert = COMMANDS[name]
-    files = files_before(program, text, has_cert)
+    words, text, writing = COMMANDS[name]
+    files = files_before(program, text, writing)
     usual, kinds, others, growth = files_behind(program, words, files), collections.Counter(), [], 1
     while True:
         left = files_behind(program, words, files, growth)
