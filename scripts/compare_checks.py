@@ -20,15 +20,14 @@ import multiprocessing
 import os
 import random
 import re
-import signal
 import subprocess
 import sys
 import tempfile
 from pathlib import Path
 
 import compare_runs
-from compare_runs import MOST_PERIODS, OTHER_SECONDS, SECONDS, build, give_up
-from differences import STAGE, keep, losses, printed_by
+from compare_runs import MOST_PERIODS, OTHER_SECONDS, SECONDS, build
+from differences import STAGE, at_most, keep, losses, modules_of, printed_by
 
 CHANGES = 8
 
@@ -113,22 +112,16 @@ def certificates_of(cli, fuzz, rng, program, most):
 def compared(job):
     """The checks of a seed's network: for each its certificate and both answers. None where it is left out."""
     program, folder, seed = job
-    if folder not in sys.path:
-        sys.path.insert(0, folder)
-    import cli
-    import fuzz
+    cli, fuzz = modules_of(folder, 'cli', 'fuzz')
     rng = random.Random(seed)
-    signal.signal(signal.SIGVTALRM, give_up)
-    signal.setitimer(signal.ITIMER_VIRTUAL, OTHER_SECONDS)
     try:
-        text, certs = certificates_of(cli, fuzz, rng, program, MOST_PERIODS)
-        if certs is None:
-            return seed, text, None
-        return seed, text, [(one, wanted(cli, text, one), got(program, text, one)) for one in certs]
+        with at_most(OTHER_SECONDS):
+            text, certs = certificates_of(cli, fuzz, rng, program, MOST_PERIODS)
+            if certs is None:
+                return seed, text, None
+            return seed, text, [(one, wanted(cli, text, one), got(program, text, one)) for one in certs]
     except (TimeoutError, cli.TooManyPeriods):
         return seed, text, None
-    finally:
-        signal.setitimer(signal.ITIMER_VIRTUAL, 0)
 
 
 # ---------------------------------------------------------------- what came

@@ -17,15 +17,14 @@ script. It stands outside the gate.
 import collections
 import multiprocessing
 import os
-import signal
 import sys
 import tempfile
 from pathlib import Path
 
 import compare_checks
 import compare_runs
-from compare_runs import OTHER_SECONDS, SPENT, build, comparison, expected, give_up
-from differences import STAGE
+from compare_runs import OTHER_SECONDS, SPENT, build, comparison, expected
+from differences import STAGE, at_most, modules_of
 
 BYTES = b'0159- \n.EMPUX;[\xff\x00'
 CHOICES = 10
@@ -89,17 +88,12 @@ def check_both(cli, program, text, cert):
 def compared(job):
     """What is tried, how its two answers compare, and both."""
     program, folder, what, text, cert = job
-    if folder not in sys.path:
-        sys.path.insert(0, folder)
-    import cli
-    signal.signal(signal.SIGVTALRM, give_up)
-    signal.setitimer(signal.ITIMER_VIRTUAL, OTHER_SECONDS)
+    cli, = modules_of(folder, 'cli')
     try:
-        answers = run_both(cli, program, text) if cert is None else check_both(cli, program, text, cert)
+        with at_most(OTHER_SECONDS):
+            answers = run_both(cli, program, text) if cert is None else check_both(cli, program, text, cert)
     except TimeoutError:
         answers = 'left out', None, None
-    finally:
-        signal.setitimer(signal.ITIMER_VIRTUAL, 0)
     return what, text, cert, answers
 
 

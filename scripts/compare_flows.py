@@ -23,15 +23,14 @@ import multiprocessing
 import os
 import random
 import re
-import signal
 import subprocess
 import sys
 import tempfile
 from pathlib import Path
 
 from compare_checks import kind, tell
-from compare_runs import SECONDS, build, give_up, steady
-from differences import STAGE, losses, printed_by
+from compare_runs import SECONDS, build, steady
+from differences import STAGE, at_most, losses, modules_of, printed_by
 
 # Longer runs are left out, and those on which the other program spends more seconds (three of four take it a tenth of a
 # second, most others over twenty).
@@ -188,30 +187,24 @@ def differ_freely(cli, files, words, want, got):
 def compared(job):
     """A seed's run and checks: for each its words, its files, both answers, and whether they differ where they may."""
     program, other, changes, seed = job
-    if other not in sys.path:
-        sys.path.insert(0, other)
-    import cli
-    import fuzz
+    cli, fuzz = modules_of(other, 'cli', 'fuzz')
     rng = random.Random(seed)
-    signal.signal(signal.SIGVTALRM, give_up)
-    signal.setitimer(signal.ITIMER_VIRTUAL, OTHER_SECONDS)
     out = []
     try:
-        text = network(fuzz, rng)
-        while not links_of(cli, text)[0]:
+        with at_most(OTHER_SECONDS):
             text = network(fuzz, rng)
-        words = ['run', 'n.inp', 'n.cert', '--tight', '--sweeps', rng.choice(SWEEPS), '--flows', names_for(rng, *links_of(cli, text))]
-        files = {'n.inp': text}
-        want, got = expected(cli, files, words), ended(program, files, words)
-        out.append((words, files, want, got, want != got and differ_freely(cli, files, words, want, got)))
-        if want[2] and want[2].startswith(b'HYDCERT 3'):
-            for cert in [want[2]] + [changed(fuzz, rng, want[2]) for _ in range(changes)]:
-                files, words = {'n.inp': text, 'n.cert': cert}, ['check', 'n.inp', 'n.cert']
-                out.append((words, files, expected(cli, files, words), ended(program, files, words), False))
+            while not links_of(cli, text)[0]:
+                text = network(fuzz, rng)
+            words = ['run', 'n.inp', 'n.cert', '--tight', '--sweeps', rng.choice(SWEEPS), '--flows', names_for(rng, *links_of(cli, text))]
+            files = {'n.inp': text}
+            want, got = expected(cli, files, words), ended(program, files, words)
+            out.append((words, files, want, got, want != got and differ_freely(cli, files, words, want, got)))
+            if want[2] and want[2].startswith(b'HYDCERT 3'):
+                for cert in [want[2]] + [changed(fuzz, rng, want[2]) for _ in range(changes)]:
+                    files, words = {'n.inp': text, 'n.cert': cert}, ['check', 'n.inp', 'n.cert']
+                    out.append((words, files, expected(cli, files, words), ended(program, files, words), False))
     except (TimeoutError, cli.TooManyPeriods):
         pass
-    finally:
-        signal.setitimer(signal.ITIMER_VIRTUAL, 0)
     return seed, out
 
 

@@ -23,7 +23,6 @@ import collections
 import multiprocessing
 import os
 import random
-import signal
 import sys
 import tempfile
 from pathlib import Path
@@ -31,8 +30,8 @@ from pathlib import Path
 import compare_checks
 import compare_runs
 from compare_checks import records_of
-from compare_runs import OTHER_SECONDS, SPENT, build, give_up
-from differences import STAGE, keep, losses
+from compare_runs import OTHER_SECONDS, SPENT, build
+from differences import STAGE, at_most, keep, losses, modules_of
 
 CHANGES = 8
 MOST_PERIODS = 60
@@ -130,28 +129,22 @@ def faults_of_run(cli, program, text, words, want, have):
 def compared(job):
     """Of a seed: its text, its words, both answers, what is wrong of the run, and the checks of changed certificates."""
     program, folder, seed = job
-    if folder not in sys.path:
-        sys.path.insert(0, folder)
-    import cli
-    import fuzz
+    cli, fuzz = modules_of(folder, 'cli', 'fuzz')
     rng = random.Random(seed)
-    signal.signal(signal.SIGVTALRM, give_up)
-    signal.setitimer(signal.ITIMER_VIRTUAL, OTHER_SECONDS)
     text, words = made(fuzz, rng)
     try:
-        want = other_runs(cli, text, words)
-        have = this_runs(cli, program, text, words)
-        faults = faults_of_run(cli, program, text, words, want, have)
-        checks = []
-        if want[2] is not None:
-            for _ in range(CHANGES):
-                cert = changed(fuzz, rng, want[2], have[2] or want[2])
-                checks.append((cert, other_checks(cli, text, cert), this_checks(cli, program, text, cert)))
-        return seed, text, words, want, have, faults, checks
+        with at_most(OTHER_SECONDS):
+            want = other_runs(cli, text, words)
+            have = this_runs(cli, program, text, words)
+            faults = faults_of_run(cli, program, text, words, want, have)
+            checks = []
+            if want[2] is not None:
+                for _ in range(CHANGES):
+                    cert = changed(fuzz, rng, want[2], have[2] or want[2])
+                    checks.append((cert, other_checks(cli, text, cert), this_checks(cli, program, text, cert)))
+            return seed, text, words, want, have, faults, checks
     except (TimeoutError, cli.TooManyPeriods):
         return seed, text, words, None, None, [], []
-    finally:
-        signal.setitimer(signal.ITIMER_VIRTUAL, 0)
 
 
 # ---------------------------------------------------------------- what came

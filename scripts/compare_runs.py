@@ -27,7 +27,6 @@ import multiprocessing
 import os
 import random
 import shutil
-import signal
 import subprocess
 import sys
 import tempfile
@@ -35,7 +34,7 @@ from decimal import Decimal
 from pathlib import Path
 
 from compare_input import ROOT, change_numbers
-from differences import STAGE, losses, printed_by
+from differences import STAGE, at_most, losses, modules_of, printed_by
 from unproved import LINKER, crates_below, links_to_kit
 
 SPENT = 7
@@ -235,27 +234,17 @@ def found(program, text, words):
 def compared(job):
     """The text of a seed, the words, both answers, and what the independent program says of a free outcome."""
     program, folder, is_steady, seed = job
-    if folder not in sys.path:
-        sys.path.insert(0, folder)
-    import cli
-    import fuzz
+    cli, fuzz = modules_of(folder, 'cli', 'fuzz')
     text, words = made(fuzz, random.Random(seed), is_steady)
     got, notes = found(program, text, words), []
-    signal.signal(signal.SIGVTALRM, give_up)
-    signal.setitimer(signal.ITIMER_VIRTUAL, OTHER_SECONDS)
     try:
-        want = agreed(cli, text, words, got)
-        if want is not None and want != got and SPENT not in (want[0], got[0]):
-            want = agreed(cli, text, words, got, notes)
+        with at_most(OTHER_SECONDS):
+            want = agreed(cli, text, words, got)
+            if want is not None and want != got and SPENT not in (want[0], got[0]):
+                want = agreed(cli, text, words, got, notes)
     except TimeoutError:
         want = None
-    signal.setitimer(signal.ITIMER_VIRTUAL, 0)
     return seed, text, words, want, got, notes
-
-
-def give_up(*_):
-    """Ends the other program's work on a text."""
-    raise TimeoutError
 
 
 def comparison(words, want, got, notes):

@@ -25,15 +25,14 @@ import collections
 import multiprocessing
 import os
 import random
-import signal
 import subprocess
 import sys
 import tempfile
 from pathlib import Path
 
 from compare_checks import certificates_of
-from compare_runs import OTHER_SECONDS, SECONDS, build, give_up
-from differences import STAGE, keep, printed_by
+from compare_runs import OTHER_SECONDS, SECONDS, build
+from differences import STAGE, at_most, keep, modules_of, printed_by
 
 MOST_PERIODS = 60
 HALVES = 2
@@ -114,25 +113,18 @@ def compared(job):
     """The searches of a seed's network: for each its certificate, the answer and what isn't so, and at the first one whether
     its run finished and whether the other program finds a witness. None where it is left out."""
     program, folder, seed = job
-    if folder not in sys.path:
-        sys.path.insert(0, folder)
-    import cli
-    import fuzz
-    import reach
+    cli, fuzz, reach = modules_of(folder, 'cli', 'fuzz', 'reach')
     rng = random.Random(seed)
-    signal.signal(signal.SIGVTALRM, give_up)
-    signal.setitimer(signal.ITIMER_VIRTUAL, OTHER_SECONDS)
     try:
-        text, certs = certificates_of(cli, fuzz, rng, program, MOST_PERIODS)
-        if certs is None:
-            return seed, text, None, None
-        found = certs[0].rstrip().endswith(b'FINISHED'), finds(cli, text, certs[0])
-        answers = [(one, sought(program, text, one)) for one in certs]
-        return seed, text, found, [(one, have, wrong_of(cli, reach, text, one, have)) for one, have in answers]
+        with at_most(OTHER_SECONDS):
+            text, certs = certificates_of(cli, fuzz, rng, program, MOST_PERIODS)
+            if certs is None:
+                return seed, text, None, None
+            found = certs[0].rstrip().endswith(b'FINISHED'), finds(cli, text, certs[0])
+            answers = [(one, sought(program, text, one)) for one in certs]
+            return seed, text, found, [(one, have, wrong_of(cli, reach, text, one, have)) for one, have in answers]
     except (TimeoutError, cli.TooManyPeriods):
         return seed, text, None, None
-    finally:
-        signal.setitimer(signal.ITIMER_VIRTUAL, 0)
 
 
 # ---------------------------------------------------------------- what came

@@ -18,15 +18,14 @@ import collections
 import multiprocessing
 import os
 import random
-import signal
 import subprocess
 import sys
 import tempfile
 from pathlib import Path
 
 from compare_input import change_numbers
-from compare_runs import OTHER_SECONDS, SECONDS, build, give_up, steady
-from differences import STAGE, losses, printed_by
+from compare_runs import OTHER_SECONDS, SECONDS, build, steady
+from differences import STAGE, at_most, losses, modules_of, printed_by
 
 SPENT = 'ROUNDS'
 
@@ -101,10 +100,7 @@ def expected(cli, text, words):
 def compared(job):
     """The text of a seed, the words, and both answers."""
     program, other, is_fire, seed = job
-    if other not in sys.path:
-        sys.path.insert(0, other)
-    import cli
-    import fuzz
+    cli, fuzz = modules_of(other, 'cli', 'fuzz')
     rng = random.Random(seed)
     text = network(fuzz, rng)
     while not junctions_of(cli, text) and rng.randrange(10):
@@ -113,13 +109,11 @@ def compared(job):
         (Path(folder) / 'n.inp').write_bytes(text)
         words = question(cli, program, folder, rng, text, is_fire)
         got = ended(program, folder, words)
-    signal.signal(signal.SIGVTALRM, give_up)
-    signal.setitimer(signal.ITIMER_VIRTUAL, OTHER_SECONDS)
     try:
-        want = expected(cli, text, words)
+        with at_most(OTHER_SECONDS):
+            want = expected(cli, text, words)
     except TimeoutError:
         want = None
-    signal.setitimer(signal.ITIMER_VIRTUAL, 0)
     return seed, text, words, want, got
 
 

@@ -20,14 +20,13 @@ import collections
 import multiprocessing
 import os
 import random
-import signal
 import subprocess
 import sys
 import tempfile
 from pathlib import Path
 
-from compare_runs import OTHER_SECONDS, SECONDS, build, give_up
-from differences import STAGE, keep, losses, printed_by
+from compare_runs import OTHER_SECONDS, SECONDS, build
+from differences import STAGE, at_most, keep, losses, modules_of, printed_by
 
 CHANGES = 16
 MOST_PERIODS = 60
@@ -251,25 +250,19 @@ def witness_of(cli, text):
 def compared(job):
     """The trials of a seed's network: for each its witness and both answers. None where it is left out."""
     program, folder, seed = job
-    if folder not in sys.path:
-        sys.path.insert(0, folder)
-    import cli
-    import fuzz
+    cli, fuzz = modules_of(folder, 'cli', 'fuzz')
     rng = random.Random(seed)
-    signal.signal(signal.SIGVTALRM, give_up)
-    signal.setitimer(signal.ITIMER_VIRTUAL, OTHER_SECONDS)
     text = fuzz.Maker(rng, True, losses()).make()
     try:
-        witness = witness_of(cli, text)
-        if witness is None:
-            return seed, text, None
-        other = witness_of(cli, fuzz.Maker(rng, True, losses()).make()) or witness
-        witnesses = witnesses_of(rng, witness, other)
-        return seed, text, [(one, wanted(cli, text, one), got(program, text, one)) for one in witnesses]
+        with at_most(OTHER_SECONDS):
+            witness = witness_of(cli, text)
+            if witness is None:
+                return seed, text, None
+            other = witness_of(cli, fuzz.Maker(rng, True, losses()).make()) or witness
+            witnesses = witnesses_of(rng, witness, other)
+            return seed, text, [(one, wanted(cli, text, one), got(program, text, one)) for one in witnesses]
     except (TimeoutError, cli.TooManyPeriods):
         return seed, text, None
-    finally:
-        signal.setitimer(signal.ITIMER_VIRTUAL, 0)
 
 
 # ---------------------------------------------------------------- what came

@@ -1,6 +1,10 @@
 """What two programs answer differently, and what this repository's answered."""
 import collections
+import contextlib
+import importlib
 import os
+import signal
+import sys
 from pathlib import Path
 
 # The stage of the independent program that has all that this repository's has.
@@ -10,6 +14,29 @@ STAGE = 'h'
 def losses():
     """Which head losses texts are made with, by LOSSES in the environment: cm (where it isn't given), hw or mixed."""
     return os.environ.get('LOSSES', 'cm')
+
+
+def modules_of(folder, *names):
+    """Modules of the independent program, which stands in a folder."""
+    if folder not in sys.path:
+        sys.path.insert(0, folder)
+    return [importlib.import_module(name) for name in names]
+
+
+def give_up(*_):
+    """Ends the other program's work on a text."""
+    raise TimeoutError
+
+
+@contextlib.contextmanager
+def at_most(seconds):
+    """What is done within it ends by a TimeoutError after so many seconds of processor time."""
+    signal.signal(signal.SIGVTALRM, give_up)
+    signal.setitimer(signal.ITIMER_VIRTUAL, seconds)
+    try:
+        yield
+    finally:
+        signal.setitimer(signal.ITIMER_VIRTUAL, 0)
 
 
 def printed_by(done):

@@ -1,8 +1,8 @@
 #!/usr/bin/env python3
 """Tells how many of sixty variants of EPANET's first example finish a day, a week and a month.
 
-    scripts/long_runs.py PROGRAM [--network FILE] [--slack N] [--hours 24,168,720] [--more WORDS]
-    scripts/long_runs.py --other FOLDER [--slack N] [--hours 24] [--first K]
+    scripts/long_runs.py PROGRAM [--network FILE] [--slack N] [--hours 24,168,720] [--more WORDS] [--drawn K]
+    scripts/long_runs.py --other FOLDER [--slack N] [--hours 24] [--first K] [--drawn K]
 
 The variants are FILE, examples/net1.inp or its form with Hazen-Williams losses examples/net1-hw.inp, with three
 diameters of its tank, two levels at the start, two pairs of levels at which its pump is switched, and five demand
@@ -13,6 +13,10 @@ periods (the median of the finished), the most seconds by which a start was open
 widest level at a report time (median and most, in millimetres), and the processor time of a run alone (median and
 most, in seconds), its reading of the file included.
 
+`--drawn K` takes, in place of the sixty, the first K of 4,680 variants in an order drawn by chance, but always the same:
+twelve diameters, five levels, six pairs of switches, thirteen demands. So many of sixty as their shares say finish where
+nobody chose them.
+
 `--other FOLDER` asks an independent program in Python in place of PROGRAM (its module `cli`), with the tightest
 vectors, for which it may spend its rounds; `--first K` takes the first K variants. The status is 1 where a check
 differs. It stands outside the gate.
@@ -20,6 +24,7 @@ differs. It stands outside the gate.
 import argparse
 import collections
 import itertools
+import random
 import re
 import resource
 import statistics
@@ -29,13 +34,18 @@ import tempfile
 import time
 from pathlib import Path
 
-from differences import STAGE
+from differences import STAGE, modules_of
 
 ROOT = Path(__file__).resolve().parent.parent
 DIAMETERS = ('50.5', '60', '70')
 LEVELS = ('115', '125')
 SWITCHES = (('110', '140'), ('105', '145'))
 DEMANDS = ('0.8', '0.9', '1', '1.1', '1.2')
+# The wider family, of which some are drawn.
+WIDER = (('40', '45', '50.5', '55', '60', '65', '70', '75', '80', '85', '90', '100'),
+         ('110', '115', '120', '125', '130'),
+         (('110', '140'), ('105', '145'), ('115', '135'), ('105', '140'), ('110', '145'), ('112', '136')),
+         ('0.7', '0.75', '0.8', '0.85', '0.9', '0.95', '1', '1.05', '1.1', '1.15', '1.2', '1.25', '1.3'))
 # A foot in millimetres.
 FOOT = 304.8
 
@@ -50,10 +60,19 @@ def replaced(text, pattern, new):
     return made
 
 
-def variants(network, hours):
-    """The sixty texts of this duration, each with its name."""
+def chosen(drawn):
+    """The diameter, level, switches and demand of each variant: of the sixty, or of so many that are drawn."""
+    if not drawn:
+        return list(itertools.product(DIAMETERS, LEVELS, SWITCHES, DEMANDS))
+    every = list(itertools.product(*WIDER))
+    random.Random(1).shuffle(every)
+    return every[:drawn]
+
+
+def variants(network, hours, drawn):
+    """The texts of this duration, each with its name."""
     text = re.sub(r'(?mi)^ *Demand Multiplier .*\n', '', Path(network).read_text())
-    for diameter, level, (low, high), demand in itertools.product(DIAMETERS, LEVELS, SWITCHES, DEMANDS):
+    for diameter, level, (low, high), demand in chosen(drawn):
         one = replaced(text, r'(?<=^ 2)(\s+850\s+)120(\s+100\s+150\s+)50\.5\b', r'\g<1>%s\g<2>%s' % (level, diameter))
         one = replaced(one, r'\bBELOW 110\b', 'BELOW ' + low)
         one = replaced(one, r'\bABOVE 140\b', 'ABOVE ' + high)
@@ -88,9 +107,7 @@ def by_program(program, text, words):
 
 def by_other(folder, text, words):
     """The same of the independent program, with the tightest vectors."""
-    if folder not in sys.path:
-        sys.path.insert(0, folder)
-    import cli
+    cli, = modules_of(folder, 'cli')
     files = {'n.inp': text.encode()}
     begun = time.process_time()
     status, printed = cli.Tool(files, STAGE).call(['run', 'n.inp', 'n.cert', '--tight'] + words)
@@ -159,7 +176,8 @@ def main():
     words.add_argument('--slack', default='3600')
     words.add_argument('--hours', default='24,168,720')
     words.add_argument('--more', default='')
-    words.add_argument('--first', type=int, default=60)
+    words.add_argument('--drawn', type=int, default=0)
+    words.add_argument('--first', type=int)
     given = words.parse_args()
     if (given.program is None) == (given.other is None):
         sys.exit(__doc__)
@@ -167,7 +185,7 @@ def main():
     failed = False
     for hours in map(int, given.hours.split(',')):
         answers, wrong = [], []
-        for name, text in itertools.islice(variants(given.network, hours), given.first):
+        for name, text in itertools.islice(variants(given.network, hours, given.drawn), given.first):
             if given.program:
                 answer = by_program(str(Path(given.program).resolve()), text, run_words)
             else:

@@ -8,7 +8,7 @@ use Rattle.hyd_num.specs.declared.decimals.Decimal.{Decimal}
 use Rattle.hyd_spec_lines.specs.WordsOfLines.{is_keyword}
 use Rattle.hyd_spec_lines.specs.Lines.{Row, row_of}
 use Rattle.hyd_spec_lines.specs.declared.line.Line.{Line}
-use Rattle.hyd_spec_lines.specs.declared.section.Section.TheVariants.{Pipes, Pumps, Valves, Status}
+use Rattle.hyd_spec_lines.specs.declared.section.Section.TheVariants.{Pumps, Valves, Status}
 use Rattle.hyd_net.specs.declared.links.LinkState.{LinkState}
 use Rattle.hyd_net.specs.declared.links.LinkState.TheVariants.{Throttle}
 use Rattle.hyd_net.specs.declared.links.LinkState.TheVariants as state
@@ -65,13 +65,6 @@ status_open words status is other = elim (cases_Bool (alone.has_check_valve word
     | inr n ↦ rw n refl
   ]
 ]
-
-pub pipe_alone : (text : List ℕ) (from : RowsForLinks) (line : Line) → IsRowOf is_link text from line
-    → line.section ≡ Pipes → alone.pipe (row_of text line).words ≡ None
-pipe_alone text from line at e =
-    let of : is_of Pipes (row_of text line) ≡ true = rw e refl in
-    right_alone (rows_from text from) Pipes at.among.place (row_of text line)
-    (rows_for_links_are_right text from at.right) at.among.is of
 
 -- ---- valves
 

@@ -19,7 +19,9 @@ use crate::statuses::status_line;
 use hyd_judge_links_controls_and_rules::{limit_state, link_state, speed_state, throttle_state};
 use hyd_lex::{Line, Lines, Section};
 use hyd_net::LinkState;
-use hyd_network_rows::{PipeStatus, ValveSetting, read_pipe, read_pump, read_status, read_valve};
+use hyd_network_rows::{
+    PipeStatus, ValveSetting, read_pipe_status, read_pump, read_status, read_valve,
+};
 use hyd_rows_and_tables::own_id;
 
 // The state of a pipe's status word; a pipe with a check valve is open.
@@ -65,15 +67,11 @@ fn valve_state(text: &Lines<'_>, line: &Line, given: &RowsForLinks<'_>) -> LinkS
 
 // The state of a pipe's own row.
 fn pipe_state(text: &Lines<'_>, line: &Line) -> LinkState
-    requires lies { LiesIn text.now.text line.now }
-    requires right { row.pipe (row_of text.now.text line.now).words ≡ None }
+    requires { LiesIn text.now.text line.now }
     ensures { result
         ≡ (if row.is_closed_pipe (row_of text.now.text line.now).words then LinkState.Closed else LinkState.Open) }
 {
-    let Ok(pipe) = read_pipe(text, line) else {
-        unreachable!()
-    };
-    status_state(pipe.status)
+    status_state(read_pipe_status(text, line))
 }
 
 // The state of a link's own row.

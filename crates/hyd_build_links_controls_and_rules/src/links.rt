@@ -147,7 +147,7 @@ pub fn build_links(
         (numbered_links (rows_from text.now.text given.now)) links.list) }
 {
     let last = gather_statuses(alloc, text, given.lines, given.links)?;
-    let mut links = hyd_net::List::new(alloc);
+    let mut links = hyd_net::List::with_room(alloc, given.links.firsts.len())?;
     add_section(
         &mut links,
         text,

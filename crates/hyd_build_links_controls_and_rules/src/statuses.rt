@@ -21,7 +21,7 @@ use std::alloc::Global;
 fn none_each(alloc: Global, count: usize) -> Result<Vec<Option<Line>>, OutOfMemory>
     ensures { IfOk result (λ last. AreNone last.items count) }
 {
-    let mut last = Vec::new(alloc);
+    let mut last = Vec::with_capacity(alloc, count)?;
     for _ in 0..count {
         last.push(None)?;
     }

@@ -29,7 +29,7 @@ use std::alloc::Global;
 fn empty_lists(alloc: Global, count: usize) -> Result<Vec<List<Demand>>, OutOfMemory>
     ensures { IfOk result (λ lists. AreEmpty lists.items count) }
 {
-    let mut lists = Vec::new(alloc);
+    let mut lists = Vec::with_capacity(alloc, count)?;
     for _ in 0..count {
         lists.push(List::new(alloc))?;
     }

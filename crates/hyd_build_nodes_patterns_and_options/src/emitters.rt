@@ -42,7 +42,7 @@ fn emitter_of(coefficient: Decimal, unit: FlowUnit) -> Option<Capacity>
 fn none_each(alloc: Global, count: usize) -> Result<Vec<Option<Capacity>>, OutOfMemory>
     ensures { IfOk result (λ emitters. AreNone emitters.items count) }
 {
-    let mut emitters = Vec::new(alloc);
+    let mut emitters = Vec::with_capacity(alloc, count)?;
     for _ in 0..count {
         emitters.push(None)?;
     }

@@ -142,7 +142,7 @@ fn junctions_of(
     ensures { IfOk result (λ list. Match (IsJunction (rows_at text.now.text lines.now))
         (rows_of Junctions (rows_at text.now.text lines.now)) list.list) }
 {
-    let mut list = List::new(alloc);
+    let mut list = List::with_room(alloc, parts.nodes.firsts.len())?;
     for place in 0..lines.len() {
         add_row(alloc, &mut list, text, lines, place, parts)?;
     }

@@ -7,3 +7,4 @@ pub mod ConclusionLemmas
 pub mod WholeCheckLemmas
 pub mod RecordLemmas
 pub mod RecordByRecordLemmas
+pub mod PassedOn

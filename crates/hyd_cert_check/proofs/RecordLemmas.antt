@@ -43,8 +43,8 @@ use Rattle.hyd_period_network.specs.LawsInSettings.{AreStates}
 use Rattle.hyd_period_network.proofs.NetOfSoundProject.{long_zipped}
 use Rattle.hyd_period_facts.specs.declared.facts.Facts.{Facts}
 use Rattle.hyd_theorems_on_definitions.specs.SoundLawsAndGrids.{IsSteady}
-use Rattle.hyd_report.specs.PeriodLines.{AreBounds, AreTankFacts, lines_of}
-use Rattle.hyd_report.proofs.ReportLemmas.{lines_are_report}
+use Rattle.hyd_run.specs.PassedOn.{AreBounds, AreTankFacts, lines_of}
+use Rattle.hyd_run.proofs.PassedOn.{lines_are_report}
 use Rattle.hyd_run.proofs.PeriodLemmas.{bounds-of, tank-facts-of, number-next, each-link, fewer-left}
 use Rattle.hyd_sim.specs.RunView.{SimView, IsSim, standing_of, header_for}
 use Rattle.hyd_sim.specs.Acceptance.{IsAccepted}

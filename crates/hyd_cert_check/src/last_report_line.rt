@@ -12,7 +12,7 @@ use crate::outcome::Conclusion;
 use crate::refusals_by_a_line::{put_counts, put_grammar};
 use hyd_io::{Desk, OutFault, Pen};
 use hyd_net::Project;
-use hyd_report::{put_done, put_partial, put_refused, put_refused_end, put_refused_flow};
+use hyd_run::{put_done, put_partial, put_refused, put_refused_end, put_refused_flow};
 use hyd_sentences::{LineFault, RefusedFlow, RefusedLine, RefusedRecord};
 
 // Puts the last line on a certificate of so many records that is accepted.

@@ -10,6 +10,7 @@ mod records;
 mod refusals_by_a_line;
 mod whole_check;
 
+pub use hyd_run::{empty, put_first};
 pub use hyd_spec_check_ends::CheckEnd;
 pub use outcome::CheckFault;
 pub use whole_check::check;

@@ -7,7 +7,7 @@ use Rattle.hyd_command_answers.specs.declared.status.Status.TheVariants.{Done, O
 use Rattle.hyd_command_answers.specs.declared.status.Status.TheVariants.{WriteFault, InputRefused, Undecided}
 use Rattle.hyd_command_answers.specs.declared.status.Status.TheVariants.{RoundsSpent, Demand, CertificateRefused}
 use Rattle.hyd_command_answers.specs.declared.status.Status.TheVariants.{Stalled}
-use Rattle.hyd_naming_command.specs.NamingAnswers.{AnswersTextNaming, LeavesNaming}
+use Rattle.hyd_open_command.specs.PassedOn.{AnswersTextNaming, LeavesNaming}
 use Rattle.hyd_open_command.specs.OpenAnswers.{AnswersTextOpenly, LeavesOpenly}
 use Rattle.hyd_cli.specs.Answers.{LeavesRun, LeavesOrder}
 use Rattle.hyd_cli.specs.Commands.{AnswersOrder, AnswersPlainOrder}

@@ -10,7 +10,7 @@ use Rattle.hyd_command_answers.specs.declared.status.Status.TheVariants.{InputRe
 use Rattle.hyd_command_answers.specs.DeskContents.{Seen, IsUntouched, OnlyPrinted, OnlyPrintedFront}
 use Rattle.hyd_command_answers.specs.FaultsAndRefusals.{PrintsRefusal}
 use Rattle.hyd_target_commands.specs.CommandsOnTargets.{LeavesNet}
-use Rattle.hyd_naming_command.specs.NamingAnswers.{LeavesNaming}
+use Rattle.hyd_open_command.specs.PassedOn.{LeavesNaming}
 use Rattle.hyd_check_command.specs.CheckAnswers.{LeavesCheck}
 use Rattle.hyd_written_witnesses.specs.CommandWitness.{LeavesSearch}
 

@@ -13,7 +13,7 @@ use Rattle.hyd_command_answers.specs.OpeningsOfRuns.{OpensOnce}
 use Rattle.hyd_command_answers.specs.WrittenCertificates.{Holds}
 use Rattle.hyd_cli.specs.RunAnswers.{settings_of, asked_for}
 use Rattle.hyd_cli.specs.RunAnswers.{AnswersText}
-use Rattle.hyd_naming_command.specs.NamingAnswers.{AnswersTextNaming}
+use Rattle.hyd_open_command.specs.PassedOn.{AnswersTextNaming}
 use Rattle.hyd_open_command.specs.OpenAnswers.{AnswersTextOpenly}
 use Rattle.hyd_open_certificates.specs.OpenFaults.{HasOpenHeader, LacksOpenHeader}
 use Rattle.hyd_check_command.specs.CheckAnswers.{AnswersCheck, ReadsBoth}

@@ -4,3 +4,4 @@ pub mod RunAnswers
 pub mod GenAnswers
 pub mod TaskWithNetwork
 pub mod Commands
+pub mod PassedOn

@@ -28,7 +28,7 @@ use hyd_command_words::{Files, GenWords};
 use hyd_finders::{Finder, Gradient};
 use hyd_gen::generate;
 use hyd_io::{Channel, Desk, OutFault, Pen};
-use hyd_naming_command::{say_end, status_of_end};
+use hyd_open_command::{say_end, status_of_end};
 use hyd_run::RunEnd;
 use hyd_sim::Sim;
 use hyd_summarised_run::run_summed;

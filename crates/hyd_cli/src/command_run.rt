@@ -23,8 +23,7 @@ use hyd_command_answers::{Status, Unread, fault_status, read_network, refuse_tex
 use hyd_command_words::RunWords;
 use hyd_finders::{Finder, Gradient};
 use hyd_io::{Channel, Desk, Pen};
-use hyd_naming_command::{run_naming_links, say_end, status_of_end};
-use hyd_open_command::run_with_slack;
+use hyd_open_command::{run_naming_links, run_with_slack, say_end, status_of_end};
 use hyd_run::run;
 use hyd_sim::{Settings, Sim};
 use std::alloc::Global;

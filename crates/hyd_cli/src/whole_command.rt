@@ -33,7 +33,7 @@ use std::alloc::Global;
 /// - `run NET CERT [--sweeps N] [--width W] [--tight] [--flows IDS] [--slack N]` reads the network of NET, writes its certificate to
 ///   CERT and prints its report. With `--flows` CERT has behind each record two vectors for each link of these names, and
 ///   the report a FLOW line for each, behind the lines of a period that begins at a report time. With `--slack` above 0
-///   ends of periods may be open by so many seconds, and what is said holds of each history that keeps what it reaches.
+///   ends of periods may be open by at most so many seconds, and what is said holds of each history that keeps what it reaches.
 /// - `check NET CERT` reads both, and prints the report of the certificate as far as it is right. Where CERT begins with a
 ///   header line of version 4, ends of periods may be open by as many seconds as it says, and what is said holds of each
 ///   history that keeps what it reaches.

@@ -8,3 +8,4 @@ pub mod FirstOpenControl
 pub mod TankHeadsUnread
 pub mod TruthsBetweenReadings
 pub mod SameStartAtEveryLevel
+pub mod PassedOn

@@ -22,7 +22,7 @@ use Rattle.hyd_spec_certificates.specs.declared.LevelSpan.{LevelSpan}
 use Rattle.hyd_controls_and_rules.specs.RuleReadings.{IsMeasured}
 use Rattle.hyd_spec.specs.Rules.{Readings, level_of, bottom_of, elevation_of, in_ticks, measured, compares, holds_on}
 use Rattle.hyd_spec.specs.Rules.{clause_holds}
-use Rattle.hyd_theorems_on_definitions.proofs.Outflows.{pressure-above}
+use Rattle.hyd_theorems_on_histories.proofs.PassedOn.{pressure-above}
 
 -- ---- lists
 

@@ -6,7 +6,7 @@ use Rattle.hyd_spec.specs.History.{tank_states}
 use Rattle.hyd_spec_certificates.specs.Interval.{Interval}
 use Rattle.hyd_spec_certificates.specs.Decided.{acts_on}
 use Rattle.hyd_spec_certificates.specs.Valid.{ControlsAreDecided}
-use Rattle.hyd_theorems_on_definitions.specs.LyingInIntervals.{LevelsLie}
+use Rattle.hyd_theorems_on_histories.specs.PassedOn.{LevelsLie}
 use Rattle.hyd_theorems_on_histories.proofs.AgreementAtStart.{same_links}
 
 -- where all level controls are decided, they act at every level as at the intervals

@@ -10,8 +10,8 @@ use Rattle.hyd_spec_certificates.specs.declared.Verdict.{Verdict}
 use Rattle.hyd_spec_certificates.specs.Decided.{clause_between, rule_between, IsTruthBetween}
 use Rattle.hyd_spec_certificates.specs.declared.Truth.{Truth}
 use Rattle.hyd_spec_certificates.specs.declared.Truth.TheVariants.{True, False, Open}
-use Rattle.hyd_theorems_on_definitions.specs.VerdictsOfTests.{Tells}
-use Rattle.hyd_theorems_on_definitions.proofs.DecidedByEnds.{rule_tells}
+use Rattle.hyd_theorems_on_histories.specs.PassedOn.{Tells}
+use Rattle.hyd_theorems_on_histories.proofs.PassedOn.{rule_tells}
 use Rattle.hyd_theorems_on_histories.specs.Agreement.{AreBetween}
 use Rattle.hyd_theorems_on_histories.proofs.Clauses.{clause_tells}
 use Rattle.hyd_theorems_on_histories.proofs.TruthsAndRuleValues.{each_of, in-groups}

@@ -5,3 +5,4 @@ pub mod KnownOfRules
 pub mod ReservedMemory
 pub mod PumpPatternsAndSimpleControls
 pub mod TruthOfRule
+pub mod PassedOn

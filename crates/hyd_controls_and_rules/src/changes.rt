@@ -13,8 +13,10 @@ use std::marker::Model;
 #[derive(Drop)]
 pub struct Changes {
     pub(crate) rows: List<Change>,
-    /// The best offer so far to each link. It has a place for each row that fits.
+    /// The best offer so far to each link, once rules have offered something. It has room for each row that fits.
     pub(crate) best: Vec<Option<Offer>>,
+    /// How many rows fit.
+    pub(crate) room: usize,
 }
 
 impl Model for Changes {
@@ -26,7 +28,7 @@ impl Model for Changes {
 
     ghost use Rattle.hyd_controls_and_rules.specs.ReservedMemory.{HasRoom};
 
-    ghost view = { λ c. record { list = c.rows.list; spare = length c.best.items - length c.rows.list } };
+    ghost view = { λ c. record { list = c.rows.list; spare = c.room - length c.rows.list } };
 
     ghost invariant = { HasRoom };
 }
@@ -42,8 +44,8 @@ impl Changes {
         let room = project.controls.len() + project.links.len();
         let mut rows = List::new(alloc);
         rows.reserve(room)?;
-        let best = vec![in alloc; None; room]?;
-        Ok(Changes { rows, best })
+        let best = Vec::with_capacity(alloc, room)?;
+        Ok(Changes { rows, best, room })
     }
 
     /// The rows in order.

@@ -5,6 +5,7 @@ ghost use Rattle.std.specs.Prelude.{◌≡◌, ◌+◌, ◌≤◌, ◌++◌, len
 ghost use Rattle.hyd_net.specs.Sound.{IsSound};
 ghost use Rattle.hyd_spec.specs.Lists.{map_from, present};
 ghost use Rattle.std.specs.Option.{option_map, option_and_then};
+ghost use Rattle.std.specs.Vec.{vec_len, vec_capacity};
 ghost use Rattle.hyd_spec.specs.Rules.{change_by, acted, rule_changes};
 ghost use Rattle.hyd_controls_and_rules.specs.ActionsByPriority.{offer_for, change_at, state_at};
 
@@ -48,6 +49,17 @@ fn carry_out(best: &[Option<Offer>], links: &mut [LinkState], rows: &mut List<Ch
     }
 }
 
+// Makes a table have a place for each of so many links, in the room that was taken.
+fn lengthen(count: usize, best: &mut Vec<Option<Offer>>)
+    requires { count ≤ vec_capacity best.old }
+    ensures places { count ≤ vec_len best.new }
+    ensures room { vec_capacity best.old ≤ vec_capacity best.new }
+{
+    if best.len() < count {
+        best.resize(count, None).unwrap();
+    }
+}
+
 /// Carries out the actions that the rules offer at an instant, where `values` says of each rule whether it is true: a
 /// true rule offers what stands after THEN, a false one what stands after ELSE (EPANET 2.2 User Manual, [RULES]). Each
 /// link takes the offer of highest rank: a greater priority goes first, none goes last, of equal ones the earlier rule,
@@ -66,6 +78,7 @@ pub fn act(project: &Project, values: &[bool], links: &mut [LinkState], changes:
     if project.rules.len() == 0 {
         return;
     }
+    lengthen(project.links.len(), &mut changes.best);
     rank_offers(project, values, &mut changes.best);
     carry_out(&changes.best, links, &mut changes.rows);
 }

@@ -14,7 +14,7 @@ ghost use Rattle.hyd_spec_certificates.specs.Decided.{acts_on, control_truth};
 ghost use Rattle.hyd_spec_certificates.specs.Valid.{ControlsAreDecided};
 ghost use Rattle.hyd_spec_certificates.specs.ChangesAtStart.{control_changes, start_changes};
 ghost use Rattle.hyd_spec_certificates.specs.Stops.{is_open_control};
-ghost use Rattle.hyd_theorems_on_definitions.specs.LyingInIntervals.{LevelsLie};
+ghost use Rattle.hyd_theorems_on_histories.specs.PassedOn.{LevelsLie};
 ghost use Rattle.hyd_controls_and_rules.specs.PumpPatternsAndSimpleControls.{pattern_of, HasPatternThere, IsTankThere};
 ghost use Rattle.hyd_controls_and_rules.specs.PumpPatternsAndSimpleControls.{IsLevelOf};
 ghost use Rattle.hyd_controls_and_rules.specs.PumpPatternsAndSimpleControls.{IsFirstOpen};

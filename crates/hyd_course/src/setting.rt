@@ -16,10 +16,10 @@ ghost use Rattle.hyd_course.specs.NetsSetForMoments.{IsSetNet, IsSetAt};
 
 use crate::set_net::SetNet;
 use hyd_laws_at_scale::Scale;
+use hyd_length_at_scale::start_links;
 use hyd_met_flows::number_at;
 use hyd_net::{LinkState, Project};
 use hyd_period_network::PeriodDemand;
-use hyd_rules_at_scale::start_links;
 use hyd_spec::TankState;
 use hyd_stocks_at_scale::state_at;
 

@@ -13,7 +13,7 @@ const KEPT: u32 = 24;
 const ALIKE: f64 = 1e-6;
 
 /// The heads of the junctions in one period, and the total of its demands in flow ticks; none so far where there is no
-/// total.
+/// total. Only the room of the heads is taken then.
 #[derive(Drop)]
 struct Middle {
     total: Option<f64>,
@@ -26,6 +26,17 @@ pub(crate) struct EarlierMiddles {
     middles: Vec<Middle>,
     /// The place of the oldest one.
     oldest: usize,
+}
+
+impl Middle {
+    // Keeps heads for a total, in the room that was taken.
+    fn keep(&mut self, total: f64, heads: &[i64]) {
+        self.heads.clear();
+        self.total = match self.heads.extend_from_slice(heads) {
+            Ok(()) => Some(total),
+            Err(_) => None,
+        };
+    }
 }
 
 // How far a total is from another, as a part of it.
@@ -43,7 +54,7 @@ impl EarlierMiddles {
         for _ in 0..KEPT {
             middles.push(Middle {
                 total: None,
-                heads: vec![in alloc; 0i64; junctions as usize]?,
+                heads: Vec::with_capacity(alloc, junctions as usize)?,
             })?;
         }
         Ok(EarlierMiddles { middles, oldest: 0 })
@@ -93,8 +104,7 @@ impl EarlierMiddles {
     pub(crate) fn keep(&mut self, total: f64, heads: &[i64]) {
         let place = self.place_for(total);
         if let Some(middle) = self.middles.get_mut(place) {
-            middle.total = Some(total);
-            copy(heads, &mut middle.heads);
+            middle.keep(total, heads);
         }
     }
 }

@@ -9,7 +9,7 @@ use crate::number_lists::{add_real_at, number_at, real_at};
 use hyd_law::{Law, OutLaw};
 use hyd_period_network::{Ends, Net, Tie};
 use hyd_spec_certificates::{BOX_LIMIT, Side};
-use hyd_vector_check::{is_in_box, outflow};
+use hyd_tight_starts::{is_in_box, outflow};
 use std::num::nearest_i64_to_f64;
 
 /// The greatest head difference at which a law is asked: that of the ends of the box, in head ticks.

@@ -7,7 +7,7 @@ use crate::flows::{bound_flow, bound_outflow};
 use crate::number_lists::number_at;
 use hyd_period_network::Net;
 use hyd_spec_certificates::Side;
-use hyd_vector_check::is_in_box;
+use hyd_tight_starts::is_in_box;
 
 /// How often the way of a raise is doubled.
 const DOUBLINGS: u32 = 60;

@@ -18,7 +18,7 @@ use hyd_finders::Finder;
 use hyd_period_network::Net;
 use hyd_spec_certificates::{LevelSpan, Problem, Side};
 use hyd_sweep::{Sweeper, Swept, begin};
-use hyd_tight_starts::Descent;
+use hyd_tight_starts::HeldDescent;
 use hyd_vector_check::check;
 
 // Whether the finder proposes a certificate, which then stands in `heads`.
@@ -52,7 +52,7 @@ fn bring_nearer(
     passes: bool,
     rounds: u32,
     vector: &[i64],
-    descent: &mut Descent,
+    descent: &mut HeldDescent,
     to: &mut [i64],
     order: &mut [u32],
 ) -> bool
@@ -77,7 +77,7 @@ fn settle(
     side: Side,
     passes: bool,
     rounds: u32,
-    descent: &mut Descent,
+    descent: &mut HeldDescent,
     to: &mut [i64],
     order: &mut [u32],
     sweeper: &mut Sweeper,

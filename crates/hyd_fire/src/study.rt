@@ -5,7 +5,7 @@ ghost use Rattle.std.specs.Prelude.{◌≡◌, length, IfOk};
 
 use hyd_period_network::Net;
 use hyd_sweep::Sweeper;
-use hyd_tight_starts::Descent;
+use hyd_tight_starts::HeldDescent;
 use std::alloc::{AllocError as OutOfMemory, Global};
 use std::marker::Model;
 
@@ -21,7 +21,7 @@ pub struct Study {
     pub(crate) to: Vec<i64>,
     /// The order of turns that is to lead to them.
     pub(crate) order: Vec<u32>,
-    pub(crate) descent: Descent,
+    pub(crate) descent: HeldDescent,
     pub(crate) sweeper: Sweeper,
 }
 
@@ -50,7 +50,7 @@ impl Study {
         let heads = vec![in alloc; 0i64; junctions as usize]?;
         let to = vec![in alloc; 0i64; junctions as usize]?;
         let order = vec![in alloc; 0u32; junctions as usize]?;
-        let descent = Descent::open(alloc, net)?;
+        let descent = HeldDescent::open(alloc, net)?;
         let sweeper = Sweeper::open(alloc, junctions)?;
         Ok(Study {
             upper,

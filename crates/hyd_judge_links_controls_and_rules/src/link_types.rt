@@ -1,14 +1,14 @@
 //! Types of links.
 #![tactic(auto)]
 
-ghost use Rattle.std.specs.Prelude.{◌≡◌, None, if◌then◌else◌};
+ghost use Rattle.std.specs.Prelude.{◌≡◌, if◌then◌else◌};
 ghost use Rattle.hyd_spec_lines.specs.Lines.{LiesIn, row_of};
 ghost use Rattle.hyd_option_and_rule_lines.specs.FaultOrValue.{words_at};
 ghost use Rattle.hyd_spec_input.specs.NodeAndLinkRows as row;
 ghost use Rattle.hyd_judge_links_controls_and_rules.specs.AskedStatesOfLinks.{IsRightLink, IsType};
 
 use hyd_lex::{Line, Lines, Section};
-use hyd_network_rows::{PipeStatus, read_pipe};
+use hyd_network_rows::{PipeStatus, read_pipe_status};
 use hyd_option_and_rule_lines::word_is;
 
 /// What a link is, as far as its state depends on it.
@@ -27,15 +27,11 @@ pub enum LinkType {
 }
 
 fn pipe_type(text: &Lines<'_>, link: &Line) -> LinkType
-    requires lies { LiesIn text.now.text link.now }
-    requires right { row.pipe (words_at text.now link.now) ≡ None }
+    requires { LiesIn text.now.text link.now }
     ensures { result ≡ (if row.has_check_valve (words_at text.now link.now) then LinkType.CheckPipe
         else LinkType.Pipe) }
 {
-    let Ok(row) = read_pipe(text, link) else {
-        return LinkType::Pipe;
-    };
-    match row.status {
+    match read_pipe_status(text, link) {
         PipeStatus::CheckValve => LinkType::CheckPipe,
         _ => LinkType::Pipe,
     }

@@ -7,7 +7,7 @@ use Rattle.hyd_num.specs.Rational.{floor, ceiling}
 use Rattle.hyd_num.specs.declared.decimals.Decimal.{Decimal}
 use Rattle.hyd_num.specs.declared.spans.Span.{Span}
 use Rattle.hyd_spec.specs.DemandsHeadsAndPumpLifts.{pressure_value}
-use Rattle.hyd_lemmas.proofs.Integers.{floor_greatest, floor_at_most_ceiling}
+use Rattle.hyd_theorems_on_definitions.proofs.PassedOn.{floor_greatest, floor_at_most_ceiling}
 use Rattle.hyd_law.specs.ComposedLaws.{IsLift}
 use Rattle.hyd_theorems_on_definitions.specs.PressureDrivenDemand.{stepped}
 

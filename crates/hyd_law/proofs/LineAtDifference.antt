@@ -9,8 +9,8 @@ use Rattle.hyd_law.specs.KnotsOfStraightLines.{place_of, places, IsValue}
 use Rattle.hyd_num.specs.Rational.{Rational, whole}
 use Rattle.hyd_num.proofs.Integers.{one_times}
 use Rattle.hyd_net.specs.Curves.{Knot, between, value_from, value_at}
-use Rattle.hyd_lemmas.proofs.BooleanTests.{lt-from, lt-not}
-use Rattle.hyd_lemmas.proofs.KnotLines.{two-more, one-more}
+use Rattle.hyd_theorems_on_definitions.proofs.PassedOn.{lt-from, lt-not}
+use Rattle.hyd_theorems_on_definitions.proofs.PassedOn.{two-more, one-more}
 
 -- ---- two knots
 

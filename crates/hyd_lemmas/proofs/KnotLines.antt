@@ -1,7 +1,7 @@
 -- The line through two knots, as a fraction, and the knots of a list from one on.
 use Rattle.std.proofs.Common.{◌≡◌, ℤ, ◌<ℤ◌, refl, sym, ◌*◌, pos, ◌+ℤ◌, ◌-ℤ◌, ◌*ℤ◌, unsigned_abs, ap, ◌∙◌, arith, ℕ, ◌+◌}
 use Rattle.std.proofs.Common.{◌<◌, List, [], ◌∷◌, length, drop, slice_index_or}
-use Rattle.hyd_net.specs.Curves.{Knot, on_line, between}
+use Rattle.hyd_spec.specs.PassedOn.{Knot, on_line, between}
 use Rattle.std.proofs.lemmas.Int.{ints}
 use Rattle.std.proofs.lemmas.List.{drop_more, drop_all}
 use Rattle.hyd_num.proofs.Integers.{one_times}

@@ -21,3 +21,4 @@ pub mod KnotLines
 pub mod OneBinaryNumber
 pub mod DenominatorsAboveZero
 pub mod OneCapacity
+pub mod PassedOn

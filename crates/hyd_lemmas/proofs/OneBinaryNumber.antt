@@ -8,7 +8,7 @@ use Rattle.hyd_num.specs.declared.binary.Scaled.{Scaled}
 use Rattle.hyd_num.specs.BinaryNumbers.{numerator, denominator, as_fraction}
 use Rattle.std.proofs.lemmas.Bool.{cases_lt}
 use Rattle.hyd_num.specs.Fraction.{AtMost}
-use Rattle.hyd_net.proofs.EqualValues.{Scaled-equal}
+use Rattle.hyd_spec.proofs.EqualNumbers.{Scaled-equal}
 
 -- where a mantissa of at least 2^62 has the greater exponent, the other number is less
 pub no-less : (m n a b : ℕ) → 2 ^ 62 ≤ n → m < 2 ^ 63 → m * 2 ^ a ≡ n * 2 ^ b → a < b → ⊥

@@ -16,6 +16,7 @@ mod tank_bounds;
 mod trials;
 
 pub use ends::{command_at_end, least_end};
+pub use hyd_rules_at_scale::start_links;
 pub use inflows::put_inflows;
 pub use periods::MetPeriod;
 pub use room::{EndRoom, TrialRoom};

@@ -7,8 +7,10 @@ ghost use Rattle.hyd_spec_lines.specs.WordsOfLines as form;
 ghost use Rattle.hyd_spec_lines.specs.WordsOfLines.{words_in, text_of};
 ghost use Rattle.hyd_spec_lines.specs.Lines.{items_of, item_of, row_of, LiesIn, IsLineOf};
 ghost use Rattle.hyd_spec_lines.specs.Lines as lines_form;
+ghost use Rattle.hyd_lex.specs.FirstWords.{AreFirst};
 ghost use Rattle.hyd_lex.specs.RemainingRows as walk;
 
+use crate::first_words::{FirstWords, first_words};
 use crate::headings::heading_kind;
 use crate::lines_and_words_split::{body, first_line, is_plain, word};
 use hyd_spec_lines::{Kind, LexCause, LexFault, Line, Region};
@@ -208,6 +210,14 @@ impl<'a> Lines<'a> {
         ensures few { IfSome result (λ word. number < 2 ^ 26) }
     {
         word(&self.text[line.from as usize..line.to as usize], number)
+    }
+
+    /// The first eight words of a line, in one pass over it.
+    pub fn first_words(&self, line: &Line) -> FirstWords<'a>
+        requires { LiesIn self.now.text line.now }
+        ensures { AreFirst (row_of self.now.text line.now).words result }
+    {
+        first_words(&self.text[line.from as usize..line.to as usize])
     }
 
     /// A line before its comment, for lines of many words.

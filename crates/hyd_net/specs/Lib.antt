@@ -10,3 +10,4 @@ pub mod NetworkRanges
 pub mod Sound
 pub mod LinkStates
 pub mod ProjectAsCompared
+pub mod PowerLawsOfPipes

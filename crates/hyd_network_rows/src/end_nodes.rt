@@ -1,16 +1,17 @@
 //! The first words of rows of links: an ID and two nodes (EPANET 2.2 User Manual, [PIPES], [PUMPS] and [VALVES]).
 #![tactic(auto)]
 
-ghost use Rattle.std.specs.Prelude.{◌≡◌, Some, slice_get};
-ghost use Rattle.hyd_spec_lines.specs.Lines.{LiesIn};
-ghost use Rattle.hyd_option_and_rule_lines.specs.FaultOrValue.{Judged, words_at};
+ghost use Rattle.std.specs.Prelude.{◌≡◌, ℕ, List, Some, slice_get};
+ghost use Rattle.hyd_spec_lines.specs.WordsOfLines.{text_of};
+ghost use Rattle.hyd_lex.specs.FirstWords.{AreFirst};
+ghost use Rattle.hyd_option_and_rule_lines.specs.FaultOrValue.{Judged};
 ghost use Rattle.hyd_spec_input.specs.Columns as column;
 ghost use Rattle.hyd_spec_input.specs.NodeAndLinkRows as row;
 ghost use Rattle.hyd_network_rows.specs.Rows.{AreLinkEnds};
 
-use hyd_lex::{Line, Lines};
+use hyd_lex::FirstWords;
 use hyd_net::Cause;
-use hyd_option_and_rule_lines::{id, or_empty};
+use hyd_option_and_rule_lines::needed_id;
 
 /// A link's ID and its two nodes, which differ.
 #[derive(Clone, Copy, Drop)]
@@ -21,26 +22,25 @@ pub struct LinkEnds<'a> {
 }
 
 // The second node, which has another ID than the first.
-fn other_end<'a>(text: &Lines<'a>, line: &Line) -> Result<&'a [u8], Cause>
-    requires { LiesIn text.now.text line.now }
-    ensures { Judged (column.needed (row.other_end (words_at text.now line.now)) 2 (words_at text.now line.now)) result
-        (λ word. slice_get (words_at text.now line.now) 2 ≡ Some word.now) }
+fn other_end<'a>(second: Option<&'a [u8]>, from: &[u8]) -> Result<&'a [u8], Cause>
+    ensures { (words : List (List ℕ)) → slice_get words 1 ≡ Some from.now → text_of second.entry ≡ slice_get words 2
+        → Judged (column.needed (row.other_end words) 2 words) result (λ word. slice_get words 2 ≡ Some word.now) }
 {
-    let second = id(text, line, 2)?;
-    if second == or_empty(text, line, 1) {
+    let second = needed_id(second)?;
+    if second == from {
         return Err(Cause::Range);
     }
     Ok(second)
 }
 
-/// Reads the ID and the two nodes of a row of links. Refused are, at the first word that is wrong: a missing word
-/// (Syntax), an ID longer than 31 bytes (Limit 3), and a second node that is the first (Range).
-pub(crate) fn read_ends<'a>(text: &Lines<'a>, line: &Line) -> Result<LinkEnds<'a>, Cause>
-    requires { LiesIn text.now.text line.now }
-    ensures { Judged (row.link_ends (words_at text.now line.now)) result (AreLinkEnds (words_at text.now line.now)) }
+/// Reads the ID and the two nodes of a row of links, from its first words. Refused are, at the first word that is
+/// wrong: a missing word (Syntax), an ID longer than 31 bytes (Limit 3), and a second node that is the first (Range).
+pub(crate) fn read_ends<'a>(first: &FirstWords<'a>) -> Result<LinkEnds<'a>, Cause>
+    ensures { (words : List (List ℕ)) → AreFirst words first.now
+        → Judged (row.link_ends words) result (AreLinkEnds words) }
 {
-    let id = id(text, line, 0)?;
-    let from = hyd_option_and_rule_lines::id(text, line, 1)?;
-    let to = other_end(text, line)?;
+    let id = needed_id(first.word(0))?;
+    let from = needed_id(first.word(1))?;
+    let to = other_end(first.word(2), from)?;
     Ok(LinkEnds { id, from, to })
 }

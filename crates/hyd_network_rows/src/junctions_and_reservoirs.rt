@@ -6,11 +6,11 @@ ghost use Rattle.hyd_option_and_rule_lines.specs.FaultOrValue.{Judged, words_at}
 ghost use Rattle.hyd_spec_input.specs.NodeAndLinkRows as row;
 ghost use Rattle.hyd_network_rows.specs.Rows.{IsJunctionRow, IsReservoirRow};
 
-use crate::optional_and_bounded_words::{number_or_0, optional_id};
+use crate::optional_and_bounded_words::{given_id, given_or_0, optional_id};
 use hyd_lex::{Line, Lines};
 use hyd_net::Cause;
 use hyd_num::Decimal;
-use hyd_option_and_rule_lines::{ends, id, number};
+use hyd_option_and_rule_lines::{ends, id, needed_id, needed_number, no_word, number};
 
 /// A row of [JUNCTIONS], in the file's units.
 #[derive(Clone, Copy, Drop)]
@@ -39,11 +39,12 @@ pub fn read_junction<'a>(text: &Lines<'a>, line: &Line) -> Result<JunctionRow<'a
     requires { LiesIn text.now.text line.now }
     ensures { Judged (row.junction (words_at text.now line.now)) result (IsJunctionRow (words_at text.now line.now)) }
 {
-    let id = id(text, line, 0)?;
-    let elevation = number(text, line, 1)?;
-    let base = number_or_0(text, line, 2)?;
-    let pattern = optional_id(text, line, 3)?;
-    ends(text, line, 4)?;
+    let words = text.first_words(line);
+    let id = needed_id(words.word(0))?;
+    let elevation = needed_number(words.word(1))?;
+    let base = given_or_0(words.word(2))?;
+    let pattern = given_id(words.word(3))?;
+    no_word(words.word(4))?;
     Ok(JunctionRow {
         id,
         elevation,

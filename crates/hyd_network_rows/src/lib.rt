@@ -33,7 +33,7 @@ pub use last_lines_of_options::{
     has_hazen_williams, has_hazen_williams_throughout, is_options, last_option,
 };
 pub use patterns::{PatternRow, read_pattern};
-pub use pipes::{PipeRow, PipeStatus, read_pipe, read_pipe_by};
+pub use pipes::{PipeRow, PipeStatus, read_pipe, read_pipe_by, read_pipe_status};
 pub use pumps::{PumpRow, read_pump};
 pub use rule_line_order::{first_word, is_acting, is_rule, is_rules, next_stage, stage_by};
 pub use tanks::{TankRow, read_tank};

@@ -2,7 +2,7 @@
 //! text.
 #![tactic(auto)]
 
-ghost use Rattle.std.specs.Prelude.{◌≡◌, ◌≤◌, ◌+◌, ◌↔◌, IsTrue, length, drop, slice_get, pos};
+ghost use Rattle.std.specs.Prelude.{◌≡◌, ℕ, List, drop, slice_get, pos};
 ghost use lib.Signed.{le_z};
 ghost use Rattle.hyd_num.specs.Numeral.{nano_of};
 ghost use Rattle.hyd_spec_lines.specs.WordsOfLines.{text_of, words_in};
@@ -17,15 +17,18 @@ use hyd_net::Cause;
 use hyd_num::Decimal;
 use hyd_option_and_rule_lines::{check_id, needed, number_of};
 
-/// Whether a line has a word of this number.
-pub(crate) fn has_word(text: &Lines<'_>, line: &Line, k: u32) -> bool
-    requires { LiesIn text.now.text line.now }
-    ensures { IsTrue result ↔ (k + 1 ≤ length (words_at text.now line.now)) }
+/// An ID that may be missing: Limit 3 where it is longer than 31 bytes.
+pub(crate) fn given_id(word: Option<&[u8]>) -> Result<Option<&[u8]>, Cause>
+    ensures { (words : List (List ℕ)) (k : ℕ) → text_of word.entry ≡ slice_get words k
+        → Judged (column.optional column.id k words) result (λ word. text_of word ≡ slice_get words k) }
 {
-    text.word(line, k).is_some()
+    if let Some(word) = word {
+        check_id(word)?;
+    }
+    Ok(word)
 }
 
-/// An ID that may be missing: Limit 3 where it is longer than 31 bytes.
+/// The ID at a place of a line that may be missing, as `given_id`.
 pub(crate) fn optional_id<'a>(
     text: &Lines<'a>,
     line: &Line,
@@ -35,23 +38,27 @@ pub(crate) fn optional_id<'a>(
     ensures { Judged (column.optional column.id k (words_at text.now line.now)) result
         (λ word. text_of word ≡ slice_get (words_at text.now line.now) k) }
 {
-    let Some(word) = text.word(line, k) else {
-        return Ok(None);
-    };
-    check_id(word)?;
-    Ok(Some(word))
+    given_id(text.word(line, k))
 }
 
 /// A number, 0 where it is missing.
+pub(crate) fn given_or_0(word: Option<&[u8]>) -> Result<Decimal, Cause>
+    ensures { (words : List (List ℕ)) (k : ℕ) → text_of word.entry ≡ slice_get words k
+        → Judged (column.optional column.number k words) result (λ number. number.nano ≡ amount_or (pos 0) k words) }
+{
+    match word {
+        Some(word) => number_of(word),
+        None => Ok(Decimal { nano: 0 }),
+    }
+}
+
+/// The number at a place of a line, 0 where it is missing.
 pub(crate) fn number_or_0(text: &Lines<'_>, line: &Line, k: u32) -> Result<Decimal, Cause>
     requires { LiesIn text.now.text line.now }
     ensures { Judged (column.optional column.number k (words_at text.now line.now)) result
         (λ number. number.nano ≡ amount_or (pos 0) k (words_at text.now line.now)) }
 {
-    match text.word(line, k) {
-        Some(word) => number_of(word),
-        None => Ok(Decimal { nano: 0 }),
-    }
+    given_or_0(text.word(line, k))
 }
 
 /// A word that is a number from one bound to another in billionths, both included: Number where it is no number or

@@ -1,8 +1,9 @@
 //! Rows of pipes (EPANET 2.2 User Manual, [PIPES]).
 #![tactic(auto)]
 
-ghost use Rattle.std.specs.Prelude.{◌≡◌};
+ghost use Rattle.std.specs.Prelude.{◌≡◌, ℕ, List, slice_get};
 ghost use Rattle.hyd_spec_lines.specs.Headings.{is_one_of};
+ghost use Rattle.hyd_spec_lines.specs.WordsOfLines.{text_of};
 ghost use Rattle.hyd_spec_lines.specs.Lines.{LiesIn};
 ghost use Rattle.hyd_option_and_rule_lines.specs.FaultOrValue.{Judged, words_at};
 ghost use Rattle.hyd_spec_input.specs.Columns as column;
@@ -10,12 +11,12 @@ ghost use Rattle.hyd_spec_input.specs.NodeAndLinkRows as row;
 ghost use Rattle.hyd_network_rows.specs.Rows.{IsPipeRow, pipe_status};
 
 use crate::end_nodes::{LinkEnds, read_ends};
-use crate::optional_and_bounded_words::{has_word, within_or_0};
+use crate::optional_and_bounded_words::within;
 use hyd_lex::{Line, Lines, is_keyword};
 use hyd_net::Cause;
 use hyd_net::ranges::{GREATEST_COEFFICIENT, GREATEST_DIAMETER};
 use hyd_num::Decimal;
-use hyd_option_and_rule_lines::{ends, number, number_within, word_is};
+use hyd_option_and_rule_lines::{ends, needed_number, needed_within};
 
 const GREATEST_LENGTH: i128 = 1_000_000 * 1_000_000_000;
 
@@ -55,35 +56,37 @@ fn is_pipe_status(word: &[u8]) -> bool
 }
 
 // Whether the seventh word stands alone and is a status.
-fn has_status_alone(text: &Lines<'_>, line: &Line) -> bool
-    requires { LiesIn text.now.text line.now }
-    ensures { result ≡ row.has_status_alone (words_at text.now line.now) }
+fn has_status_alone(seventh: Option<&[u8]>, eighth: Option<&[u8]>) -> bool
+    ensures { (words : List (List ℕ)) → text_of seventh.entry ≡ slice_get words 6
+        → text_of eighth.entry ≡ slice_get words 7 → result ≡ row.has_status_alone words }
 {
-    let Some(word) = text.word(line, 6) else {
+    let Some(word) = seventh else {
         return false;
     };
-    !has_word(text, line, 7) && is_pipe_status(word)
+    eighth.is_none() && is_pipe_status(word)
 }
 
 // The minor loss coefficient, 0 where it isn't there.
-fn minor(text: &Lines<'_>, line: &Line) -> Result<Decimal, Cause>
-    requires { LiesIn text.now.text line.now }
-    ensures { Judged (column.optional (row.minor_or_status (words_at text.now line.now)) 6 (words_at text.now line.now))
-        result (λ minor. minor.nano ≡ row.pipe_minor (words_at text.now line.now)) }
+fn minor(seventh: Option<&[u8]>, alone: bool) -> Result<Decimal, Cause>
+    ensures { (words : List (List ℕ)) → text_of seventh.entry ≡ slice_get words 6 → alone ≡ row.has_status_alone words
+        → Judged (column.optional (row.minor_or_status words) 6 words) result
+        (λ minor. minor.nano ≡ row.pipe_minor words) }
 {
-    if has_status_alone(text, line) {
+    if alone {
         return Ok(Decimal { nano: 0 });
     }
-    within_or_0(text, line, 6, 0, GREATEST_COEFFICIENT)
+    match seventh {
+        Some(word) => within(word, 0, GREATEST_COEFFICIENT),
+        None => Ok(Decimal { nano: 0 }),
+    }
 }
 
 // A status behind the coefficient, where the word is there.
-fn check_status(text: &Lines<'_>, line: &Line) -> Result<(), Cause>
-    requires { LiesIn text.now.text line.now }
-    ensures { Judged (column.optional (column.one_of row.pipe_statuses) 7 (words_at text.now line.now)) result
-        (λ _. Unit {0}) }
+fn check_status(eighth: Option<&[u8]>) -> Result<(), Cause>
+    ensures { (words : List (List ℕ)) → text_of eighth.entry ≡ slice_get words 7
+        → Judged (column.optional (column.one_of row.pipe_statuses) 7 words) result (λ _. Unit {0}) }
 {
-    let Some(word) = text.word(line, 7) else {
+    let Some(word) = eighth else {
         return Ok(());
     };
     if !is_pipe_status(word) {
@@ -92,31 +95,57 @@ fn check_status(text: &Lines<'_>, line: &Line) -> Result<(), Cause>
     Ok(())
 }
 
-// What the status word says.
-fn status(text: &Lines<'_>, line: &Line) -> PipeStatus
-    requires { LiesIn text.now.text line.now }
-    ensures { result ≡ pipe_status (words_at text.now line.now) }
+// Nothing stands behind the eighth word, where there is one.
+fn ends_row(text: &Lines<'_>, line: &Line, eighth: Option<&[u8]>) -> Result<(), Cause>
+    requires lies { LiesIn text.now.text line.now }
+    requires eighth { text_of eighth ≡ slice_get (words_at text.now line.now) 7 }
+    ensures { Judged (column.ends 8 (words_at text.now line.now)) result (λ _. Unit {0}) }
 {
-    let place = if has_status_alone(text, line) { 6 } else { 7 };
-    if word_is(text, line, place, b"CV") {
+    match eighth {
+        Some(_) => ends(text, line, 8),
+        None => Ok(()),
+    }
+}
+
+// What the status word says.
+fn status(seventh: Option<&[u8]>, eighth: Option<&[u8]>, alone: bool) -> PipeStatus
+    ensures { (words : List (List ℕ)) → text_of seventh.entry ≡ slice_get words 6
+        → text_of eighth.entry ≡ slice_get words 7 → alone ≡ row.has_status_alone words
+        → result ≡ pipe_status words }
+{
+    let Some(word) = (if alone { seventh } else { eighth }) else {
+        return PipeStatus::Open;
+    };
+    if is_keyword(word, b"CV") {
         return PipeStatus::CheckValve;
     }
-    if word_is(text, line, place, b"CLOSED") {
+    if is_keyword(word, b"CLOSED") {
         return PipeStatus::Closed;
     }
     PipeStatus::Open
 }
 
-// The roughness: any number where losses are by Hazen-Williams, else Manning's.
-fn roughness(text: &Lines<'_>, line: &Line, by_power: bool) -> Result<Decimal, Cause>
+/// What the status word of a row of [PIPES] says, without the rest of the row.
+pub fn read_pipe_status(text: &Lines<'_>, line: &Line) -> PipeStatus
     requires { LiesIn text.now.text line.now }
-    ensures { Judged (column.needed (row.roughness by_power) 5 (words_at text.now line.now)) result
-        (λ roughness. roughness.nano ≡ column.amount 5 (words_at text.now line.now)) }
+    ensures { result ≡ pipe_status (words_at text.now line.now) }
+{
+    let words = text.first_words(line);
+    let seventh = words.word(6);
+    let eighth = words.word(7);
+    status(seventh, eighth, has_status_alone(seventh, eighth))
+}
+
+// The roughness: any number where losses are by Hazen-Williams, else Manning's.
+fn roughness(sixth: Option<&[u8]>, by_power: bool) -> Result<Decimal, Cause>
+    ensures { (words : List (List ℕ)) → text_of sixth.entry ≡ slice_get words 5
+        → Judged (column.needed (row.roughness by_power) 5 words) result
+        (λ roughness. roughness.nano ≡ column.amount 5 words) }
 {
     if by_power {
-        return number(text, line, 5);
+        return needed_number(sixth);
     }
-    number_within(text, line, 5, 1, GREATEST_ROUGHNESS)
+    needed_within(sixth, 1, GREATEST_ROUGHNESS)
 }
 
 /// Reads a row of [PIPES]: ID, two nodes, length, diameter, roughness, minor loss coefficient, status; the
@@ -130,20 +159,24 @@ pub fn read_pipe_by<'a>(text: &Lines<'a>, line: &Line, by_power: bool) -> Result
     ensures { Judged (row.pipe_by by_power (words_at text.now line.now)) result
         (IsPipeRow (words_at text.now line.now)) }
 {
-    let link = read_ends(text, line)?;
-    let length = number_within(text, line, 3, 1, GREATEST_LENGTH)?;
-    let diameter = number_within(text, line, 4, 1, GREATEST_DIAMETER)?;
-    let roughness = roughness(text, line, by_power)?;
-    let minor = minor(text, line)?;
-    check_status(text, line)?;
-    ends(text, line, 8)?;
+    let words = text.first_words(line);
+    let link = read_ends(&words)?;
+    let length = needed_within(words.word(3), 1, GREATEST_LENGTH)?;
+    let diameter = needed_within(words.word(4), 1, GREATEST_DIAMETER)?;
+    let roughness = roughness(words.word(5), by_power)?;
+    let seventh = words.word(6);
+    let eighth = words.word(7);
+    let alone = has_status_alone(seventh, eighth);
+    let minor = minor(seventh, alone)?;
+    check_status(eighth)?;
+    ends_row(text, line, eighth)?;
     Ok(PipeRow {
         ends: link,
         length,
         diameter,
         roughness,
         minor,
-        status: status(text, line),
+        status: status(seventh, eighth, alone),
     })
 }
 

@@ -165,7 +165,7 @@ pub fn read_pump<'a>(text: &Lines<'a>, line: &Line) -> Result<PumpRow<'a>, Cause
     requires { LiesIn text.now.text line.now }
     ensures { Judged (row.pump (words_at text.now line.now)) result (IsPumpRow (words_at text.now line.now)) }
 {
-    let link = read_ends(text, line)?;
+    let link = read_ends(&text.first_words(line))?;
     let pairs = pairs(text, line);
     check_pairs(pairs)?;
     let Some(curve) = pair_value(pairs, b"HEAD") else {

@@ -106,7 +106,7 @@ pub fn read_valve<'a>(text: &Lines<'a>, line: &Line) -> Result<ValveRow<'a>, Cau
     requires { LiesIn text.now.text line.now }
     ensures { Judged (row.valve (words_at text.now line.now)) result (IsValveRow (words_at text.now line.now)) }
 {
-    let link = read_ends(text, line)?;
+    let link = read_ends(&text.first_words(line))?;
     let diameter = number_within(text, line, 3, 1, GREATEST_DIAMETER)?;
     check_type(text, line)?;
     let setting = setting(text, line)?;

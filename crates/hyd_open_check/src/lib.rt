@@ -1,5 +1,7 @@
 //! A check of a certificate of version 4 from its first record to its END line, read as it goes: each record is tried,
 //! and its report put out through a pen.
+//!
+//! Tested by the runs and checks of `hyd_stored_runs`.
 #![tactic(auto)]
 
 mod records;

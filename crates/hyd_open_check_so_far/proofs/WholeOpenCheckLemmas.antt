@@ -22,8 +22,8 @@ use Rattle.hyd_io.specs.Output.{PenState}
 use Rattle.hyd_cert.specs.ReaderView.{IsGoing}
 use Rattle.hyd_cert.specs.declared.answers_of_reader.Stand.{Stand}
 use Rattle.hyd_cert.specs.declared.answers_of_reader.Stand.TheVariants as stand
-use Rattle.hyd_run.specs.Runs.{first_line}
-use Rattle.hyd_run.proofs.RunLemmas.{moved-whole}
+use Rattle.hyd_cert_check.specs.PassedOn.{first_line}
+use Rattle.hyd_cert_check.proofs.PassedOn.{moved-whole}
 use Rattle.hyd_cert_check.specs.ReaderAndPen.{CheckMoment, new_pen, LeavesFiles, PutIn, IsCutOff, Rose}
 use Rattle.hyd_cert_check.specs.RecordByRecord.{coming, IsPrinted, CanGoOn}
 use Rattle.hyd_spec_check_ends.specs.declared.CheckEnd.{CheckEnd}

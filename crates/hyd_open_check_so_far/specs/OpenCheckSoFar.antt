@@ -26,7 +26,7 @@ use Rattle.hyd_cert.specs.ReaderView.{lead, lead_lines}
 use Rattle.hyd_cert.specs.declared.answers_of_reader.Stand.TheVariants as stand
 use Rattle.hyd_open_certificates.specs.OpenTexts.{open_lines_of as lines_with_records}
 use Rattle.hyd_open_certificates.specs.OpenFaults.{IsOpenFault, LacksOpenRecord, HasOtherOpenHeader}
-use Rattle.hyd_run.specs.Runs.{periods_left}
+use Rattle.hyd_cert_check.specs.PassedOn.{periods_left}
 use Rattle.hyd_spec_check_ends.specs.LinesOfRefusals.{refused_grammar_line, refused_counts_line}
 use Rattle.hyd_cert_check.specs.ReaderAndPen.{CheckMoment, PutIn, IsCutOff}
 use Rattle.hyd_cert_check.specs.RecordByRecord.{coming}

@@ -10,18 +10,17 @@ ghost use Rattle.hyd_spec_reports.specs.PromisesOfRunsAndChecks.{accepted_line};
 ghost use Rattle.hyd_spec_open_ends.specs.OpenStandings.{OpenStanding, initial_open_standing};
 ghost use Rattle.hyd_cert.specs.ReaderView.{ReaderView};
 ghost use Rattle.hyd_cert.specs.declared.answers_of_reader.Stand.TheVariants as stand;
-ghost use Rattle.hyd_run.specs.Pens.{told};
+ghost use Rattle.hyd_cert_check.specs.PassedOn.{told};
 ghost use Rattle.hyd_spec_check_ends.specs.LinesOfRefusals.{refused_grammar_line, refused_counts_line};
 ghost use Rattle.hyd_cert_check.specs.ReaderAndPen.{CheckMoment, moment, new_pen, IsOpen};
 ghost use Rattle.hyd_open_check_so_far.specs.OpenCheckSoFar.{conclusion_line, end_of, IsSoFar, IsWhole, AllRead};
 ghost use Rattle.hyd_open_check_so_far.specs.OpenCheckSoFar.{CheckBegins, CheckPuts};
 
 use crate::conclusion::OpenConclusion;
-use hyd_cert_check::{CheckEnd, CheckFault};
+use hyd_cert_check::{CheckEnd, CheckFault, empty, put_first};
 use hyd_io::{Desk, OutFault, Pen, put_number};
 use hyd_net::Project;
 use hyd_report::{put_done, put_partial, put_refused, put_refused_end};
-use hyd_run::{empty, put_first};
 use hyd_sentences::{LineFault, RefusedLine, RefusedRecord};
 
 // ---- the last line

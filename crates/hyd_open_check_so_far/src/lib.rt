@@ -1,5 +1,7 @@
 //! A check of a certificate of version 4 as far as it has gone, whatever judges its records: the reading of each record,
 //! the last line of its report, and what was read and put in so far.
+//!
+//! Tested by the runs and checks of `hyd_stored_runs`.
 #![tactic(auto)]
 
 mod conclusion;

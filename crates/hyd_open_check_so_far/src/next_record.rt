@@ -8,7 +8,7 @@ ghost use Rattle.hyd_spec_open_ends.specs.OpenStandings.{OpenStanding};
 ghost use Rattle.hyd_cert.specs.ReaderView.{IsGoing};
 ghost use Rattle.hyd_open_certificates.specs.OpenRowView.{open_header_of, open_record_of};
 ghost use Rattle.hyd_spec_open_checks.specs.OpenChecks.{open_header_for};
-ghost use Rattle.hyd_run.specs.Pens.{told};
+ghost use Rattle.hyd_cert_check.specs.PassedOn.{told};
 ghost use Rattle.hyd_cert_check.specs.ReaderAndPen.{CheckMoment, moment, IsOpen};
 ghost use Rattle.hyd_open_check_so_far.specs.OpenCheckSoFar.{IsEndLine, IsSo, ReadGives};
 

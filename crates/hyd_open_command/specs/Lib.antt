@@ -1,1 +1,2 @@
 pub mod OpenAnswers
+pub mod PassedOn

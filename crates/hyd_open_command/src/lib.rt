@@ -8,4 +8,5 @@ mod run_ends;
 mod whole_run;
 
 pub use command::run_with_slack;
+pub use hyd_naming_command::{run_naming_links, say_end, status_of_end};
 pub use hyd_open_run::OpenSettings;

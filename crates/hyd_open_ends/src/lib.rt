@@ -1,4 +1,6 @@
 //! How a period ends whose start lies between two seconds, or what is open first.
+//!
+//! Tested by the runs and checks of `hyd_stored_runs`.
 #![tactic(auto)]
 
 mod ending;

@@ -1,5 +1,7 @@
 //! What puts out the lines of a report whose time may be known to lie between two seconds: changes of links by controls
 //! and rules, and what tanks reach.
+//!
+//! Tested by the runs and checks of `hyd_stored_runs`.
 #![tactic(auto)]
 
 mod changes;

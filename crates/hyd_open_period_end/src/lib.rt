@@ -1,5 +1,7 @@
 //! The end of a period by its vectors, whose start or end may be open by some seconds: when it ends, what happens there,
 //! and what stands behind it; or the first matter that the vectors leave open.
+//!
+//! Tested by the runs and checks of `hyd_stored_runs`.
 #![tactic(auto)]
 
 mod arrivals;

@@ -1,6 +1,8 @@
 //! What puts out the report of a period whose start or end may be known to lie between two seconds.
 //!
 //! The first line of a report and its last one are those of other reports.
+//!
+//! Tested by the runs and checks of `hyd_stored_runs`.
 #![tactic(auto)]
 
 mod late;

@@ -1,5 +1,7 @@
 //! Rules in a period whose start lies between two seconds: they are tried at the multiples of the rule step on levels
 //! carried over all lengths that the period may have had there, and the first instant is found at which they matter.
+//!
+//! Tested by the runs and checks of `hyd_stored_runs`.
 #![tactic(auto)]
 
 mod carried_over;

@@ -15,7 +15,7 @@ use Rattle.hyd_open_certificates.specs.declared.open_row.OpenRow.{OpenRow}
 use Rattle.hyd_open_report.specs.OpenPeriodLines.{open_texts}
 use Rattle.hyd_open_report.proofs.OpenReports.{is_report}
 use Rattle.hyd_period_network.specs.NetAsPeriodNetwork.{grid_of}
-use Rattle.hyd_sim.specs.NarrowRecordsAndStops.{NamesStuck}
+use Rattle.hyd_run.specs.PassedOn.{NamesStuck}
 use Rattle.hyd_run.specs.Pens.{RunMoment, PutIn, IsCutInOrder}
 use Rattle.hyd_run.specs.Runs.{periods_left}
 use Rattle.hyd_run.specs.declared.outcome.RunEnd.{RunEnd}

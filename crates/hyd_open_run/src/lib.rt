@@ -1,6 +1,8 @@
 //! A run with a slack from its first step to its last line, put out as it goes: the certificate, of version 4, through
 //! one pen and the report through another. With it what checks of such certificates use too: the report of the last
 //! period of a run.
+//!
+//! Tested by the runs and checks of `hyd_stored_runs`.
 #![tactic(auto)]
 
 mod record_and_report;

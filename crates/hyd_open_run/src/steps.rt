@@ -12,8 +12,7 @@ use hyd_finders::Finder;
 use hyd_io::{Desk, OutFault, Pen};
 use hyd_open_run_so_far::OpenSigns;
 use hyd_open_sim::OpenSim;
-use hyd_run::RunEnd;
-use hyd_sim::Step;
+use hyd_run::{RunEnd, Step};
 
 // Does the period that is due and puts its record and its report. Answers how the run ended where none is due.
 fn put_step<D: Desk, F: Finder>(

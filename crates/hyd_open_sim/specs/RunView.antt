@@ -1,7 +1,7 @@
 -- A run whose ends of periods may be open by some seconds, as contracts see it.
-use Rattle.std.specs.Prelude.{◌≡◌, ℕ, List, length, Option, Some, IfSome}
+use Rattle.std.specs.Prelude.{◌≡◌, length, Option, Some, IfSome}
 use Rattle.hyd_net.specs.Sound.{IsSound}
-use Rattle.hyd_spec.specs.ProgramTypes.{Project, LinkState}
+use Rattle.hyd_spec.specs.ProgramTypes.{Project}
 use Rattle.hyd_spec.specs.NodeNumbers.{junction_count, tank_count}
 use Rattle.hyd_spec_certificates.specs.declared.StopCause.{StopCause}
 use Rattle.hyd_spec_reports.specs.PromisesOfRunsAndChecks.{Sharpness}
@@ -32,7 +32,6 @@ pub record OpenSimView : Type 0 where
   pub found : OpenRow
   pub facts : Facts
   pub here : Here
-  pub links : List LinkState
   pub close : OpenPeriodEnd
   pub stopped : Option StopCause
 
@@ -60,7 +59,6 @@ pub record IsOpenSim (sim : OpenSimView) : Type 0 where
   }
   pub standing : IsStanding sim.project sim.here
   pub close : HasCloseRoom sim.project sim.close
-  pub links : length sim.links ≡ length sim.project.links.list
   pub stopped : IfSome sim.stopped (λ cause. EndsOpenlySo sim.project (standing_of sim) sim.settings.slack
       sim.settings.search.rounds (Some cause))
   pub stuck : IfSome sim.stopped (NamesStuck sim.project (standing_of sim).known sim.settings.search.rounds)

@@ -4,7 +4,7 @@
 ghost use Rattle.std.specs.Prelude.{◌≡◌};
 
 use crate::open_sim::OpenSim;
-use hyd_net::{LinkState, Project};
+use hyd_net::Project;
 use hyd_open_certificates::OpenRow;
 use hyd_open_period_end::OpenPeriodEnd;
 use hyd_open_sim_start::Standing;
@@ -15,7 +15,7 @@ use hyd_period_vectors::Search;
 // What a run holds is dropped in two steps: a function that drops much is slow to prove.
 fn drop_vectors(_found: OpenRow, _search: Search, _net: Net) {}
 
-fn drop_period(_links: Vec<LinkState>, _standing: Standing, _facts: Facts, _close: OpenPeriodEnd) {}
+fn drop_period(_standing: Standing, _facts: Facts, _close: OpenPeriodEnd) {}
 
 impl OpenSim {
     /// Closes the run and gives its network back. Dropping a run frees as much, but a function that does is proved
@@ -24,7 +24,7 @@ impl OpenSim {
         ensures project { result ≡ self.project }
     {
         drop_vectors(self.found, self.search, self.net);
-        drop_period(self.links, self.standing, self.facts, self.close);
+        drop_period(self.standing, self.facts, self.close);
         self.project
     }
 }

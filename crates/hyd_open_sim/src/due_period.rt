@@ -1,7 +1,7 @@
 //! The period that is due in a run: started, tried, and its record taken where it is narrow.
 #![tactic(auto)]
 
-ghost use Rattle.std.specs.Prelude.{◌≡◌, ℕ, length, true, false, IfOk, IfErr, OnOk, OnErr};
+ghost use Rattle.std.specs.Prelude.{◌≡◌, length, true, false, IfOk, IfErr, OnOk, OnErr};
 ghost use Rattle.hyd_net.specs.Sound.{IsSound};
 ghost use Rattle.hyd_spec.specs.NodeNumbers.{tank_count};
 ghost use Rattle.hyd_spec_open_ends.specs.PromisesOfOpenRuns.{StopsOpenly};
@@ -27,7 +27,7 @@ use crate::narrow_records::is_narrow;
 use crate::open_settings::OpenSettings;
 use crate::period_attempt::{Fault, try_period};
 use hyd_finders::Finder;
-use hyd_net::{LinkState, Project};
+use hyd_net::Project;
 use hyd_open_certificates::OpenRow;
 use hyd_open_period_end::OpenPeriodEnd;
 use hyd_open_sim_start::{Standing, begin, lack_fits, lack_stop, open_stop, start_period};
@@ -155,7 +155,8 @@ fn does<F: Finder>(
 
 // Does the period that begins at a standing: sets the net and the links, finds vectors and ends the period by them.
 // Where these leave a matter open, the record isn't narrow, or rounds toward one were spent, it does so again with the
-// tight vectors. Fails with the cause that stops the run there.
+// tight vectors. Fails with the cause that stops the run there. The states of links at the start are made in the room of
+// those at the end.
 fn do_period<F: Finder>(
     project: &Project,
     settings: OpenSettings,
@@ -164,7 +165,6 @@ fn do_period<F: Finder>(
     search: &mut Search,
     found: &mut OpenRow,
     facts: &mut Facts,
-    links: &mut [LinkState],
     close: &mut OpenPeriodEnd,
     finder: &mut F,
 ) -> Result<(), StopCause>
@@ -178,7 +178,6 @@ fn do_period<F: Finder>(
     } }
     requires header { open_header_of found.old ≡ header_for project.now }
     requires facts { HasRoom project.now facts.old }
-    requires links { length links.old ≡ length project.now.links.list }
     requires close { HasCloseRoom project.now close.old }
     ensures done { OnOk result (IsDone (F.told finder.old) project.now settings standing.now net.new found.new facts.new
         close.new) }
@@ -189,11 +188,10 @@ fn do_period<F: Finder>(
     ensures search { search.new ≡ search.old }
     ensures header { open_header_of found.new ≡ open_header_of found.old }
     ensures facts { HasRoom project.now facts.new }
-    ensures links { length links.new ≡ length links.old }
     ensures close { HasCloseRoom project.now close.new }
     ensures told { F.told finder.new ≡ F.told finder.old }
 {
-    start_period(project, standing, net, found, facts, links)?;
+    start_period(project, standing, net, found, facts, &mut close.commanded)?;
     if settings.search.tight {
         return tighten(
             project,
@@ -213,7 +211,7 @@ fn do_period<F: Finder>(
     )? {
         return Ok(());
     }
-    begin(project, standing, links, facts);
+    begin(project, standing, &mut close.commanded, facts);
     tighten(
         project,
         settings.slack,
@@ -238,7 +236,6 @@ pub(crate) fn advance<F: Finder>(
     search: &mut Search,
     found: &mut OpenRow,
     facts: &mut Facts,
-    links: &mut [LinkState],
     close: &mut OpenPeriodEnd,
     finder: &mut F,
 ) -> Result<(), StopCause>
@@ -252,7 +249,6 @@ pub(crate) fn advance<F: Finder>(
     } }
     requires header { open_header_of found.old ≡ header_for project.now }
     requires facts { HasRoom project.now facts.old }
-    requires links { length links.old ≡ length project.now.links.list }
     requires close { HasCloseRoom project.now close.old }
     ensures advanced { OnOk result (IsAdvanced (F.told finder.old) project.now settings (standing_for standing.old)
         net.new found.new facts.new close.new.first close.new.late close.new.opened.list
@@ -266,12 +262,11 @@ pub(crate) fn advance<F: Finder>(
     ensures search { search.new ≡ search.old }
     ensures header { open_header_of found.new ≡ open_header_of found.old }
     ensures facts { HasRoom project.now facts.new }
-    ensures links { length links.new ≡ length links.old }
     ensures close { HasCloseRoom project.now close.new }
     ensures told { F.told finder.new ≡ F.told finder.old }
 {
     do_period(
-        project, settings, standing, net, search, found, facts, links, close, finder,
+        project, settings, standing, net, search, found, facts, close, finder,
     )?;
     move_on(standing, project, net, found, facts, close);
     Ok(())

@@ -1,7 +1,7 @@
 //! A record handed in as that of the period that is due.
 #![tactic(auto)]
 
-ghost use Rattle.std.specs.Prelude.{◌≡◌, ℕ, Err, None, true, false, length, IfErr, OnErr, OnOk};
+ghost use Rattle.std.specs.Prelude.{◌≡◌, ℕ, Err, None, true, false, IfErr, OnErr, OnOk};
 ghost use Rattle.hyd_net.specs.Sound.{IsSound};
 ghost use Rattle.hyd_spec_certificates.specs.Valid.{AreCertificates};
 ghost use Rattle.hyd_spec_open_refusals.specs.RefusedOpenRecords.{HasItsGridOpenly, IsInPlaceOpenly, IsRefusedOpenly};
@@ -22,7 +22,7 @@ ghost use Rattle.hyd_open_sim.specs.RunView.{header_for, standing_of};
 use crate::end_of_due_period::end_period;
 use crate::moving_on::move_on;
 use crate::open_sim::OpenSim;
-use hyd_net::{LinkState, Project};
+use hyd_net::Project;
 use hyd_open_certificates::OpenRow;
 use hyd_open_period_end::{ANY_SLACK, OpenPeriodEnd};
 use hyd_open_sim_start::{Standing, check_vectors, start_period, take_vectors};
@@ -132,14 +132,14 @@ fn end_by(
     Ok(())
 }
 
-// Checks a record that is due: starts its period, and ends it by the record's vectors.
+// Checks a record that is due: starts its period, and ends it by the record's vectors. The states of links at the start
+// are made in the room of those at the end.
 fn check_due(
     project: &Project,
     standing: &Standing,
     net: &mut Net,
     found: &mut OpenRow,
     facts: &mut Facts,
-    links: &mut [LinkState],
     close: &mut OpenPeriodEnd,
     given: &OpenRow,
 ) -> Result<(), CertRefused>
@@ -149,7 +149,6 @@ fn check_due(
     requires header { open_header_of found.old ≡ header_for project.now }
     requires given { open_header_of given.now ≡ header_for project.now }
     requires facts { HasRoom project.now facts.old }
-    requires links { length links.old ≡ length project.now.links.list }
     requires close { HasCloseRoom project.now close.old }
     requires in_place { IsInPlaceOpenly (standing_for standing.now) (open_record_of given.now) }
     ensures made { OnOk result ((slack : ℕ)
@@ -160,10 +159,9 @@ fn check_due(
     ensures of { IsNetOf project.now net.new }
     ensures header { open_header_of found.new ≡ open_header_of found.old }
     ensures facts { HasRoom project.now facts.new }
-    ensures links { length links.new ≡ length links.old }
     ensures close { HasCloseRoom project.now close.new }
 {
-    if start_period(project, standing, net, found, facts, links).is_err() {
+    if start_period(project, standing, net, found, facts, &mut close.commanded).is_err() {
         return Err(CertRefused::Demand {
             period: standing.number,
         });
@@ -179,7 +177,6 @@ fn take(
     net: &mut Net,
     found: &mut OpenRow,
     facts: &mut Facts,
-    links: &mut [LinkState],
     close: &mut OpenPeriodEnd,
     given: &OpenRow,
 ) -> Result<(), CertRefused>
@@ -189,7 +186,6 @@ fn take(
     requires header { open_header_of found.old ≡ header_for project.now }
     requires given { open_header_of given.now ≡ header_for project.now }
     requires facts { HasRoom project.now facts.old }
-    requires links { length links.old ≡ length project.now.links.list }
     requires close { HasCloseRoom project.now close.old }
     ensures taken { OnOk result (IsTaken project.now (standing_for standing.old) net.new found.new facts.new
         close.new.first close.new.late close.new.opened.list (standing_for standing.new)) }
@@ -204,11 +200,10 @@ fn take(
     ensures of { IsNetOf project.now net.new }
     ensures header { open_header_of found.new ≡ open_header_of found.old }
     ensures facts { HasRoom project.now facts.new }
-    ensures links { length links.new ≡ length links.old }
     ensures close { HasCloseRoom project.now close.new }
 {
     check_place(project, standing, given)?;
-    check_due(project, standing, net, found, facts, links, close, given)?;
+    check_due(project, standing, net, found, facts, close, given)?;
     move_on(standing, project, net, found, facts, close);
     Ok(())
 }
@@ -240,7 +235,6 @@ impl OpenSim {
             &mut self.net,
             &mut self.found,
             &mut self.facts,
-            &mut self.links,
             &mut self.close,
             given,
         )

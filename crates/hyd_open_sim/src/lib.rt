@@ -1,5 +1,7 @@
 //! A run whose ends of periods may be open by some seconds, one period after another, found or checked: the record of
 //! each is valid, and its facts are its own.
+//!
+//! Tested by the runs and checks of `hyd_stored_runs`.
 #![tactic(auto)]
 
 mod closing_of_run;

@@ -1,7 +1,7 @@
 //! The state of a run.
 
 use crate::open_settings::OpenSettings;
-use hyd_net::{LinkState, Project};
+use hyd_net::Project;
 use hyd_open_certificates::OpenRow;
 use hyd_open_period_end::OpenPeriodEnd;
 use hyd_open_sim_start::Standing;
@@ -22,8 +22,6 @@ pub struct OpenSim {
     pub(crate) found: OpenRow,
     pub(crate) facts: Facts,
     pub(crate) standing: Standing,
-    /// The states of links in the period that is being done.
-    pub(crate) links: Vec<LinkState>,
     /// What the end of the last period left, and room for the ends of others.
     pub(crate) close: OpenPeriodEnd,
     /// Why the run stopped.
@@ -48,7 +46,6 @@ impl Model for OpenSim {
       found = s.found;
       facts = s.facts;
       here = s.standing;
-      links = s.links.items;
       close = s.close;
       stopped = s.stopped;
     } };
@@ -61,7 +58,6 @@ impl Model for OpenSim {
       found = s.found;
       facts = s.facts;
       here = s.standing;
-      links = s.links.items;
       close = s.close;
       stopped = s.stopped;
     }) };

@@ -13,10 +13,10 @@ ghost use Rattle.hyd_open_sim.specs.RunView.{header_for, standing_of};
 
 use crate::open_settings::OpenSettings;
 use crate::open_sim::OpenSim;
-use hyd_net::{LinkState, OutOfMemory, Project};
+use hyd_net::{OutOfMemory, Project};
 use hyd_open_certificates::OpenRow;
 use hyd_open_period_end::OpenPeriodEnd;
-use hyd_open_sim_start::{Standing, begin_run, first_standing, starts};
+use hyd_open_sim_start::{Standing, begin_run, first_standing};
 use hyd_period_facts::Facts;
 use hyd_period_network::Net;
 use hyd_period_vectors::Search;
@@ -33,7 +33,6 @@ struct VectorParts {
 // What a run knows of a period besides, and of its end.
 #[derive(Drop)]
 struct PeriodParts {
-    links: Vec<LinkState>,
     standing: Standing,
     facts: Facts,
     close: OpenPeriodEnd,
@@ -71,11 +70,9 @@ fn open_period_parts(alloc: Global, project: &Project) -> Result<PeriodParts, Ou
     ensures facts { IfOk result (λ parts. HasRoom project.now parts.facts) }
     ensures initial { IfOk result (λ parts. standing_for parts.standing ≡ initial_open_standing project.now) }
     ensures standing { IfOk result (λ parts. IsStanding project.now parts.standing) }
-    ensures links { IfOk result (λ parts. length parts.links.items ≡ length project.now.links.list) }
     ensures close { IfOk result (λ parts. HasCloseRoom project.now parts.close) }
 {
     Ok(PeriodParts {
-        links: starts(alloc, project)?,
         standing: first_standing(alloc, project)?,
         facts: Facts::open(alloc, project)?,
         close: OpenPeriodEnd::open(alloc, project)?,
@@ -93,7 +90,6 @@ fn open_parts(alloc: Global, project: &Project, rounds: u32) -> Result<Parts, Ou
     ensures initial { IfOk result (λ parts. standing_for parts.period.standing
         ≡ initial_open_standing project.now) }
     ensures standing { IfOk result (λ parts. IsStanding project.now parts.period.standing) }
-    ensures links { IfOk result (λ parts. length parts.period.links.items ≡ length project.now.links.list) }
     ensures close { IfOk result (λ parts. HasCloseRoom project.now parts.period.close) }
 {
     Ok(Parts {
@@ -124,7 +120,6 @@ impl OpenSim {
             found: parts.vectors.found,
             facts: parts.period.facts,
             standing: parts.period.standing,
-            links: parts.period.links,
             close: parts.period.close,
             stopped: None,
         })

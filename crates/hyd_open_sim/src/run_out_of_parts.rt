@@ -55,7 +55,6 @@ impl OpenSim {
             },
             facts: parts.facts,
             standing,
-            links: parts.links,
             close: OpenPeriodEnd {
                 readings: close.readings,
                 carried: close.carried,

@@ -41,7 +41,6 @@ impl OpenSim {
             &mut self.search,
             &mut self.found,
             &mut self.facts,
-            &mut self.links,
             &mut self.close,
             finder,
         )

@@ -16,12 +16,12 @@ use hyd_net::{LinkState, OutOfMemory, Project};
 use hyd_period_facts::TankStart;
 use std::alloc::Global;
 
-/// The states in which links start.
-pub fn starts(alloc: Global, project: &Project) -> Result<Vec<LinkState>, OutOfMemory>
+// The states in which links start.
+fn starts(alloc: Global, project: &Project) -> Result<Vec<LinkState>, OutOfMemory>
     ensures { IfOk result (λ v. v.items ≡ map (λ link. link.start) project.now.links.list) }
 {
     let links = project.links.as_slice();
-    let mut states = Vec::new(alloc);
+    let mut states = Vec::with_capacity(alloc, links.len())?;
     for place in 0..links.len() {
         states.push(links[place].start)?;
     }

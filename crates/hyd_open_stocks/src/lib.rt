@@ -1,5 +1,7 @@
 //! Stocks of a tank over lengths that are known to lie between two seconds: the carried levels, and the stocks with
 //! which the next period begins, both cut by a level that has just been reached.
+//!
+//! Tested by the runs and checks of `hyd_stored_runs`.
 #![tactic(auto)]
 
 mod ends_of_contents;

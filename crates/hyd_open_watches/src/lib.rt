@@ -1,6 +1,8 @@
 //! What may end a period whose start or end lies between two seconds, beside the rules: the next instant of the clock,
 //! the earliest and the latest second of what is watched, and the level that has just been reached where that ends the
 //! period.
+//!
+//! Tested by the runs and checks of `hyd_stored_runs`.
 #![tactic(auto)]
 
 mod arrivals;

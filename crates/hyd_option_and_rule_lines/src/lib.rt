@@ -24,7 +24,7 @@ pub use options::{OptionSet, read_option};
 pub use rules::{ActionLine, ClauseLine, Object, RuleLine, Value, read_rule_line};
 pub use times::{TimeSet, read_time_line};
 pub use word_values::{
-    check_id, either_keyword, ends, id, keyword, needed, not_negative, number, number_of,
-    number_within, or_empty, word_is,
+    check_id, either_keyword, ends, id, keyword, needed, needed_id, needed_number, needed_within,
+    no_word, not_negative, number, number_of, number_within, or_empty, word_is,
 };
 pub use words_of_times_and_clock_times::{read_clock, read_time};

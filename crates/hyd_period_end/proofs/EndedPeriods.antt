@@ -19,8 +19,8 @@ use Rattle.hyd_spec_certificates.specs.EndsOfPeriods.{by_clock as brings_by_cloc
 use Rattle.hyd_spec_certificates.specs.Stops.{open_states}
 use Rattle.hyd_tank.specs.StockIntervals.{volumes_of}
 use Rattle.hyd_period_facts.specs.declared.facts.Facts.{Facts}
-use Rattle.hyd_controls_and_rules.specs.PumpPatternsAndSimpleControls.{IsFirstOpen as IsFirstUnsure}
-use Rattle.hyd_controls_and_rules.specs.declared.pump_patterns_and_simple_controls.LevelOpen.{LevelOpen}
+use Rattle.hyd_period_facts.specs.PassedOn.{IsFirstOpen as IsFirstUnsure}
+use Rattle.hyd_period_facts.specs.PassedOn.{LevelOpen}
 use Rattle.hyd_period_facts.specs.TankStart.{IsFirstOpen}
 use Rattle.hyd_period_facts.specs.declared.states.TankOpen.{TankOpen}
 use Rattle.hyd_period_length.specs.Readings.{AreRead}

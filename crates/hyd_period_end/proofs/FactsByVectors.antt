@@ -27,7 +27,7 @@ use Rattle.hyd_period_network.specs.NetView.{NetView}
 use Rattle.hyd_period_network.specs.NetsSetToPeriods.{IsNetOf, ends_of}
 use Rattle.hyd_period_network.proofs.GridJunctionsAndLinks.{junctions_count, links_count}
 use Rattle.hyd_period_network.proofs.NetOfSoundProject.{long_zipped}
-use Rattle.hyd_bounds.specs.VectorsInOrder.{IsVector, AreInOrder}
+use Rattle.hyd_period_length.specs.PassedOn.{IsVector, AreInOrder}
 use Rattle.hyd_tank.specs.StockIntervals.{IsInflow}
 use Rattle.hyd_period_facts.specs.declared.facts.Facts.{Facts}
 use Rattle.hyd_period_facts.specs.CertificatesPinningTanks.{ArePinned}

@@ -8,7 +8,7 @@ use Rattle.hyd_spec_certificates.specs.RecordAndStanding.{Record, Standing}
 use Rattle.hyd_spec_certificates.specs.Decided.{EndsBy, RuleIsOpen, EventIsOpen}
 use Rattle.hyd_spec_certificates.specs.Valid.{LeavesLinks, levels_next}
 use Rattle.hyd_spec_certificates.specs.Stops.{open_states, is_open_control}
-use Rattle.hyd_controls_and_rules.specs.declared.pump_patterns_and_simple_controls.LevelOpen.{LevelOpen}
+use Rattle.hyd_period_facts.specs.PassedOn.{LevelOpen}
 use Rattle.hyd_period_facts.specs.TankStart.{IsFirstOpen}
 pub use Rattle.hyd_period_length.specs.TriedRules.{open_rule}
 use Rattle.hyd_period_end.specs.declared.undecided.Open.{Open}

@@ -11,7 +11,7 @@ ghost use Rattle.hyd_spec_certificates.specs.PeriodNetwork.{Grid};
 ghost use Rattle.hyd_spec_certificates.specs.RecordAndStanding.{Record, Standing};
 ghost use Rattle.hyd_spec_certificates.specs.Valid.{LeavesLinks, AreStates, ControlsAreDecided, levels_next};
 ghost use Rattle.hyd_spec_certificates.specs.Valid.{volumes_next};
-ghost use Rattle.hyd_controls_and_rules.specs.RuleReadings.{IsBounded};
+ghost use Rattle.hyd_period_facts.specs.PassedOn.{IsBounded};
 ghost use Rattle.hyd_tank.specs.StockIntervals.{volumes_of};
 ghost use Rattle.hyd_period_facts.specs.FactsBeforeEnd.{HaveTanks, AreStarted};
 ghost use Rattle.hyd_period_facts.specs.RoomForStocks.{HasRoom};

@@ -1,8 +1,7 @@
 //! What the end of a period may leave open.
 #![tactic(auto)]
 
-use hyd_controls_and_rules::LevelOpen;
-use hyd_period_facts::TankOpen;
+use hyd_period_facts::{LevelOpen, TankOpen};
 use hyd_period_length::RuleOpen;
 
 /// The first matter that the vectors of a period leave open: rules and the end of the period in order of time, then

@@ -11,9 +11,9 @@ use Rattle.hyd_spec_certificates.specs.RecordAndStanding.{Record, Standing}
 use Rattle.hyd_spec_certificates.specs.Stocks.{Stocks}
 use Rattle.hyd_spec_certificates.specs.FirstSeconds.{IsFirstSecond}
 use Rattle.hyd_spec_certificates.specs.Decided.{Watch, inflow_of_tank}
-use Rattle.hyd_theorems_on_nesting.specs.FirstAmongWatched.{ReachTest, IsFirstAmong}
-use Rattle.hyd_theorems_on_nesting.proofs.EndsByWatchedLevels.{one_watched, one_more}
-use Rattle.hyd_theorems_on_histories.proofs.WatchedLevels.{contains-here, contains-later, contains-cons}
+use Rattle.hyd_controls_and_rules.specs.PassedOn.{ReachTest, IsFirstAmong}
+use Rattle.hyd_controls_and_rules.proofs.PassedOn.{one_watched, one_more}
+use Rattle.hyd_controls_and_rules.proofs.PassedOn.{contains-here, contains-later, contains-cons}
 use Rattle.hyd_period_facts.specs.declared.facts.Facts.{Facts}
 use Rattle.hyd_period_facts.specs.FactsBeforeEnd.{stocks_in, inflow_in}
 use Rattle.hyd_period_facts.specs.Watched.{IsReachedFirst, IsReachedAmong}

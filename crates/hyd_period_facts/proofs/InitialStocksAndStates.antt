@@ -20,7 +20,7 @@ use Rattle.hyd_tank.specs.declared.stock_intervals.VolumeSpan.{VolumeSpan}
 use Rattle.hyd_lemmas.proofs.ListsOptionsAndResults.{item_is, item_there, same_from, somes_same}
 use Rattle.hyd_period_facts.specs.TankStart.{stocks_among, IsFirstOpen}
 use Rattle.hyd_period_facts.specs.declared.states.TankOpen.{TankOpen}
-use Rattle.hyd_theorems_on_histories.proofs.AgreementAtStart.{shared-same}
+use Rattle.hyd_controls_and_rules.proofs.PassedOn.{shared-same}
 use Rattle.hyd_period_facts.proofs.NextStocksByFacts.{at_first}
 use Rattle.hyd_period_facts.proofs.DecidedTankStates.{none_open}
 

@@ -14,9 +14,9 @@ use Rattle.hyd_spec_certificates.specs.RecordAndStanding.{Record, Standing}
 use Rattle.hyd_spec_certificates.specs.Stocks.{may_reach, must_reach}
 use Rattle.hyd_spec_certificates.specs.Decided.{Watch, watches, tank_watches, watch_of, IsClockLength, IsEarliestEnd}
 use Rattle.hyd_spec_certificates.specs.Decided.{IsLatestEnd}
-use Rattle.hyd_theorems_on_nesting.specs.FirstAmongWatched.{IsFirstAmong}
+use Rattle.hyd_controls_and_rules.specs.PassedOn.{IsFirstAmong}
 use Rattle.hyd_lemmas.proofs.ListsOptionsAndResults.{present_push}
-use Rattle.hyd_theorems_on_nesting.proofs.EndsByWatchedLevels.{none_watched, end_is}
+use Rattle.hyd_controls_and_rules.proofs.PassedOn.{none_watched, end_is}
 use Rattle.hyd_period_facts.specs.declared.facts.Facts.{Facts}
 use Rattle.hyd_period_facts.specs.declared.watch.Ends.{Ends}
 use Rattle.hyd_period_facts.specs.FactsBeforeEnd.{AreStarted}

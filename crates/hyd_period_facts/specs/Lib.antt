@@ -6,3 +6,4 @@ pub mod Carried
 pub mod Watched
 pub mod TankStart
 pub mod RoomForStocks
+pub mod PassedOn

@@ -10,7 +10,7 @@ use Rattle.hyd_spec_certificates.specs.RecordAndStanding.{Record, Standing}
 use Rattle.hyd_spec_certificates.specs.Stocks.{may_reach, must_reach}
 use Rattle.hyd_spec_certificates.specs.FirstSeconds.{IsFirstSecond}
 use Rattle.hyd_spec_certificates.specs.Decided.{Watch}
-use Rattle.hyd_theorems_on_nesting.specs.FirstAmongWatched.{ReachTest, watch_passes, IsFirstAmong}
+use Rattle.hyd_controls_and_rules.specs.PassedOn.{ReachTest, watch_passes, IsFirstAmong}
 use Rattle.hyd_period_facts.specs.declared.facts.Facts.{Facts}
 use Rattle.hyd_period_facts.specs.declared.watch.Watch.{Watch as Here}
 use Rattle.hyd_period_facts.specs.declared.watch.Ends.{Ends}

@@ -23,6 +23,8 @@ mod watch;
 pub use all_watched_levels::level_ends;
 pub use carried::put_carried;
 pub use facts::Facts;
+pub use hyd_bounds::flow_box;
+pub use hyd_controls_and_rules::LevelOpen;
 pub use inflows::put_inflows;
 pub use levels_and_level_controls::{add_level, control_holds, level_at};
 pub use states::{TankOpen, put_states};

@@ -16,7 +16,7 @@ use Rattle.hyd_period_network.specs.Demands.{IsNetJunction}
 use Rattle.hyd_period_network.specs.NetsSetToPeriods.{IsNetOf, ends_of}
 use Rattle.hyd_lemmas.proofs.ListsOptionsAndResults.{item_is, item_there}
 use Rattle.hyd_period_network.proofs.NetOfSoundProject.{long_zipped}
-use Rattle.hyd_bounds.specs.VectorsInOrder.{IsSpan}
+use Rattle.hyd_period_facts.specs.PassedOn.{IsSpan}
 use Rattle.hyd_period_facts.proofs.InflowsByNumber.{span_is}
 
 -- ---- counts of a net of a network

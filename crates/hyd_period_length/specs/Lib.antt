@@ -5,3 +5,4 @@ pub mod TriedRules
 pub mod Readings
 pub mod ReservedMemory
 pub mod FlowBoxes
+pub mod PassedOn

@@ -7,13 +7,13 @@ ghost use Rattle.hyd_spec_certificates.specs.declared.Problem.TheVariants.{Main}
 ghost use Rattle.hyd_spec_certificates.specs.declared.Side.TheVariants.{Upper, Lower};
 ghost use Rattle.hyd_spec_certificates.specs.PeriodNetwork.{all_heads};
 ghost use Rattle.hyd_period_network.specs.NetAsPeriodNetwork.{grid_of};
-ghost use Rattle.hyd_bounds.specs.VectorsInOrder.{IsVector, AreInOrder};
+ghost use Rattle.hyd_period_facts.specs.PassedOn.{IsVector, AreInOrder};
 ghost use Rattle.hyd_controls_and_rules.specs.RuleReadings.{IsBounded};
 ghost use Rattle.hyd_period_length.specs.FlowBoxes.{boxes_between};
 
-use hyd_bounds::flow_box;
 use hyd_net::List;
 use hyd_num::Span;
+use hyd_period_facts::flow_box;
 use hyd_period_network::Net;
 
 // Appends a flow, for which there is room.

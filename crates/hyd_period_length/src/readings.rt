@@ -29,7 +29,7 @@ impl Readings {
     ghost use Rattle.hyd_cert.specs.RecordView.{row_of};
     ghost use Rattle.hyd_period_network.specs.NetAsPeriodNetwork.{grid_of};
     ghost use Rattle.hyd_period_network.specs.NetsSetToPeriods.{IsNetOf};
-    ghost use Rattle.hyd_bounds.specs.VectorsInOrder.{IsVector, AreInOrder};
+    ghost use Rattle.hyd_period_facts.specs.PassedOn.{IsVector, AreInOrder};
     ghost use Rattle.hyd_controls_and_rules.specs.RuleReadings.{IsBounded};
     ghost use Rattle.hyd_period_length.specs.Readings.{AreRead};
     ghost use Rattle.hyd_period_length.specs.ReservedMemory.{HasRoom, AreNone};

@@ -15,6 +15,8 @@ pub mod SoundLawsOfGrid
 pub mod SumsOverLinkEnds
 pub mod LinkEndLemmas
 pub mod ListsItemByItem
+pub mod GivenDataLemmas
+pub mod GivenLinks
 pub mod LinksInStates
 pub mod ClosedLaws
 pub mod DemandLawsInGrid

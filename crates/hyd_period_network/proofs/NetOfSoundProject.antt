@@ -29,6 +29,7 @@ use Rattle.hyd_period_network.specs.LinkEnds.{HasEnds}
 use Rattle.hyd_period_network.specs.NetAsPeriodNetwork.{node_count, capacity_of}
 use Rattle.hyd_period_network.specs.SoundNets.{IsSoundJunction, AreHeads, HasLaws, HaveLaws, IsSoundNet}
 use Rattle.hyd_period_network.specs.NetsSetToPeriods.{ends_of, IsNetOf}
+use Rattle.hyd_period_network.specs.GivenData.{HasElevation, IsNetButEmitters}
 
 pub long_zipped : {X Y : Type 0} (P : X → Y → Type 0) (xs : List X) (ys : List Y) → AllZip P xs ys
     → length xs ≡ length ys
@@ -79,6 +80,13 @@ laws_of_own us bends kind setting own law are = record {
       (sym are.own_is.is_exact) are.law_is;
 }
 
+elevated : (junctions : List Junction) (here : List NetJunction) → AllZip IsNetJunction junctions here
+    → AllZip HasElevation junctions here
+elevated [] [] zip = tt
+elevated [] (y ∷ here) zip = absurd zip
+elevated (x ∷ junctions) [] zip = absurd zip
+elevated (x ∷ junctions) (y ∷ here) zip = (record { elevation = zip.0.elevation }, elevated junctions here zip.1)
+
 pub have_laws : (project : Project) (links : List Link) (settings : List Setting) (own laws : List LinkLaw)
     → length settings ≡ length links → AreLaws project links settings own laws
     → HaveLaws settings own laws
@@ -89,10 +97,25 @@ have_laws project links settings own laws e all k setting o l h =
     (slice_index_or settings k setting) (slice_index_or own k o) (slice_index_or laws k l)
     (all k link setting o l (omega arith)))
 
-pub sound_net : (project : Project) (net : NetView) → IsSound project → IsNetOf project net → All IsHead net.reservoirs
-    → All AreHeads net.tanks → IsSoundNet net
-sound_net project net sound of reservoirs tanks =
-    let j = long_zipped IsNetJunction project.junctions.list net.junctions of.junctions in
+-- a net of a network is one but for its emitters
+pub but_emitters : (project : Project) (net : NetView) → IsNetOf project net → IsNetButEmitters project net
+but_emitters project net of = record {
+  ends = of.ends;
+  junctions = elevated project.junctions.list net.junctions of.junctions;
+  each_demand = of.each_demand;
+  each_reservoir = of.each_reservoir;
+  each_tank = of.each_tank;
+  each_setting = of.each_setting;
+  each_own = of.each_own;
+  each_law = of.each_law;
+  demands = of.demands;
+  laws = of.laws;
+}
+
+pub sound_with : (project : Project) (net : NetView) → IsSound project → IsNetButEmitters project net
+    → All IsSoundJunction net.junctions → All IsHead net.reservoirs → All AreHeads net.tanks → IsSoundNet net
+sound_with project net sound of junctions reservoirs tanks =
+    let j = long_zipped HasElevation project.junctions.list net.junctions of.junctions in
     let l : length net.ends ≡ length project.links.list = rw of.ends (length-map project.links.list ends_of) in
     let cj = sound.counts.junctions in
     let cr = sound.counts.reservoirs in
@@ -107,10 +130,17 @@ sound_net project net sound of reservoirs tanks =
       few_links = omega (arith, l, cl);
       ends = rw of.ends (ends_hold (nodes_of project) (node_count net)
           (omega (arith, j, of.each_reservoir, of.each_tank)) project.links.list sound.links);
-      junctions = junctions_sound project.options.unit project.patterns.list project.junctions.list net.junctions
-          of.junctions sound.quantities.junctions sound.made.emitters;
+      junctions = junctions;
       demands = λ k d h. (let held = of.demands k d h in record { sound = held.sound; accepts = held.accepts });
       reservoirs = reservoirs;
       tanks = tanks;
       laws = have_laws project project.links.list net.settings net.own net.laws of.each_setting of.laws;
     }
+
+pub sound_net : (project : Project) (net : NetView) → IsSound project → IsNetOf project net → All IsHead net.reservoirs
+    → All AreHeads net.tanks → IsSoundNet net
+sound_net project net sound of reservoirs tanks =
+    sound_with project net sound (but_emitters project net of)
+    (junctions_sound project.options.unit project.patterns.list project.junctions.list net.junctions
+    of.junctions sound.quantities.junctions sound.made.emitters)
+    reservoirs tanks

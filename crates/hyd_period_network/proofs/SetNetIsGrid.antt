@@ -53,7 +53,7 @@ link_is project tanks l q s o w are e =
       law = restricted x.no_forward x.no_reverse (own_law (is_us project) project.bends.list l.kind x.state);
     }) e
 
-links_are : (project : Project) (tanks : List TankState) (links : List Link) (states : List LinkState)
+pub links_are : (project : Project) (tanks : List TankState) (links : List Link) (states : List LinkState)
     (settings : List Setting) (own laws : List LinkLaw)
     → AreLaws project links settings own laws → AreSet project tanks links states settings (length links)
     → length states ≡ length links → length settings ≡ length links → length own ≡ length links

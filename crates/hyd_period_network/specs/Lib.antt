@@ -6,3 +6,5 @@ pub mod LawsInSettings
 pub mod NetAsPeriodNetwork
 pub mod SoundNets
 pub mod NetsSetToPeriods
+pub mod GivenData
+pub mod PassedOn

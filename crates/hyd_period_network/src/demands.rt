@@ -62,8 +62,8 @@ fn demand_held(law: &OutLaw) -> i64
     }
 }
 
-// Makes a law that of a demand. Where it is, nothing is written.
-fn set_demand(project: &Project, demand: i64, law: &mut OutLaw)
+/// Makes a law that of a demand. Where it is, nothing is written.
+pub(crate) fn set_demand(project: &Project, demand: i64, law: &mut OutLaw)
     requires options { HasOptions project.now.options project.now.patterns.list }
     requires in_range { IsInRange demand }
     requires held { IsHeld project.now law.old }

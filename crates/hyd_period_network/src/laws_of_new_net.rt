@@ -67,7 +67,7 @@ pub(crate) fn closed_laws(alloc: Global, project: &Project) -> Result<Vec<LinkLa
     ensures closed { IfOk result (λ laws. AreClosed project.now project.now.links.list laws.items) }
 {
     let links = project.links.as_slice();
-    let mut laws = Vec::new(alloc);
+    let mut laws = Vec::with_capacity(alloc, links.len())?;
     for link in links {
         laws.push(closed_law(alloc, project, &link.kind)?)?;
     }

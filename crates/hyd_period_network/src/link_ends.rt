@@ -22,7 +22,7 @@ fn empty_rows(alloc: Global, junctions: usize) -> Result<Vec<SmallVec<Tie, 6>>, 
     ensures count { IfOk result (λ rows. length rows.items ≡ junctions) }
     ensures each { IfOk result (λ rows. AreRows [] rows.items) }
 {
-    let mut rows = Vec::new(alloc);
+    let mut rows = Vec::with_capacity(alloc, junctions)?;
     for _ in 0..junctions {
         rows.push(SmallVec::new(alloc))?;
     }

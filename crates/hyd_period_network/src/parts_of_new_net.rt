@@ -24,7 +24,7 @@ fn ends_of(link: &Link) -> Ends
 pub(crate) fn all_ends(alloc: Global, links: &[Link]) -> Result<Vec<Ends>, OutOfMemory>
     ensures { IfOk result (λ v. v.items ≡ map ends_of links.now) }
 {
-    let mut ends = Vec::new(alloc);
+    let mut ends = Vec::with_capacity(alloc, links.len())?;
     for link in links {
         ends.push(ends_of(link))?;
     }
@@ -51,7 +51,7 @@ pub(crate) fn net_junctions(
 ) -> Result<Vec<NetJunction>, OutOfMemory>
     ensures { IfOk result (λ v. AllZip IsNetJunction junctions.now v.items) }
 {
-    let mut made = Vec::new(alloc);
+    let mut made = Vec::with_capacity(alloc, junctions.len())?;
     for junction in junctions {
         made.push(net_junction(junction))?;
     }

@@ -4,3 +4,4 @@ pub mod CertificatesBeyondProposedHeads
 pub mod RoundsSpentAnywhere
 pub mod StartFromOtherSide
 pub mod SearchGoesOn
+pub mod PassedOn

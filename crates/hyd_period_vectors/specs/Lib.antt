@@ -1,3 +1,4 @@
 pub mod SizeOfSearch
 pub mod WayToProposedHeads
 pub mod SoughtVectors
+pub mod PassedOn

@@ -5,7 +5,7 @@ use Rattle.hyd_num.specs.declared.binary.Scaled.{Scaled}
 use Rattle.hyd_num.specs.declared.pairs.Pair.{Pair}
 use Rattle.hyd_num.specs.declared.decimals.Decimal.{Decimal}
 use Rattle.hyd_num.specs.FileQuantity.{billionths}
-use Rattle.hyd_net.proofs.EqualValues.{Pair-equal, PowerCapacity-equal}
+use Rattle.hyd_lemmas.proofs.PassedOn.{Pair-equal, PowerCapacity-equal}
 use Rattle.hyd_spec_power_laws.specs.declared.power_capacities.HazenWilliamsPipe.{HazenWilliamsPipe}
 use Rattle.hyd_spec_power_laws.specs.declared.power_capacities.PowerCapacity.{PowerCapacity}
 use Rattle.hyd_spec_power_laws.specs.PowerCapacities.{IsLessened, IsMinorWith, IsMade, StandsFor}

@@ -3,3 +3,4 @@ pub mod PeriodLemmas
 pub mod RunLemmas
 pub mod StepLemmas
 pub mod WholeRunLemmas
+pub mod PassedOn

@@ -1,2 +1,3 @@
 pub mod Pens
 pub mod Runs
+pub mod PassedOn

@@ -14,6 +14,10 @@ mod steps;
 mod whole_run;
 
 pub use first_lines_and_emptied_pens::{empty, empty_both, put_first};
+pub use hyd_report::{
+    put_done, put_partial, put_refused, put_refused_end, put_refused_flow, put_report,
+};
+pub use hyd_sim::Step;
 pub use low_pressures::{Low, LowPressures};
 pub use outcome::{RunEnd, is_finished};
 pub use period_and_last_lines::{put_last, put_last_line};

@@ -1324,7 +1324,7 @@ impl Display for Meaning<'_> {
 
 // What helps where it isn't decided when a period ends.
 const END_ADVICE: &str =
-    ": start from another level, or at another clock time; another level of a control does it too, by a millimetre. Where a pump stands before junctions without a demand, a small demand there (0.001) makes intervals narrower; --tight or a smaller --width may do so, and may not";
+    ": --slack 3600 goes on where an end is open by up to an hour; start from another level, or at another clock time; another level of a control does it too, by a millimetre. Where a pump stands before junctions without a demand, a small demand there (0.001) makes intervals narrower; --tight or a smaller --width may do so, and may not";
 
 /// What is said of a tank that lets no water out, or takes none.
 pub(crate) fn tank_at_bound(full: bool) -> &'static str {

@@ -9,8 +9,8 @@ use Rattle.hyd_spec_certificates.specs.StartsRaisesAndLeaps.{IsStart}
 use Rattle.hyd_theorems_on_definitions.specs.SoundLawsAndGrids.{IsSteady, TanksInOrder}
 use Rattle.hyd_theorems_on_raises.proofs.SearchStarts.{start-end}
 use Rattle.hyd_theorems_on_raises.proofs.RaisesAndTightVector.{start-tight}
-use Rattle.hyd_sweep.specs.LeapingRounds.{AreLeapingRounds, no_round, one_round}
-use Rattle.hyd_sweep.proofs.RaisesRoundsAndSweeps.{round-start}
+use Rattle.hyd_period_vectors.specs.PassedOn.{AreLeapingRounds, no_round, one_round}
+use Rattle.hyd_period_vectors.proofs.PassedOn.{round-start}
 use Rattle.hyd_period_vectors.specs.SoughtVectors.{IsAtHand, IsReached}
 use Rattle.hyd_period_vectors.proofs.StartFromOtherSide.{start-across}
 

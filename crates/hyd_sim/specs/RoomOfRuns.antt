@@ -20,5 +20,4 @@ pub record HasParts (project : Project) (rounds : ℕ) (parts : SimParts) : Type
   pub facts : HasRoom project parts.facts
   pub stocks : HasNextRoom project parts.stocks
   pub commanded : length parts.commanded.items ≡ length project.links.list
-  pub links : length parts.links.items ≡ length project.links.list
   pub close : HasCloseRoom project parts.close

@@ -36,7 +36,6 @@ pub record SimView : Type 0 where
   pub row : Record
   pub facts : Facts
   pub here : Here
-  pub links : List LinkState
   pub close : PeriodEnd
   pub stopped : Option StopCause
 
@@ -88,7 +87,6 @@ pub record IsSim (sim : SimView) : Type 0 where
   pub room : sim.room ≡ record { junctions = length sim.project.junctions.list; rounds = sim.settings.rounds }
   pub standing : IsStanding sim.project sim.here
   pub close : HasCloseRoom sim.project sim.close
-  pub links : length sim.links ≡ length sim.project.links.list
   pub stopped : IfSome sim.stopped (λ cause. (sim.here.finished ≡ false)
       × Stops sim.project (standing_of sim) sim.settings.rounds cause)
   pub stuck : IfSome sim.stopped (NamesStuck sim.project (standing_of sim) sim.settings.rounds)

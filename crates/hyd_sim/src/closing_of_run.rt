@@ -30,8 +30,6 @@ pub struct SimParts {
     pub stocks: TankStart,
     /// Room for the commanded states of links.
     pub commanded: Vec<LinkState>,
-    /// Room for the states of links in a period.
-    pub links: Vec<LinkState>,
     /// Room for the end of a period.
     pub close: PeriodEnd,
 }
@@ -39,7 +37,7 @@ pub struct SimParts {
 // What a run holds is dropped in two steps: a function that drops much is slow to prove.
 fn drop_vectors(_row: Record, _search: Search, _net: Net) {}
 
-fn drop_period(_links: Vec<LinkState>, _standing: Standing, _facts: Facts, _close: PeriodEnd) {}
+fn drop_period(_standing: Standing, _facts: Facts, _close: PeriodEnd) {}
 
 impl Sim {
     /// Closes the run and gives its network back. Dropping a run frees as much, but a function that does is proved
@@ -48,7 +46,7 @@ impl Sim {
         ensures project { result ≡ self.project }
     {
         drop_vectors(self.row, self.search, self.net);
-        drop_period(self.links, self.standing, self.facts, self.close);
+        drop_period(self.standing, self.facts, self.close);
         self.project
     }
 
@@ -65,7 +63,6 @@ impl Sim {
             facts: self.facts,
             stocks: self.standing.stocks,
             commanded: self.standing.commanded,
-            links: self.links,
             close: self.close,
         }
     }

@@ -204,7 +204,8 @@ fn does<F: Finder>(
 
 // Does the period that begins at a standing: sets the net and the links, finds vectors and ends the period by them.
 // Where these leave a matter open, the record isn't narrow, or rounds toward one were spent, it does so again with the
-// tight vectors. Fails with the cause that stops the run there.
+// tight vectors. Fails with the cause that stops the run there. The states of links at the start are made in the room of
+// those at the end.
 fn do_period<F: Finder>(
     project: &Project,
     settings: Settings,
@@ -213,7 +214,6 @@ fn do_period<F: Finder>(
     search: &mut Search,
     row: &mut Record,
     facts: &mut Facts,
-    links: &mut [LinkState],
     close: &mut PeriodEnd,
     finder: &mut F,
 ) -> Result<(), StopCause>
@@ -224,7 +224,6 @@ fn do_period<F: Finder>(
     requires search { search.old ≡ record { junctions = length project.now.junctions.list; rounds = settings.rounds } }
     requires header { header_of row.old ≡ header_for project.now }
     requires facts { HasRoom project.now facts.old }
-    requires links { length links.old ≡ length project.now.links.list }
     requires close { HasCloseRoom project.now close.old }
     ensures done { OnOk result (IsDone (F.told finder.old) project.now settings standing.now net.new row.new facts.new
         close.new) }
@@ -234,14 +233,13 @@ fn do_period<F: Finder>(
     ensures search { search.new ≡ search.old }
     ensures header { header_of row.new ≡ header_of row.old }
     ensures facts { HasRoom project.now facts.new }
-    ensures links { length links.new ≡ length links.old }
     ensures close { HasCloseRoom project.now close.new }
     ensures proposal { (w : Row) → settings.tight ≡ false
         → IsProposal (F.told finder.old) project.now settings (standing_for standing.now) w
         → IsOk result × HaveSame (tank_count project.now) (row_of row.new) w }
     ensures told { F.told finder.new ≡ F.told finder.old }
 {
-    start_period(project, standing, net, row, facts, links)?;
+    start_period(project, standing, net, row, facts, &mut close.commanded)?;
     if settings.tight {
         return tighten(
             project,
@@ -260,7 +258,7 @@ fn do_period<F: Finder>(
     )? {
         return Ok(());
     }
-    begin(project, standing, links, facts);
+    begin(project, standing, &mut close.commanded, facts);
     tighten(
         project,
         settings.rounds,
@@ -284,7 +282,6 @@ pub(crate) fn advance<F: Finder>(
     search: &mut Search,
     row: &mut Record,
     facts: &mut Facts,
-    links: &mut [LinkState],
     close: &mut PeriodEnd,
     finder: &mut F,
 ) -> Result<(), StopCause>
@@ -295,7 +292,6 @@ pub(crate) fn advance<F: Finder>(
     requires search { search.old ≡ record { junctions = length project.now.junctions.list; rounds = settings.rounds } }
     requires header { header_of row.old ≡ header_for project.now }
     requires facts { HasRoom project.now facts.old }
-    requires links { length links.old ≡ length project.now.links.list }
     requires close { HasCloseRoom project.now close.old }
     ensures advanced { OnOk result (IsAdvanced (F.told finder.old) project.now settings (standing_for standing.old)
         net.new row.new facts.new (standing_for standing.new)) }
@@ -307,7 +303,6 @@ pub(crate) fn advance<F: Finder>(
     ensures search { search.new ≡ search.old }
     ensures header { header_of row.new ≡ header_of row.old }
     ensures facts { HasRoom project.now facts.new }
-    ensures links { length links.new ≡ length links.old }
     ensures close { HasCloseRoom project.now close.new }
     ensures proposal { (w : Row) → settings.tight ≡ false
         → IsProposal (F.told finder.old) project.now settings (standing_for standing.old) w
@@ -315,7 +310,7 @@ pub(crate) fn advance<F: Finder>(
     ensures told { F.told finder.new ≡ F.told finder.old }
 {
     do_period(
-        project, settings, standing, net, search, row, facts, links, close, finder,
+        project, settings, standing, net, search, row, facts, close, finder,
     )?;
     standing.move_on(project, net, row, facts, close);
     Ok(())

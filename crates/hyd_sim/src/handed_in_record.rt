@@ -23,7 +23,7 @@ use crate::given_vectors::{check_vectors, take_vectors};
 use crate::sim::Sim;
 use crate::standing_between_periods::Standing;
 use hyd_cert::Record;
-use hyd_net::{LinkState, Project};
+use hyd_net::Project;
 use hyd_period_end::PeriodEnd;
 use hyd_period_facts::Facts;
 use hyd_period_network::Net;
@@ -113,14 +113,14 @@ fn end_by(
     Ok(())
 }
 
-// Checks a record that is due: starts its period, and ends it by the record's vectors.
+// Checks a record that is due: starts its period, and ends it by the record's vectors. The states of links at the start
+// are made in the room of those at the end.
 fn check_due(
     project: &Project,
     standing: &Standing,
     net: &mut Net,
     row: &mut Record,
     facts: &mut Facts,
-    links: &mut [LinkState],
     close: &mut PeriodEnd,
     given: &Record,
 ) -> Result<(), CertRefused>
@@ -129,7 +129,6 @@ fn check_due(
     requires of { IsNetOf project.now net.old }
     requires header { header_of row.old ≡ header_for project.now }
     requires facts { HasRoom project.now facts.old }
-    requires links { length links.old ≡ length project.now.links.list }
     requires close { HasCloseRoom project.now close.old }
     requires junctions { given.now.junctions ≡ length project.now.junctions.list }
     requires tanks { given.now.tanks ≡ tank_count project.now }
@@ -140,10 +139,9 @@ fn check_due(
     ensures of { IsNetOf project.now net.new }
     ensures header { header_of row.new ≡ header_of row.old }
     ensures facts { HasRoom project.now facts.new }
-    ensures links { length links.new ≡ length links.old }
     ensures close { HasCloseRoom project.now close.new }
 {
-    if start_period(project, standing, net, row, facts, links).is_err() {
+    if start_period(project, standing, net, row, facts, &mut close.commanded).is_err() {
         return Err(CertRefused::Demand {
             period: standing.number,
         });
@@ -159,7 +157,6 @@ fn take(
     net: &mut Net,
     row: &mut Record,
     facts: &mut Facts,
-    links: &mut [LinkState],
     close: &mut PeriodEnd,
     given: &Record,
 ) -> Result<(), CertRefused>
@@ -168,7 +165,6 @@ fn take(
     requires of { IsNetOf project.now net.old }
     requires header { header_of row.old ≡ header_for project.now }
     requires facts { HasRoom project.now facts.old }
-    requires links { length links.old ≡ length project.now.links.list }
     requires close { HasCloseRoom project.now close.old }
     requires junctions { given.now.junctions ≡ length project.now.junctions.list }
     requires tanks { given.now.tanks ≡ tank_count project.now }
@@ -183,11 +179,10 @@ fn take(
     ensures of { IsNetOf project.now net.new }
     ensures header { header_of row.new ≡ header_of row.old }
     ensures facts { HasRoom project.now facts.new }
-    ensures links { length links.new ≡ length links.old }
     ensures close { HasCloseRoom project.now close.new }
 {
     check_place(project, standing, given)?;
-    check_due(project, standing, net, row, facts, links, close, given)?;
+    check_due(project, standing, net, row, facts, close, given)?;
     standing.move_on(project, net, row, facts, close);
     Ok(())
 }
@@ -217,7 +212,6 @@ impl Sim {
             &mut self.net,
             &mut self.row,
             &mut self.facts,
-            &mut self.links,
             &mut self.close,
             row,
         )

@@ -29,7 +29,7 @@ fn starts(alloc: Global, project: &Project) -> Result<Vec<LinkState>, OutOfMemor
     ensures { IfOk result (λ v. v.items ≡ map (λ link. link.start) project.now.links.list) }
 {
     let links = project.links.as_slice();
-    let mut states = Vec::new(alloc);
+    let mut states = Vec::with_capacity(alloc, links.len())?;
     for place in 0..links.len() {
         states.push(links[place].start)?;
     }
@@ -108,7 +108,6 @@ struct VectorParts {
 // What a run knows of a period besides, and of its end.
 #[derive(Drop)]
 struct PeriodParts {
-    links: Vec<LinkState>,
     standing: Standing,
     facts: Facts,
     close: PeriodEnd,
@@ -146,11 +145,9 @@ fn open_period_parts(alloc: Global, project: &Project) -> Result<PeriodParts, Ou
     ensures facts { IfOk result (λ parts. HasRoom project.now parts.facts) }
     ensures initial { IfOk result (λ parts. standing_for parts.standing ≡ initial_standing project.now) }
     ensures standing { IfOk result (λ parts. IsStanding project.now parts.standing) }
-    ensures links { IfOk result (λ parts. length parts.links.items ≡ length project.now.links.list) }
     ensures close { IfOk result (λ parts. HasCloseRoom project.now parts.close) }
 {
     Ok(PeriodParts {
-        links: starts(alloc, project)?,
         standing: first_standing(alloc, project)?,
         facts: Facts::open(alloc, project)?,
         close: PeriodEnd::open(alloc, project)?,
@@ -167,7 +164,6 @@ fn open_parts(alloc: Global, project: &Project, rounds: u32) -> Result<Parts, Ou
     ensures facts { IfOk result (λ parts. HasRoom project.now parts.period.facts) }
     ensures initial { IfOk result (λ parts. standing_for parts.period.standing ≡ initial_standing project.now) }
     ensures standing { IfOk result (λ parts. IsStanding project.now parts.period.standing) }
-    ensures links { IfOk result (λ parts. length parts.period.links.items ≡ length project.now.links.list) }
     ensures close { IfOk result (λ parts. HasCloseRoom project.now parts.period.close) }
 {
     Ok(Parts {
@@ -194,7 +190,6 @@ impl Sim {
             row: parts.vectors.row,
             facts: parts.period.facts,
             standing: parts.period.standing,
-            links: parts.period.links,
             close: parts.period.close,
             stopped: None,
         })

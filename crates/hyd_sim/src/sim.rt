@@ -3,7 +3,7 @@
 use crate::settings::Settings;
 use crate::standing_between_periods::Standing;
 use hyd_cert::Record;
-use hyd_net::{LinkState, Project};
+use hyd_net::Project;
 use hyd_period_end::PeriodEnd;
 use hyd_period_facts::Facts;
 use hyd_period_network::Net;
@@ -21,8 +21,6 @@ pub struct Sim {
     pub(crate) row: Record,
     pub(crate) facts: Facts,
     pub(crate) standing: Standing,
-    /// The states of links in the period that is being done.
-    pub(crate) links: Vec<LinkState>,
     /// What the end of the last period left, and room for the ends of others.
     pub(crate) close: PeriodEnd,
     /// Why the run stopped.
@@ -47,7 +45,6 @@ impl Model for Sim {
       row = s.row;
       facts = s.facts;
       here = s.standing;
-      links = s.links.items;
       close = s.close;
       stopped = s.stopped;
     } };
@@ -60,7 +57,6 @@ impl Model for Sim {
       row = s.row;
       facts = s.facts;
       here = s.standing;
-      links = s.links.items;
       close = s.close;
       stopped = s.stopped;
     }) };

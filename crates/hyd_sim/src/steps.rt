@@ -55,7 +55,6 @@ impl Sim {
             &mut self.search,
             &mut self.row,
             &mut self.facts,
-            &mut self.links,
             &mut self.close,
             finder,
         )

@@ -6,7 +6,7 @@ use Rattle.std.specs.Prelude.{ℕ, ◌*◌, ◌^◌, ℤ, pos, negsuc, neg_ℤ, 
 use Rattle.std.specs.Prelude.{Bool, List}
 use Rattle.hyd_num.specs.Fraction.{Fraction, fraction, over, power}
 use Rattle.hyd_num.specs.FileQuantity.{is_us_unit, billionths, head_ticks, flow_fraction, pressure_fraction}
-use Rattle.hyd_spec_power_laws.specs.HazenWilliamsLosses.{HazenWilliamsAtMost, HazenWilliamsAtLeast}
+use Rattle.hyd_net.specs.PowerLawsOfPipes.{HazenWilliamsAtMost, HazenWilliamsAtLeast}
 use Rattle.hyd_spec.specs.ProgramTypes.{Decimal, FlowUnit, Origin, Pipe, Valve, Pump, Emitter, PressureDemand, Capacity}
 use Rattle.hyd_spec.specs.ProgramTypes.{HazenWilliamsPipe, PowerCapacity}
 use Rattle.hyd_num.specs.Rational.{Rational}

@@ -16,3 +16,4 @@ pub mod PeriodLength
 pub mod History
 pub mod CapacityEnclosure
 pub mod WholeNumbers
+pub mod PassedOn

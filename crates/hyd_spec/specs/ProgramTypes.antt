@@ -16,8 +16,8 @@ pub use Rattle.hyd_net.specs.declared.nodes.Tank.{Tank}
 pub use Rattle.hyd_net.specs.declared.curves.VolumePoint.{VolumePoint}
 pub use Rattle.hyd_net.specs.declared.curves.HeadPoint.{HeadPoint}
 pub use Rattle.hyd_net.specs.declared.links.Link.{Link}
-pub use Rattle.hyd_spec_power_laws.specs.declared.power_capacities.HazenWilliamsPipe.{HazenWilliamsPipe}
-pub use Rattle.hyd_spec_power_laws.specs.declared.power_capacities.PowerCapacity.{PowerCapacity}
+pub use Rattle.hyd_net.specs.PowerLawsOfPipes.{HazenWilliamsPipe}
+pub use Rattle.hyd_net.specs.PowerLawsOfPipes.{PowerCapacity}
 pub use Rattle.hyd_net.specs.declared.links.PipeLoss.{PipeLoss}
 pub use Rattle.hyd_net.specs.declared.links.PipeLoss.TheVariants.{Manning, HazenWilliams}
 pub use Rattle.hyd_net.specs.declared.links.LinkKind.{LinkKind}

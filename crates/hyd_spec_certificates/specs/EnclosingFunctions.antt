@@ -7,10 +7,10 @@ use Rattle.std.specs.Prelude.{◌+◌, if◌then◌else◌, Option}
 use Rattle.std.specs.Int.{int_max, int_min}
 use Rattle.std.specs.Option.{option_map_or}
 use Rattle.hyd_num.specs.BinaryNumbers.{numerator, denominator}
-use Rattle.hyd_spec_power_laws.specs.EnclosingFlows.{power_low, power_high}
+use Rattle.hyd_spec.specs.PassedOn.{power_low, power_high}
 use Rattle.hyd_spec.specs.ProgramTypes.{Capacity}
 use Rattle.hyd_num.specs.Rational.{Rational, floor, ceiling}
-use Rattle.hyd_net.specs.Curves.{value_at}
+use Rattle.hyd_spec.specs.PassedOn.{value_at}
 use Rattle.hyd_spec.specs.Law.{Law, Shut, QuadraticLaw, LinearLaw, Lifted, ForwardOnly, ReverseOnly, Capped, Bent, Held}
 use Rattle.hyd_spec.specs.Law.{PowerLaw}
 

@@ -2,8 +2,8 @@
 -- Source: this program's; the words are those that EPANET prints (2.2 User Manual, chapter on viewing results).
 use Rattle.std.specs.Prelude.{ℕ, ℤ, pos, ◌+ℤ◌, Bool, List, if◌then◌else◌, int_le, int_lt, ⊤, ◌<ℤ◌, ◌≤ℤ◌, ◌*ℤ◌}
 use Rattle.hyd_num.specs.Rational.{Rational, floor, ceiling}
-use Rattle.hyd_net.specs.ListView.{ListView}
-use Rattle.hyd_net.specs.Curves.{Knot, value_at}
+use Rattle.hyd_spec.specs.PassedOn.{ListView}
+use Rattle.hyd_spec.specs.PassedOn.{Knot, value_at}
 use Rattle.hyd_spec.specs.ProgramTypes.{LinkKind, PipeLink, CheckPipe, PumpLink, CurvePump, Tcv, Fcv, Gpv, HeadPoint}
 use Rattle.hyd_spec.specs.ProgramTypes.{LinkState, Open, Closed, Speed, Throttle, Limit, OpenValve}
 use Rattle.hyd_spec_certificates.specs.declared.StatusWord.{StatusWord}

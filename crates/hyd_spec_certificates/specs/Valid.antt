@@ -2,7 +2,7 @@
 -- Source: this program's.
 use Rattle.std.specs.Prelude.{◌≡◌, ◌≢◌, ℕ, suc, ◌+◌, ◌<◌, ◌≤◌, ℤ, Bool, true, false, IsFalse, List, [], ◌∷◌, Some}
 use Rattle.std.specs.Prelude.{map, length, slice_index_or, unsigned_abs, All, Contains, ⊤}
-use Rattle.hyd_net.specs.NumberRanges.{flow_limit}
+use Rattle.hyd_spec.specs.PassedOn.{flow_limit}
 use Rattle.hyd_spec.specs.ProgramTypes.{Project, Tank, LinkState, Control, AtLevel}
 use Rattle.hyd_spec.specs.declared.TankState.{TankState}
 use Rattle.hyd_spec_certificates.specs.declared.Problem.{Problem}

@@ -1,4 +1,4 @@
--- What a run with a slack and a check of its certificate are to promise.
+-- What a run with a slack and a check of its certificate promise, as theorems on definitions use it.
 -- Source: this program's.
 use Rattle.std.specs.Prelude.{◌≡◌, ℕ, ◌<◌, List, Option, Some, None, true, false, length, map, is_none}
 use Rattle.hyd_spec.specs.ProgramTypes.{Project}

@@ -16,7 +16,7 @@ use Rattle.hyd_command_answers.specs.declared.status.Status.TheVariants.{Done, O
 use Rattle.hyd_command_answers.specs.declared.status.Status.TheVariants.{InputRefused, Undecided, RoundsSpent, Demand}
 use Rattle.hyd_command_answers.specs.declared.status.Status.TheVariants.{CertificateRefused, Stalled}
 use Rattle.hyd_command_answers.specs.DeskContents.{Seen}
-use Rattle.hyd_open_command.specs.OpenAnswers.{Asked, DeliveredOpenly, AnswersTextOpenly}
+use Rattle.hyd_cli.specs.PassedOn.{Asked, DeliveredOpenly, AnswersTextOpenly}
 use Rattle.hyd_check_command.specs.OpenCertificateOfRun.{IsCertificateOfOpenRun}
 use Rattle.hyd_check_command.specs.OpenCheckAnswers.{AnswersOpenCheck}
 use Rattle.hyd_theorems_on_answers.specs.StatusesThatWrote.{HasWritten}

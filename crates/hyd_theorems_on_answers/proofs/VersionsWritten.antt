@@ -18,7 +18,7 @@ use Rattle.hyd_command_answers.specs.declared.status.Status.TheVariants.{InputRe
 use Rattle.hyd_command_answers.specs.declared.status.Status.TheVariants.{CertificateRefused, Stalled}
 use Rattle.hyd_command_answers.specs.DeskContents.{Seen}
 use Rattle.hyd_naming_command.specs.NamingAnswers.{AnswersTextNaming}
-use Rattle.hyd_open_command.specs.OpenAnswers.{Asked, DeliveredOpenly, AnswersTextOpenly}
+use Rattle.hyd_cli.specs.PassedOn.{Asked, DeliveredOpenly, AnswersTextOpenly}
 use Rattle.hyd_cli.specs.RunAnswers.{Delivered, AnswersText}
 use Rattle.hyd_theorems_on_answers.specs.StatusesThatWrote.{HasWritten}
 

@@ -10,7 +10,7 @@ ghost use Rattle.hyd_command_answers.specs.declared.status.Status.{Status};
 ghost use Rattle.hyd_command_answers.specs.declared.status.Status.TheVariants.{Done, CertificateRefused};
 ghost use Rattle.hyd_command_answers.specs.DeskContents.{Seen};
 ghost use Rattle.hyd_naming_command.specs.NamingAnswers.{AnswersTextNaming};
-ghost use Rattle.hyd_open_command.specs.OpenAnswers.{Asked, AnswersTextOpenly};
+ghost use Rattle.hyd_cli.specs.PassedOn.{Asked, AnswersTextOpenly};
 ghost use Rattle.hyd_cli.specs.RunAnswers.{AnswersText};
 ghost use Rattle.hyd_check_command.specs.CheckAnswers.{AnswersCheck};
 ghost use Rattle.hyd_check_command.specs.OpenCheckAnswers.{AnswersOpenCheck};

@@ -39,3 +39,4 @@ pub mod TargetsOfVolumeCurves
 pub mod HeadLists
 pub mod TwoSides
 pub mod OneGrid
+pub mod PassedOn

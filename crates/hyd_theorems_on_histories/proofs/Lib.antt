@@ -9,3 +9,4 @@ pub mod AgreementAtStart
 pub mod CommandedLinkStates
 pub mod AgreementAfterPeriod
 pub mod PrintedValues
+pub mod PassedOn

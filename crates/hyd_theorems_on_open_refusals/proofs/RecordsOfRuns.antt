@@ -83,7 +83,7 @@ module _ (project : Project) where
   IsValid here = IsValidOpenly project here.standing here.grid here.found here.next
 
   -- what is found of a record at a standing is one
-  one-found : (a b : OpenFound) → a.standing ≡ b.standing → a.found ≡ b.found → IsValid a → IsValid b → a ≡ b
+  pub one-found : (a b : OpenFound) → a.standing ≡ b.standing → a.found ≡ b.found → IsValid a → IsValid b → a ≡ b
   one-found a b standing found x y =
       let at : IsValidOpenly project a.standing b.grid b.found b.next =
       subst (λ (s : OpenStanding). IsValidOpenly project s b.grid b.found b.next) (sym standing) y in

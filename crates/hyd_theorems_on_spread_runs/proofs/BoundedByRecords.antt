@@ -19,6 +19,7 @@ use Rattle.hyd_spec_certificates.specs.declared.Side.TheVariants.{Upper, Lower}
 use Rattle.hyd_spec_certificates.specs.Interval.{Interval}
 use Rattle.hyd_spec_certificates.specs.PeriodNetwork.{GridLink, grid_links, all_heads}
 use Rattle.hyd_spec_certificates.specs.RecordAndStanding.{Record, Standing, vector_of}
+use Rattle.hyd_spec_certificates.specs.Valid.{ControlsAreDecided}
 use Rattle.hyd_spec_certificates.specs.Decided.{links_at, acts_on, heads_below, heads_above, inflow_of_tank}
 use Rattle.hyd_spec_spread.specs.Spreads.{Spread}
 use Rattle.hyd_spec_spread.specs.IntervalsOfData.{known_junction}
@@ -26,7 +27,7 @@ use Rattle.hyd_spec_spread.specs.NetworksWithin.{NodeData, with_data, IsJunction
 use Rattle.hyd_spec_spread.specs.OutermostGrids.{IsOutermostGrid}
 use Rattle.hyd_spec_spread.specs.HistoriesWithin.{IsPeriodWithin}
 use Rattle.hyd_spec_spread_runs.specs.OutermostPairs.{Pair, grid_on, spanned, spanning}
-use Rattle.hyd_spec_spread_runs.specs.RunsForSpreads.{IsValidOver}
+use Rattle.hyd_spec_spread_runs.specs.RunsForSpreads.{IsValidOver, ArePairAt, AreCertificatesOver}
 use Rattle.hyd_theorems_on_definitions.specs.LyingInIntervals.{LiesIn, LevelsLie, LieBetween}
 use Rattle.hyd_theorems_on_definitions.proofs.SoundTankLemmas.{vessels}
 use Rattle.hyd_theorems_on_histories.specs.Agreement.{VolumesLie, AgreesWith, IsOwnState, IsKept}
@@ -57,9 +58,28 @@ elevations-of project spread nodes time from (j ∷ js) (k ∷ ks) all (suc node
 
 -- ---- a period
 
+-- The vectors of a record are certificates on the outermost grids of the period that begins at a standing, where level
+-- controls are decided and each link was commanded to be in a state of its own.
+pub record IsCertifiedAt (project : Project) (spread : Spread) (standing : Standing) (pair : Pair) (row : Record) :
+    Type 0 where
+  pub are_pair : ArePairAt project spread standing pair
+  pub certificates : AreCertificatesOver project pair row
+  pub controls : ControlsAreDecided project standing.levels
+  pub states : AllZip (IsOwnState project) project.links.list standing.commanded
+
+-- Those of a valid record are.
+pub certified : (project : Project) (spread : Spread) (standing : Standing) (pair : Pair) (row : Record)
+    (next : Standing) → IsKept project standing → IsValidOver project spread standing pair row next
+    → IsCertifiedAt project spread standing pair row
+certified project spread standing pair row next kept valid = record {
+  are_pair = valid.are_pair;
+  certificates = valid.certificates;
+  controls = kept.controls;
+  states = kept.states;
+}
+
 module _ (project : Project) (sound : IsSound project) (spread : Spread) (S : ℕ) (some : 0 < S) (pair : Pair)
-    (standing : Standing) (row : Record) (next : Standing) (kept : IsKept project standing)
-    (valid : IsValidOver project spread standing pair row next)
+    (standing : Standing) (row : Record) (valid : IsCertifiedAt project spread standing pair row)
     (time : ℕ) (levels volumes : List ℤ) (commanded : List LinkState)
     (agrees : AgreesWith project S standing time levels volumes commanded)
     (period : Period) (begins : Begins project S time levels volumes commanded period) (nodes : NodeData)
@@ -68,7 +88,7 @@ module _ (project : Project) (sound : IsSound project) (spread : Spread) (S : �
   network = with_data project nodes
 
   pub its_links : period.links ≡ links_at project standing
-  its_links = begins.links ∙ same_links project S time standing levels volumes commanded some agrees kept.controls
+  its_links = begins.links ∙ same_links project S time standing levels volumes commanded some agrees valid.controls
 
   pub its_time : period.time ≡ standing.time
   its_time = begins.at_time ∙ agrees.time_is
@@ -87,7 +107,7 @@ module _ (project : Project) (sound : IsSound project) (spread : Spread) (S : �
       (grid_on side pair)) (sym its_time) (valid.are_pair side)))
 
   its-own : AllZip (IsOwnState project) project.links.list (links_at project standing)
-  its-own = started_own project sound standing.time (acts_on standing.levels) standing.commanded kept.states
+  its-own = started_own project sound standing.time (acts_on standing.levels) standing.commanded valid.states
 
   pub its_assignment : IsAssignmentWithin project spread S period.time standing.levels period.levels period.tanks
       period.links nodes period.assignment
@@ -176,6 +196,6 @@ module _ (project : Project) (sound : IsSound project) (spread : Spread) (S : �
     tanks = its_tanks;
     tank_each = is.is_period.obeys.tank_each;
     links = its_links;
-    controls = kept.controls;
+    controls = valid.controls;
     vessels = vessels project sound;
   }

@@ -31,7 +31,7 @@ use Rattle.hyd_theorems_on_spread_runs.proofs.BoundedReadings.{level_lies, stock
 
 -- ---- watched tanks
 
-data IsTankWatch (from : ℕ) (tanks : List Tank) (states : List TankState) : Watch → Type 0 where
+pub data IsTankWatch (from : ℕ) (tanks : List Tank) (states : List TankState) : Watch → Type 0 where
   maximum : (k : ℕ) (tank : Tank) (state : TankState) → slice_get tanks k ≡ Some tank → slice_get states k ≡ Some state
       → is_full state ≡ false
       → IsTankWatch from tanks states (record { tank = from + k; target = tank.maximum; rising = true })
@@ -65,7 +65,7 @@ contains-unless : (b : Bool) (w : Watch) → b ≡ false → Contains (if b then
 contains-unless true w e = absurd (cc)
 contains-unless false w e = contains-here Watch w []
 
-tank-watched : (from : ℕ) (tanks : List Tank) (states : List TankState) (w : Watch)
+pub tank-watched : (from : ℕ) (tanks : List Tank) (states : List TankState) (w : Watch)
     → Contains (tank_watches from tanks states) w → IsTankWatch from tanks states w
 tank-watched from [] states w c = absurd (contains-none Watch w c)
 tank-watched from (tank ∷ tanks) [] w c = absurd (contains-none Watch w c)
@@ -92,7 +92,7 @@ tank-watched from (tank ∷ tanks) (state ∷ states) w c =
       ]
     ]
 
-watches-maximum : (from : ℕ) (tanks : List Tank) (states : List TankState) (k : ℕ) (tank : Tank) (state : TankState)
+pub watches-maximum : (from : ℕ) (tanks : List Tank) (states : List TankState) (k : ℕ) (tank : Tank) (state : TankState)
     → slice_get tanks k ≡ Some tank → slice_get states k ≡ Some state → is_full state ≡ false
     → Contains (tank_watches from tanks states) (record { tank = from + k; target = tank.maximum; rising = true })
 watches-maximum from [] states k tank state at is not = absurd (cc)
@@ -118,7 +118,7 @@ watches-maximum from (own ∷ tanks) (s ∷ states) (suc k) tank state at is not
     } ∷ []) _
     (watches-maximum (suc from) tanks states k tank state at is not)))
 
-watches-minimum : (from : ℕ) (tanks : List Tank) (states : List TankState) (k : ℕ) (tank : Tank) (state : TankState)
+pub watches-minimum : (from : ℕ) (tanks : List Tank) (states : List TankState) (k : ℕ) (tank : Tank) (state : TankState)
     → slice_get tanks k ≡ Some tank → slice_get states k ≡ Some state → is_empty state ≡ false
     → Contains (tank_watches from tanks states) (record { tank = from + k; target = tank.minimum; rising = false })
 watches-minimum from [] states k tank state at is not = absurd (cc)
@@ -149,7 +149,7 @@ watches-minimum from (own ∷ tanks) (s ∷ states) (suc k) tank state at is not
 
 -- ---- watched controls
 
-data IsControlWatch (levels : List Interval) (controls : List Control) : Watch → Type 0 where
+pub data IsControlWatch (levels : List Interval) (controls : List Control) : Watch → Type 0 where
   level : (each : Control) (k : ℕ) (above : Bool) (ticks : ℤ) → Contains controls each
       → each.when ≡ AtLevel k above ticks → acts_on levels k above ticks ≡ false
       → IsControlWatch levels controls (record { tank = k; target = ticks; rising = above })
@@ -184,7 +184,7 @@ present-cons (Some v) rest w c = elim (contains-cons Watch w v (present rest) c)
   | inr d ↦ inr d
 ]
 
-control-watched : (levels : List Interval) (controls : List Control) (w : Watch)
+pub control-watched : (levels : List Interval) (controls : List Control) (w : Watch)
     → Contains (present (map (watch_of levels) controls)) w → IsControlWatch levels controls w
 control-watched levels [] w c = absurd (contains-none Watch w c)
 control-watched levels (each ∷ controls) w c =
@@ -209,7 +209,7 @@ watch-is : (levels : List Interval) (each : Control) (k : ℕ) (above : Bool) (t
     → watch_of levels each ≡ Some (record { tank = k; target = ticks; rising = above })
 watch-is levels each k above ticks is not = rw (is, not) refl
 
-watches-control : (levels : List Interval) (controls : List Control) (each : Control) (k : ℕ) (above : Bool) (ticks : ℤ)
+pub watches-control : (levels : List Interval) (controls : List Control) (each : Control) (k : ℕ) (above : Bool) (ticks : ℤ)
     → Contains controls each → each.when ≡ AtLevel k above ticks → acts_on levels k above ticks ≡ false
     → Contains (present (map (watch_of levels) controls)) (record { tank = k; target = ticks; rising = above })
 watches-control levels [] each k above ticks contained is not = absurd (contains-none Control each contained)
@@ -223,12 +223,12 @@ watches-control levels (c ∷ controls) each k above ticks contained is not =
 
 -- ---- states and truths
 
-not-full : (state : TankState) → ◌≢◌ {A = Option TankState} (Some state) (Some Full) → is_full state ≡ false
+pub not-full : (state : TankState) → ◌≢◌ {A = Option TankState} (Some state) (Some Full) → is_full state ≡ false
 not-full Full other = absurd (other refl)
 not-full Between other = refl
 not-full Empty other = refl
 
-not-empty : (state : TankState) → ◌≢◌ {A = Option TankState} (Some state) (Some Empty) → is_empty state ≡ false
+pub not-empty : (state : TankState) → ◌≢◌ {A = Option TankState} (Some state) (Some Empty) → is_empty state ≡ false
 not-empty Full other = refl
 not-empty Between other = refl
 not-empty Empty other = absurd (other refl)
@@ -237,7 +237,7 @@ not-empty Empty other = absurd (other refl)
 
 module _ (project : Project) (nodes : NodeData) (S : ℕ) (period : Period) (grid : Grid) (standing : Standing)
     (row : Record) (bounded : IsBounded project nodes S period grid standing row) where
-  state-there : (k : ℕ) (tank : Tank) → slice_get project.tanks.list k ≡ Some tank
+  pub state-there : (k : ℕ) (tank : Tank) → slice_get project.tanks.list k ≡ Some tank
       → (state : TankState) × (slice_get period.tanks k ≡ Some state) × (slice_get standing.tanks k ≡ Some state)
   state-there k tank at =
       let inside : k < length period.tanks = (let a = slice_get_within project.tanks.list k tank at in
@@ -249,7 +249,7 @@ module _ (project : Project) (nodes : NodeData) (S : ℕ) (period : Period) (gri
             ∙ found,
       )
 
-  from-zero : (k : ℕ) (t : ℤ) (rising : Bool) → ◌≡◌ {A = Watch} (record { tank = 0 + k; target = t; rising = rising })
+  pub from-zero : (k : ℕ) (t : ℤ) (rising : Bool) → ◌≡◌ {A = Watch} (record { tank = 0 + k; target = t; rising = rising })
       (record { tank = k; target = t; rising = rising })
   from-zero k t rising = at-number (0 + k) k t rising (omega arith)
 
@@ -319,7 +319,7 @@ module _ (project : Project) (nodes : NodeData) (S : ℕ) (period : Period) (gri
       bounded.some (bounded.vessels k tank at) (stock_lies project nodes S period grid standing row bounded k)
       (bounded.inflows k tank at) reached
 
-  own-states : (k : ℕ) (state : TankState) → slice_get standing.tanks k ≡ Some state
+  pub own-states : (k : ℕ) (state : TankState) → slice_get standing.tanks k ≡ Some state
       → slice_get period.tanks k ≡ Some state
   own-states k state is = ap (λ (ts : List TankState). slice_get ts k) bounded.tanks ∙ is
 

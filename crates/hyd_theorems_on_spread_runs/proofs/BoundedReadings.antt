@@ -71,7 +71,7 @@ around-between S level x around = record {
   high = let h = around.high in omega (arith, ints, h, one_times x.num, times_times x.den S level.hi);
 }
 
-levels-between : (S : ℕ) (f : ℕ → Tank → Interval) (g : ℕ → Tank → Rational) (from : ℕ) (tanks : List Tank)
+pub levels-between : (S : ℕ) (f : ℕ → Tank → Interval) (g : ℕ → Tank → Rational) (from : ℕ) (tanks : List Tank)
     → ((k : ℕ) (tank : Tank) → slice_get tanks k ≡ Some tank → LiesAround S (f (from + k) tank) (g (from + k) tank))
     → (k : ℕ) → IsValueBetween S (slice_index_or (map (λ (level : Interval). whole level.lo) (map_from f from tanks)) k
     (whole (pos 0)))
@@ -127,7 +127,7 @@ module _ (project : Project) (nodes : NodeData) (S : ℕ) (period : Period) (gri
     links = period.links;
   }
 
-  readings-are : (seconds : ℕ) → readings_after network S period seconds ≡ its_readings seconds
+  pub readings-are : (seconds : ℕ) → readings_after network S period seconds ≡ its_readings seconds
   readings-are seconds = λ i. record {
     heads = node_heads network S period.time period.levels period.assignment.heads;
     levels = map_from (λ k (tank : Tank). carried_level S (walls_of project tank) tank (stock_at_start period k)
@@ -137,7 +137,7 @@ module _ (project : Project) (nodes : NodeData) (S : ℕ) (period : Period) (gri
     links = period.links;
   }
 
-  readings_between : (seconds : ℕ) → AreBetween project S (readings_below project grid standing row seconds)
+  pub readings_between : (seconds : ℕ) → AreBetween project S (readings_below project grid standing row seconds)
       (its_readings seconds) (readings_above project grid standing row seconds)
   readings_between seconds = record {
     heads = λ m before. bounded.heads m;

@@ -31,7 +31,8 @@ use Rattle.hyd_theorems_on_spread.proofs.HeadsWithin.{heads-below, heads-above}
 use Rattle.hyd_theorems_on_spread_runs.specs.BoundedPeriods.{IsBounded}
 use Rattle.hyd_theorems_on_spread_runs.proofs.BoundedReadings.{stock_lies}
 use Rattle.hyd_theorems_on_spread_runs.proofs.BoundedLengths.{length_and_links}
-use Rattle.hyd_theorems_on_spread_runs.proofs.BoundedByRecords.{is_bounded, its_assignment, its_pair}
+use Rattle.hyd_theorems_on_spread_runs.proofs.BoundedByRecords.{IsCertifiedAt, certified, is_bounded}
+use Rattle.hyd_theorems_on_spread_runs.proofs.BoundedByRecords.{its_assignment, its_pair}
 use Rattle.hyd_theorems_on_spread_runs.proofs.OutflowsWithin.{outflow_lies}
 use Rattle.hyd_theorems_on_spread_runs.proofs.StartsWithin.{agrees_at_start, kept_at_start}
 
@@ -47,12 +48,12 @@ nothing-found : (project : Project) (S : ℕ) (periods : List Period) → AllAgr
 nothing-found project S [] = tt
 nothing-found project S (period ∷ periods) = tt
 
-no-length : (project : Project) (S : ℕ) (period : Period) → period.time ≡ project.times.duration
+pub no-length : (project : Project) (S : ℕ) (period : Period) → period.time ≡ project.times.duration
     → HasItsLength project S period → period.length ≡ 0
 no-length project S period last (at_end is zero_long) = zero_long
 no-length project S period last (before_end other least) = absurd (other last)
 
-zip-from : (S : ℕ) (f : ℕ → Tank → Interval) (from : ℕ) (tanks : List Tank) (levels : List ℤ)
+pub zip-from : (S : ℕ) (f : ℕ → Tank → Interval) (from : ℕ) (tanks : List Tank) (levels : List ℤ)
     → length levels ≡ length tanks
     → ((k : ℕ) (tank : Tank) → slice_get tanks k ≡ Some tank
     → LiesIn S (f (from + k) tank) (slice_index_or levels k (pos 0)))
@@ -75,9 +76,12 @@ module _ (project : Project) (sound : IsSound project) (spread : Spread) (S : �
       (agrees : AgreesWith project S found.standing time levels volumes commanded)
       (period : Period) (begins : Begins project S time levels volumes commanded period) (nodes : NodeData)
       (is : IsPeriodWithin project spread S period nodes) where
+    its-certificates : IsCertifiedAt project spread found.standing found.pair found.row
+    its-certificates = certified project spread found.standing found.pair found.row found.next kept valid
+
     bounded : IsBounded project nodes S period (spanned found.pair) found.standing (spanning found.pair found.row)
-    bounded = is_bounded project sound spread S some found.pair found.standing found.row found.next kept valid time
-        levels volumes commanded agrees period begins nodes is
+    bounded = is_bounded project sound spread S some found.pair found.standing found.row its-certificates time levels
+        volumes commanded agrees period begins nodes is
 
     lasts-so : Continues project (spanned found.pair) found.standing (spanning found.pair found.row) found.next
         → (period.length ≡ found.row.length) × (commanded_after (with_data project nodes) S period
@@ -97,10 +101,10 @@ module _ (project : Project) (sound : IsSound project) (spread : Spread) (S : �
 
     period-agrees : AgreesOver project S period found
     period-agrees =
-        let its = its_assignment project sound spread S some found.pair found.standing found.row found.next kept valid
-        time levels volumes commanded agrees period begins nodes is in
-        let pair = its_pair project sound spread S some found.pair found.standing found.row found.next kept valid time
+        let its = its_assignment project sound spread S some found.pair found.standing found.row its-certificates time
         levels volumes commanded agrees period begins nodes is in
+        let pair = its_pair project sound spread S some found.pair found.standing found.row its-certificates time levels
+        volumes commanded agrees period begins nodes is in
         let above = valid.certificates.each Main Upper tt in
         let below = valid.certificates.each Main Lower tt in
         record {

@@ -1,12 +1,12 @@
 mod InflowsWithin
-mod OutflowsWithin
-mod BoundedReadings
-mod BoundedLevels
+pub mod OutflowsWithin
+pub mod BoundedReadings
+pub mod BoundedLevels
 mod BoundedLengths
 mod SpannedPairs
-mod BoundedByRecords
+pub mod BoundedByRecords
 pub mod StartsWithin
-mod HistoriesAlongRuns
+pub mod HistoriesAlongRuns
 pub mod SameBoxes
 pub mod RunsAlone
 pub mod CertificatesInside

@@ -8,13 +8,12 @@ ghost use Rattle.std.specs.Prelude.{◌≡◌, length};
 ghost use Rattle.hyd_spec_certificates.specs.declared.Problem.TheVariants.{Main};
 ghost use Rattle.hyd_period_network.specs.SoundNets.{HasProblem};
 
-use crate::flows::{nearer, over};
-use crate::held_balance::HeldBalance;
+use crate::flows::over;
 use crate::leaps::Leaps;
 use crate::places::{copy, number_at, put_at};
 use crate::steps::Steps;
 use hyd_period_network::Net;
-use hyd_spec_certificates::{HeldJunction, Problem, Side};
+use hyd_spec_certificates::{Problem, Side};
 use hyd_vector_check::is_in_box;
 use std::alloc::{AllocError as OutOfMemory, Global};
 
@@ -25,7 +24,7 @@ const FIRST_POWER: u32 = 50;
 const MOST_STEPS: u64 = 4_000_000;
 
 /// So many on one of few ways: one for each side.
-const MOST_STEPS_OF_FEW: u64 = 32_000_000;
+pub(crate) const MOST_STEPS_OF_FEW: u64 = 32_000_000;
 
 /// After so many steps a leap is tried. Where it leads nowhere, twice as many are made before the next one, up to the
 /// most.
@@ -39,43 +38,14 @@ const LEAPS: u32 = 60;
 /// The work of a leap, as so many steps.
 const WORK_OF_LEAP: u64 = 8;
 
-/// Room for the way, opened once.
+/// Room for the way with no junction held, opened once. Nothing is written there before the first one, so that a search
+/// that never goes it has no pages for it.
 #[derive(Drop)]
 pub struct Descent {
-    steps: Steps,
+    pub(crate) steps: Steps,
     leaps: Leaps,
-    balance: HeldBalance,
     /// How many junctions may still step.
-    left: u64,
-}
-
-// The number of a held junction, or one that there isn't.
-fn number_of(held: Option<HeldJunction>) -> u32 {
-    match held {
-        Some(there) => there.junction,
-        None => u32::MAX,
-    }
-}
-
-// How far a certificate has to be moved farther out as a whole, for a held junction to stand there or nearer.
-fn way_out(side: Side, head: i64, held: i64) -> i64 {
-    match side {
-        Side::Upper => held.saturating_sub(head).max(0),
-        Side::Lower => head.saturating_sub(held).max(0),
-    }
-}
-
-// Makes a certificate one with a junction held: moved farther out as a whole where the held head lies beyond, with that
-// junction at its head then.
-fn put_held(net: &Net, side: Side, held: HeldJunction, heads: &mut [i64])
-    ensures { length heads.new ≡ length heads.old }
-{
-    let way = way_out(side, number_at(heads, held.junction), held.head);
-    for junction in 0..net.junctions() {
-        let head = number_at(heads, junction);
-        put_at(heads, junction, nearer(side, head, way.saturating_neg()));
-    }
-    put_at(heads, held.junction, held.head);
+    pub(crate) left: u64,
 }
 
 // Whether every junction but a held one passes.
@@ -108,16 +78,8 @@ impl Descent {
         Ok(Descent {
             steps: Steps::open(alloc, net)?,
             leaps: Leaps::open(alloc, net)?,
-            balance: HeldBalance::open(alloc, net)?,
             left: 0,
         })
-    }
-
-    // Puts a junction to its held head, and goes near to the balance of the others then.
-    fn hold(&mut self, net: &Net, side: Side, held: HeldJunction) {
-        put_held(net, side, held, &mut self.steps.heads);
-        let balance = &mut self.balance;
-        balance.find(net, side, held.junction, &mut self.steps.heads);
     }
 
     // Leaps on and on, and tells whether any leap led to another certificate.
@@ -174,8 +136,24 @@ impl Descent {
         self.go_at(net, side, held, 1)
     }
 
-    // Goes on from heads of all nodes that are in place.
-    fn come_down(
+    // Whether all lists are as long as a net needs them, which they come to be in the room that was taken.
+    fn is_ready(&mut self, net: &Net) -> bool {
+        self.steps.lengthen(net).is_ok() && self.leaps.lengthen(net).is_ok()
+    }
+
+    /// Begins at a certificate, a head for each junction, on one of many ways, and tells whether there is room for it.
+    pub(crate) fn begin(&mut self, net: &Net, side: Side, heads: &[i64]) -> bool {
+        if !self.is_ready(net) {
+            return false;
+        }
+        copy(heads, &mut self.steps.heads);
+        put_fixed(net, side, &mut self.steps.heads);
+        self.left = MOST_STEPS;
+        true
+    }
+
+    /// Goes on from heads of all nodes that are in place.
+    pub(crate) fn come_down(
         &mut self,
         net: &Net,
         side: Side,
@@ -198,32 +176,10 @@ impl Descent {
         true
     }
 
-    /// Goes from a certificate, a head for each junction, with or without a junction held, to heads that may be the
-    /// tight vector, and tells whether it came so far. Then `heads` has them, and `order` the junctions in an order in
-    /// which turns may show it, a held one aside. A certificate of no junction held serves for a held one too.
-    pub fn descend(
-        &mut self,
-        net: &Net,
-        side: Side,
-        held: Option<HeldJunction>,
-        heads: &mut [i64],
-        order: &mut [u32],
-    ) -> bool
-        ensures each { length heads.new ≡ length heads.old }
-        ensures places { length order.new ≡ length order.old }
-    {
-        copy(heads, &mut self.steps.heads);
-        put_fixed(net, side, &mut self.steps.heads);
-        self.left = MOST_STEPS;
-        if let Some(there) = held {
-            self.left = MOST_STEPS_OF_FEW;
-            self.hold(net, side, there);
-        }
-        self.come_down(net, side, number_of(held), heads, order)
-    }
-
-    /// The same with none held, among heads of all nodes, junctions first: those of reservoirs and tanks stay as they
-    /// are there, so that it serves a problem with a tank's head pinned too.
+    /// Goes from a certificate to heads that may be the tight vector, and tells whether it came so far. Then `heads` has
+    /// them, and `order` the junctions in an order in which turns may show it. The certificate stands among heads of
+    /// all nodes, junctions first: those of reservoirs and tanks stay as they are there, so that it serves a problem
+    /// with a tank's head pinned too.
     pub fn descend_among(
         &mut self,
         net: &Net,
@@ -235,6 +191,9 @@ impl Descent {
         ensures each { length heads.new ≡ length heads.old }
         ensures places { length order.new ≡ length order.old }
     {
+        if !self.is_ready(net) {
+            return false;
+        }
         copy(nodes, &mut self.steps.heads);
         copy(heads, &mut self.steps.heads);
         self.left = MOST_STEPS_OF_FEW;

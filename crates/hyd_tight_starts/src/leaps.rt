@@ -15,7 +15,7 @@ use std::alloc::{AllocError as OutOfMemory, Global};
 /// A leap is good where raises leave a part of its way.
 const PART: i64 = 4;
 
-/// The way of leaps, opened once.
+/// The way of leaps, opened once. Nothing is written there before the first one.
 #[derive(Drop)]
 pub(crate) struct Leaps {
     /// Where the way began: the heads of all nodes, junctions first.
@@ -49,10 +49,17 @@ impl Leaps {
     /// Takes all the memory that leaps take in nets of this size.
     pub(crate) fn open(alloc: Global, net: &Net) -> Result<Leaps, OutOfMemory> {
         Ok(Leaps {
-            from: vec![in alloc; 0i64; net.nodes() as usize]?,
-            way: vec![in alloc; 0i64; net.junctions() as usize]?,
+            from: Vec::with_capacity(alloc, net.nodes() as usize)?,
+            way: Vec::with_capacity(alloc, net.junctions() as usize)?,
             trial: Trial::open(alloc, net)?,
         })
+    }
+
+    /// Makes all lists as long as a net needs them, in the room that was taken.
+    pub(crate) fn lengthen(&mut self, net: &Net) -> Result<(), OutOfMemory> {
+        self.from.resize(net.nodes() as usize, 0i64)?;
+        self.way.resize(net.junctions() as usize, 0i64)?;
+        self.trial.lengthen(net)
     }
 
     /// Begins a way at heads of all nodes.

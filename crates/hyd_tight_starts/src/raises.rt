@@ -21,7 +21,7 @@ const SHORT_RAISES: i64 = 4;
 /// The longest way that a raise has for that: 2 to the power of this many ticks.
 const LONGEST_POWER: i64 = 60;
 
-/// Heads that are tried, of nets of one size, opened once.
+/// Heads that are tried, of nets of one size, opened once. Nothing is written there before the first ones.
 #[derive(Drop)]
 pub(crate) struct Trial {
     /// The heads of all nodes, junctions first.
@@ -47,11 +47,19 @@ impl Trial {
     /// Takes all the memory that it takes.
     pub(crate) fn open(alloc: Global, net: &Net) -> Result<Trial, OutOfMemory> {
         Ok(Trial {
-            heads: vec![in alloc; 0i64; net.nodes() as usize]?,
-            over: vec![in alloc; 0i64; net.junctions() as usize]?,
-            raised: vec![in alloc; 0i64; net.junctions() as usize]?,
+            heads: Vec::with_capacity(alloc, net.nodes() as usize)?,
+            over: Vec::with_capacity(alloc, net.junctions() as usize)?,
+            raised: Vec::with_capacity(alloc, net.junctions() as usize)?,
             left: 0,
         })
+    }
+
+    /// Makes all lists as long as a net needs them, in the room that was taken.
+    pub(crate) fn lengthen(&mut self, net: &Net) -> Result<(), OutOfMemory> {
+        let junctions = net.junctions() as usize;
+        self.heads.resize(net.nodes() as usize, 0i64)?;
+        self.over.resize(junctions, 0i64)?;
+        self.raised.resize(junctions, 0i64)
     }
 
     /// Puts a head, held in the box.

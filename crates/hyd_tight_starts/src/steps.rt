@@ -11,7 +11,7 @@ use hyd_period_network::Net;
 use hyd_spec_certificates::Side;
 use std::alloc::{AllocError as OutOfMemory, Global};
 
-/// Room for steps in nets of one size, opened once.
+/// Room for steps in nets of one size, opened once. Nothing is written there before the first steps.
 #[derive(Drop)]
 pub(crate) struct Steps {
     /// The heads of all nodes where a certificate stands, junctions first.
@@ -36,14 +36,26 @@ impl Steps {
         let nodes = net.nodes() as usize;
         let junctions = net.junctions() as usize;
         Ok(Steps {
-            heads: vec![in alloc; 0i64; nodes]?,
-            over: vec![in alloc; 0i64; junctions]?,
-            now: vec![in alloc; 0i64; junctions]?,
-            back: vec![in alloc; false; junctions]?,
-            order: vec![in alloc; 0u32; junctions]?,
+            heads: Vec::with_capacity(alloc, nodes)?,
+            over: Vec::with_capacity(alloc, junctions)?,
+            now: Vec::with_capacity(alloc, junctions)?,
+            back: Vec::with_capacity(alloc, junctions)?,
+            order: Vec::with_capacity(alloc, junctions)?,
             count: 0,
-            rim: vec![in alloc; false; junctions]?,
+            rim: Vec::with_capacity(alloc, junctions)?,
         })
+    }
+
+    /// Makes all lists as long as a net needs them, in the room that was taken.
+    pub(crate) fn lengthen(&mut self, net: &Net) -> Result<(), OutOfMemory> {
+        let nodes = net.nodes() as usize;
+        let junctions = net.junctions() as usize;
+        self.heads.resize(nodes, 0i64)?;
+        self.over.resize(junctions, 0i64)?;
+        self.now.resize(junctions, 0i64)?;
+        self.back.resize(junctions, false)?;
+        self.order.resize(junctions, 0u32)?;
+        self.rim.resize(junctions, false)
     }
 
     /// Begins at the heads of a certificate.

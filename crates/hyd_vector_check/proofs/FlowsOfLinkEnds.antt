@@ -6,7 +6,7 @@ use Rattle.std.specs.Option.{IfSome}
 use Rattle.hyd_spec.specs.Law.{Law}
 use Rattle.hyd_spec.specs.Assignment.{head_at}
 use Rattle.hyd_spec_certificates.specs.PeriodNetwork.{GridLink}
-use Rattle.hyd_law.specs.declared.link_law_kinds.LinkLaw.{LinkLaw}
+use Rattle.hyd_period_network.specs.PassedOn.{LinkLaw}
 use Rattle.hyd_period_network.specs.declared.junctions_ends_and_settings.Tie.{Tie}
 use Rattle.hyd_period_network.specs.LawsInSettings.{Stands}
 use Rattle.hyd_period_network.specs.LinkEnds.{tie_share}

@@ -6,7 +6,7 @@ ghost use Rattle.hyd_spec.specs.Assignment.{head_at};
 ghost use Rattle.hyd_spec.specs.Law.{Law};
 ghost use Rattle.hyd_spec_certificates.specs.PeriodNetwork.{all_heads};
 ghost use Rattle.hyd_spec_certificates.specs.Certificate.{IsInBox};
-ghost use Rattle.hyd_law.specs.LinkLaws.{IsSoundLink, LinkAccepts};
+ghost use Rattle.hyd_period_network.specs.PassedOn.{IsSoundLink, LinkAccepts};
 ghost use Rattle.hyd_period_network.specs.LawsInSettings.{Stands};
 ghost use Rattle.hyd_period_network.specs.NetAsPeriodNetwork.{grid_of, node_count};
 ghost use Rattle.hyd_period_network.specs.SoundNets.{HasProblem};
@@ -15,8 +15,7 @@ ghost use Rattle.hyd_period_network.specs.SoundNets.{is_upper};
 ghost use Rattle.hyd_vector_check.specs.NetOutflowBySide.{flow_by, is_lower, flows_out};
 
 use crate::heads::{difference, head_with};
-use hyd_law::{Law, LinkLaw};
-use hyd_period_network::{Net, Tie};
+use hyd_period_network::{Law, LinkLaw, Net, Tie};
 use hyd_spec_certificates::{Problem, Side};
 
 pub(crate) fn is_lower(side: Side) -> bool

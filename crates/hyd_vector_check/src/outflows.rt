@@ -7,14 +7,13 @@ ghost use Rattle.hyd_spec_certificates.specs.EnclosingFunctions.{emitter_low, em
 ghost use Rattle.hyd_spec_certificates.specs.PeriodNetwork.{GridJunction};
 ghost use Rattle.hyd_spec_certificates.specs.Certificate.{box_limit, IsInBox};
 ghost use Rattle.hyd_theorems_on_definitions.specs.SoundLawsAndGrids.{IsSoundCapacity};
-ghost use Rattle.hyd_law.specs.DemandLaws.{IsSoundOut, OutAccepts, out_low, out_high};
+ghost use Rattle.hyd_period_network.specs.PassedOn.{IsSoundOut, OutAccepts, out_low, out_high};
 ghost use Rattle.hyd_period_network.specs.NetAsPeriodNetwork.{grid_of, capacity_of};
 ghost use Rattle.hyd_vector_check.specs.NetOutflowBySide.{outflow};
 
 use crate::flows::is_lower;
 use crate::heads::difference;
-use hyd_law::{Law, OutLaw, Quad};
-use hyd_period_network::Net;
+use hyd_period_network::{Law, Net, OutLaw, Quad};
 use hyd_spec_certificates::Side;
 
 // The high demand flow at a pressure, or the low one.

@@ -12,4 +12,5 @@ mod whole_search;
 
 pub use bench::{Bench, Entry, MomentSearch};
 pub use ending::{Halt, SearchEnd, SearchFault};
+pub use hyd_found_moments::fine;
 pub use whole_search::search_witness;

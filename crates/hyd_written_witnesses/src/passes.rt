@@ -12,11 +12,10 @@ ghost use Rattle.hyd_written_witnesses.specs.WitnessAnswers.{ends_at, ends_with_
 
 use crate::statuses::status_of_fault;
 use hyd_command_answers::Status;
-use hyd_found_moments::fine;
 use hyd_io::Desk;
 use hyd_laws_at_scale::Scale;
 use hyd_stocks_below::halves;
-use hyd_witness_stream::{Bench, Halt, SearchEnd, search_witness};
+use hyd_witness_stream::{Bench, Halt, SearchEnd, fine, search_witness};
 
 // Whether a search ended for want of a moment.
 fn lacks_moment(halt: Halt) -> bool

@@ -9,4 +9,4 @@ returns c =
     let rows = rows_from c.args.text.now.text c.args.given.now in
     c.in_ok-add_section-3.ensures (rows_of Pipes rows ++ rows_of Pumps rows)
     (c.in_ok-add_section-2.ensures (rows_of Pipes rows)
-    (c.in_ok-add_section.ensures [] (rw c.new-links.ensures.empty tt)))
+    (c.in_ok-add_section.ensures [] (rw c.in_ok-links.ensures.empty tt)))

@@ -4,7 +4,7 @@ use Rattle.std.proofs.lemmas.Bool.{false≢true}
 use Rattle.hyd_sim.specs.declared.settings.Settings.{Settings}
 use Rattle.hyd_command_words.specs.CommandView.{run_seen, names_seen}
 use Rattle.hyd_command_answers.specs.DeskContents.{seen}
-use Rattle.hyd_naming_command.specs.NamingAnswers.{AnswersTextNaming}
+use Rattle.hyd_open_command.specs.PassedOn.{AnswersTextNaming}
 use Rattle.hyd_cli.proofs.RunWordsLemmas.{plain_leaves, naming_leaves, plain_answers, naming_answers}
 use Rattle.hyd_cli.proofs.command_run.run_words.Goals as goal
 

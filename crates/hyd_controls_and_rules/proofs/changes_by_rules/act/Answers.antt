@@ -1,4 +1,4 @@
-use Rattle.std.proofs.Common.{◌≡◌, ◌++◌, List, Option, length, sym, subst, ap, ◌∙◌, arith}
+use Rattle.std.proofs.Common.{◌≡◌, ◌++◌, List, Option, length, refl, sym, subst, ap, ◌∙◌, arith}
 use Rattle.std.proofs.lemmas.List.{nil_from_length}
 use Rattle.hyd_net.specs.ListView.{ListView}
 use Rattle.hyd_spec.specs.declared.Change.{Change}
@@ -22,8 +22,8 @@ returns-clause-links c =
     let project = c.args.project.now in
     let count = length project.links.list in
     let table : c.deref.result.now ≡ c.rank_offers.new.best =
-    c.deref.ensures.value ∙ whole_table c.rank_offers.new.best c.changes.inside.best.items
-    c.changes.inside.best.len (omega arith) in
+    c.deref.ensures.value ∙ whole_table c.rank_offers.new.best c.lengthen.new.best.items
+    c.lengthen.new.best.len (omega arith) in
     let are = subst (λ (best : List (Option program.Offer)). AreBest count (offers_from 0 project.rules.list
     c.args.values.now) best) (sym table) c.rank_offers.ensures in
     c.carry_out.ensures.links ∙ states_are project c.args.values.now count c.deref.result.now
@@ -34,8 +34,8 @@ returns-clause-rows c =
     let project = c.args.project.now in
     let count = length project.links.list in
     let table : c.deref.result.now ≡ c.rank_offers.new.best =
-    c.deref.ensures.value ∙ whole_table c.rank_offers.new.best c.changes.inside.best.items
-    c.changes.inside.best.len (omega arith) in
+    c.deref.ensures.value ∙ whole_table c.rank_offers.new.best c.lengthen.new.best.items
+    c.lengthen.new.best.len (omega arith) in
     let are = subst (λ (best : List (Option program.Offer)). AreBest count (offers_from 0 project.rules.list
     c.args.values.now) best) (sym table) c.rank_offers.ensures in
     c.carry_out.ensures.rows
@@ -46,13 +46,11 @@ returns-clause-rows c =
 
 pub returns-clause-spare : goal.returns-clause-spare
 returns-clause-spare c =
-    let places : length c.deref.result.now ≡ length c.changes.inside.best.items = c.deref.ensures.len
-    ∙ sym c.deref_mut.ensures.len ∙ ap length c.deref_mut.ensures.value in
-    spare_is c.changes.inside.rows.list c.carry_out.new.rows.list (length c.changes.inside.best.items) _ _ _
+    spare_is c.changes.inside.rows.list c.carry_out.new.rows.list c.changes.inside.room _ _ _
     (length c.args.links.now)
     (ap (λ (view : ListView Change). length view.list) c.changes.view_is) (ap (λ
     (view : ListView Change). view.spare) c.changes.view_is)
-    (sym (ap length c.deref.ensures.value) ∙ places) c.changes.invariant.places c.carry_out.ensures.most
+    refl c.changes.invariant.places c.carry_out.ensures.most
     (omega (arith, c.requires.room, c.requires.each_link))
 
 pub returns-clause-most : goal.returns-clause-most

@@ -1,7 +1,7 @@
 use Rattle.std.proofs.Common.{arith}
 use Rattle.std.proofs.lemmas.Int.{ints}
 use Rattle.hyd_period_network.specs.NetAsPeriodNetwork.{grid_of}
-use Rattle.hyd_vector_check.proofs.FlowsOfLinkEnds.{stands-for}
+use Rattle.hyd_tight_starts.proofs.PassedOn.{stands-for}
 use Rattle.hyd_finders.proofs.flows.low_flow.Goals as goal
 
 pub low-requires-clause-accepted : goal.low-requires-clause-accepted

@@ -2,8 +2,8 @@ use Rattle.std.proofs.Common.{◌-ℤ◌, to_z, of_z, arith}
 use Rattle.std.specs.Int.{w128}
 use Rattle.std.proofs.lemmas.Int.{ints}
 use Rattle.hyd_law.specs.KnotsOfStraightLines.{place_of}
-use Rattle.hyd_lemmas.proofs.Integers.{product_is}
-use Rattle.hyd_lemmas.proofs.KnotLines.{line_is}
+use Rattle.hyd_theorems_on_definitions.proofs.PassedOn.{product_is}
+use Rattle.hyd_theorems_on_definitions.proofs.PassedOn.{line_is}
 use Rattle.hyd_law.proofs.straight_lines.on_line.Goals as goal
 
 pub overflow_add-result : goal.overflow_add-result

@@ -22,7 +22,6 @@ invariant_of-result c =
         next = parts.close.next;
         opened = c.requires.opened;
       };
-      links = parts.links;
       stopped = tt;
       stuck = tt;
     }

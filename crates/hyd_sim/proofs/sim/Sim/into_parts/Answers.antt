@@ -15,6 +15,5 @@ returns-clause-room c =
       facts = search rules;
       stocks = search rules;
       commanded = search rules;
-      links = search rules;
       close = search rules;
     }

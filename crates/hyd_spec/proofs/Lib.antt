@@ -1,0 +1,2 @@
+pub mod EqualNumbers
+pub mod PassedOn

@@ -1,0 +1,2 @@
+pub mod OpenRunsForSpreads
+pub mod OpenAgreementWithin

@@ -1,0 +1,2 @@
+pub mod RunsAsOthers
+pub mod BoundedOpenly
