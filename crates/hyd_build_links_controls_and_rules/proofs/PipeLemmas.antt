@@ -19,7 +19,7 @@ use Rattle.hyd_spec_input.specs.FaultsWithOtherRows as others
 
 pub pipe_made : (rows : List Row) (row : Row) (us : Bool) (pipe : PipeRow) (cap : Capacity) → us ≡ others.us rows
     → IsPipeRow row.words pipe → IsMade cap
-    → cap.origin ≡ Pipe pipe.length pipe.diameter pipe.roughness pipe.minor us
+    → cap.origin ≡ Pipe us pipe.length pipe.diameter pipe.roughness pipe.minor
     → IsPipeOf (others.us rows) (amount 3 row.words) (amount 4 row.words) (amount 5 row.words) (pipe_minor row.words)
     cap
 pipe_made rows row us pipe cap u is made origin = record {

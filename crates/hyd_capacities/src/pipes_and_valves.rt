@@ -50,12 +50,12 @@ pub fn pipe_capacity(
     requires diameter { IsDiameter diameter }
     requires roughness { IsRoughness roughness }
     requires minor { IsMinorCoefficient minor }
-    ensures origin { IfOk result (λ c. c.origin ≡ Origin.Pipe length diameter roughness minor us) }
+    ensures origin { IfOk result (λ c. c.origin ≡ Origin.Pipe us length diameter roughness minor) }
     ensures made { IfOk result (λ c. IsMade c) }
     ensures encloses { IfOk result (λ c. IsEnclosure c) }
     ensures sharp { IfOk result (λ c. IsSharp c) }
-    ensures accepted { OnOk result (¬ IsRefused (Origin.Pipe length diameter roughness minor us)) }
-    ensures refused { OnErr result (IsRefused (Origin.Pipe length diameter roughness minor us)) }
+    ensures accepted { OnOk result (¬ IsRefused (Origin.Pipe us length diameter roughness minor)) }
+    ensures refused { OnErr result (IsRefused (Origin.Pipe us length diameter roughness minor)) }
 {
     let origin = Origin::Pipe {
         length,

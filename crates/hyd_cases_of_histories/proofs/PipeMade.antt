@@ -232,7 +232,7 @@ unfitted = record { nano = pos 0; bounded = lit≤ tt }
 -- that of any pipe as rough, a thousand feet long and one foot across, in feet and inches or in metres and millimetres
 pub made_of : (length diameter : Decimal) (us : Bool) → IsPairOf (feet us (billionths length)) (twice thousand)
     → IsPairOf (feet_across us (billionths diameter)) ones
-    → IsMade (record long_pipe { origin = Pipe length diameter smooth unfitted us })
+    → IsMade (record long_pipe { origin = Pipe us length diameter smooth unfitted })
 made_of length diameter us long_is across_is = record {
   pair = record { lo = long_pipe.lo; hi = long_pipe.hi; ordered = lit≤ tt };
   low = refl;

@@ -20,9 +20,9 @@ long_pipe = record {
   lo = record { mant = 7239961123724670982; exp = neg_ℤ (pos 34); normal = lit≤ tt; short = lit< tt };
   hi = record { mant = 7239961123724670990; exp = neg_ℤ (pos 34); normal = lit≤ tt; short = lit< tt };
   origin =
-      Pipe (record { nano = pos 1000000000000; bounded = lit≤ tt })
+      Pipe true (record { nano = pos 1000000000000; bounded = lit≤ tt })
       (record { nano = pos 12000000000; bounded = lit≤ tt }) (record { nano = pos 10000000; bounded = lit≤ tt })
-      (record { nano = pos 0; bounded = lit≤ tt }) true;
+      (record { nano = pos 0; bounded = lit≤ tt });
   ordered = lit≤ tt;
   least = lit≤ tt;
   greatest = lit< tt;

@@ -36,9 +36,9 @@ use Rattle.hyd_cases_of_histories.specs.StatusWords.{thirty}
 abbrev pub metric_pipe : Capacity
 metric_pipe = record long_pipe {
   origin =
-      Pipe (record { nano = pos 304800000000; bounded = lit≤ tt })
+      Pipe false (record { nano = pos 304800000000; bounded = lit≤ tt })
       (record { nano = pos 304800000000; bounded = lit≤ tt }) (record { nano = pos 10000000; bounded = lit≤ tt })
-      (record { nano = pos 0; bounded = lit≤ tt }) false;
+      (record { nano = pos 0; bounded = lit≤ tt });
 }
 
 -- 400 cubic metres a day, which are met at 21 m and none at 5 m. Its capacity is that of an emitter which passes 100 at

@@ -1,4 +1,4 @@
--- The command of the words: its names differ, and what was found is what was asked for.
+-- The two names of a command that creates both files differ.
 use Rattle.std.proofs.Common.{◌≡◌, ◌≢◌, ℕ, Bool, true, false, List, [], ◌∷◌, Option, Some, None, if◌then◌else◌}
 use Rattle.std.proofs.Common.{option_map, option_and_then, bytes_eq, refl, sym, ap, subst, ◌∙◌}
 use Rattle.std.proofs.lemmas.Bool.{false≢true}
@@ -16,17 +16,6 @@ use Rattle.hyd_command_words.specs.CommandGrammar.{run_order, run_command, check
 use Rattle.hyd_command_words.specs.CommandGrammar.{differing}
 use Rattle.hyd_command_words.specs.CommandGrammar.{two_files, seed_of, junctions_of, has_names_alone}
 use Rattle.std.specs.Prelude.{codes}
-use Rattle.hyd_command_words.specs.CommandView.{order_seen, run_seen, files_seen, gen_seen, fire_seen, closures_seen}
-use Rattle.hyd_command_words.specs.CommandView.{witness_seen, meet_seen}
-use Rattle.hyd_command_words.specs.declared.command.Command.{Command}
-use Rattle.hyd_command_words.specs.declared.command.Command.TheVariants.{Run, Check, Gen, Fire, Closures, Witness, Meet}
-use Rattle.hyd_command_words.specs.declared.command.Files.{Files}
-use Rattle.hyd_command_words.specs.declared.command.GenWords.{GenWords}
-use Rattle.hyd_command_words.specs.declared.command.FireWords.{FireWords}
-use Rattle.hyd_command_words.specs.declared.command.ClosuresWords.{ClosuresWords}
-use Rattle.hyd_command_words.specs.declared.command.WitnessWords.{WitnessWords}
-use Rattle.hyd_command_words.specs.declared.command.MeetWords.{MeetWords}
-use Rattle.hyd_command_words.specs.declared.command.RunWords.{RunWords}
 
 -- ---- names that differ
 
@@ -138,48 +127,3 @@ names_apart (word ∷ behind) order e =
     by_name (bytes_eq word (codes "run")) (bytes_eq word (codes "check")) (bytes_eq word (codes "gen"))
     (bytes_eq word (codes "fire")) (bytes_eq word (codes "closures")) (bytes_eq word (codes "witness"))
     (bytes_eq word (codes "meet")) (said behind) order e
-
--- ---- the command that was found is the one that was asked for
-
-pub same_run : (words : RunWords) (found : Option Command) (order : RunOrder) → found ≡ Some (Run words)
-    → option_map order_seen found ≡ Some (run order) → order ≡ run_seen words
-same_run words found order is asked =
-    let known : Some (run (run_seen words)) ≡ Some (run order) = rw is at asked in
-    cc
-
-pub same_check : (files : Files) (found : Option Command) (asked : TwoFiles) → found ≡ Some (Check files)
-    → option_map order_seen found ≡ Some (check asked) → asked ≡ files_seen files
-same_check files found asked is e =
-    let known : Some (check (files_seen files)) ≡ Some (check asked) = rw is at e in
-    cc
-
-pub same_gen_order : (words : GenWords) (found : Option Command) (order : GenOrder) → found ≡ Some (Gen words)
-    → option_map order_seen found ≡ Some (gen order) → order ≡ gen_seen words
-same_gen_order words found order is asked =
-    let known : Some (gen (gen_seen words)) ≡ Some (gen order) = rw is at asked in
-    cc
-
-pub same_fire : (words : FireWords) (found : Option Command) (order : FireOrder) → found ≡ Some (Fire words)
-    → option_map order_seen found ≡ Some (fire order) → order ≡ fire_seen words
-same_fire words found order is asked =
-    let known : Some (fire (fire_seen words)) ≡ Some (fire order) = rw is at asked in
-    cc
-
-pub same_closures : (words : ClosuresWords) (found : Option Command) (order : ClosuresOrder)
-    → found ≡ Some (Closures words) → option_map order_seen found ≡ Some (closures order)
-    → order ≡ closures_seen words
-same_closures words found order is asked =
-    let known : Some (closures (closures_seen words)) ≡ Some (closures order) = rw is at asked in
-    cc
-
-pub same_witness : (words : WitnessWords) (found : Option Command) (order : WitnessOrder)
-    → found ≡ Some (Witness words) → option_map order_seen found ≡ Some (witness order) → order ≡ witness_seen words
-same_witness words found order is asked =
-    let known : Some (witness (witness_seen words)) ≡ Some (witness order) = rw is at asked in
-    cc
-
-pub same_meet : (words : MeetWords) (found : Option Command) (order : MeetOrder) → found ≡ Some (Meet words)
-    → option_map order_seen found ≡ Some (meet order) → order ≡ meet_seen words
-same_meet words found order is asked =
-    let known : Some (meet (meet_seen words)) ≡ Some (meet order) = rw is at asked in
-    cc

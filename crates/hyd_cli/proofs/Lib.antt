@@ -2,5 +2,5 @@ pub mod AnswerLemmas
 pub mod CommandsOfWords
 pub mod GenLemmas
 pub mod TaskWithoutMemory
-pub mod TargetsWithoutMemory
+pub mod OrdersWithoutMemory
 pub mod RunWordsLemmas

@@ -1,12 +1,13 @@
 -- What each command does, by the name of its answer: what is said of what it was asked, of what the desk told before
 -- and tells now, of how often files were opened and created, and, of `gen`, of whether one can be written to.
 -- Source: this program's.
-use Rattle.std.specs.Prelude.{◌≢◌, ℕ, zero, suc, Bool, List, [], ◌∷◌, Some}
+use Rattle.std.specs.Prelude.{◌≡◌, ◌≢◌, ℕ, zero, suc, Bool, List, [], ◌∷◌, Option, Some, None}
 use Rattle.hyd_io.specs.declared.desk.Openings.{Openings}
 use Rattle.hyd_io.specs.DeskBytes.{IsTold}
 use Rattle.hyd_net.specs.declared.refusal_cause.Cause.{Cause}
 use Rattle.hyd_spec_input.specs.Faults.{IsFault, HasNoFault}
-use Rattle.hyd_command_words.specs.CommandGrammar.{RunOrder, GenOrder, TwoFiles}
+use Rattle.hyd_command_words.specs.CommandGrammar.{RunOrder, GenOrder, TwoFiles, Order, run, check, gen, fire, closures}
+use Rattle.hyd_command_words.specs.CommandGrammar.{witness, meet}
 use Rattle.hyd_command_answers.specs.DeskContents.{Seen, OnlyPrintedSome, ChangesOnly}
 use Rattle.hyd_command_answers.specs.FaultsAndRefusals.{AnswersRefused}
 use Rattle.hyd_command_answers.specs.OpeningsOfRuns.{OpensOnce}
@@ -18,6 +19,10 @@ use Rattle.hyd_open_command.specs.OpenAnswers.{AnswersTextOpenly}
 use Rattle.hyd_open_certificates.specs.OpenFaults.{HasOpenHeader, LacksOpenHeader}
 use Rattle.hyd_check_command.specs.CheckAnswers.{AnswersCheck, ReadsBoth}
 use Rattle.hyd_check_command.specs.OpenCheckAnswers.{AnswersOpenCheck}
+use Rattle.hyd_target_commands.specs.CommandsOnTargets.{DoesFire, DoesClosures}
+use Rattle.hyd_witness_commands.specs.CommandMeet.{DoesMeet}
+use Rattle.hyd_written_witnesses.specs.CommandWitness.{DoesWitness}
+use Rattle.hyd_cli.specs.Answers.{AnswersUsage}
 use Rattle.hyd_cli.specs.GenAnswers.{text_of, AnswersGen, ChangesBoth, CreatesBoth, KeepsCert, KeepsNet}
 use Rattle.hyd_command_answers.specs.declared.status.Status.{Status}
 use Rattle.hyd_command_answers.specs.declared.status.Status.TheVariants.{InputRefused}
@@ -76,3 +81,18 @@ pub record DoesGen (order : GenOrder) (status : Status) (before now : Seen) (ope
   pub once : CreatesBoth status opened opens
   pub keeps_cert : KeepsCert (text_of order) order.files before now opened opens
   pub keeps_net : KeepsNet order.files before now opened opens
+
+-- What is done by the command of the words, each as its own definition says it; where the words aren't a command the
+-- usage line is printed, and no file is opened or created.
+abbrev pub DoesOrder : Option Order → Status → Seen → Seen → Openings → Openings → Bool → Type 0
+DoesOrder None status before now opened opens writable = AnswersUsage status before now × (opens ≡ opened)
+DoesOrder (Some (run order)) status before now opened opens writable = DoesRun order status before now opened opens
+DoesOrder (Some (check files)) status before now opened opens writable = DoesCheck files status before now opened opens
+DoesOrder (Some (gen order)) status before now opened opens writable =
+    DoesGen order status before now opened opens writable
+DoesOrder (Some (fire order)) status before now opened opens writable = DoesFire order status before now opened opens
+DoesOrder (Some (closures order)) status before now opened opens writable =
+    DoesClosures order status before now opened opens
+DoesOrder (Some (witness order)) status before now opened opens writable =
+    DoesWitness order status before now opened opens
+DoesOrder (Some (meet order)) status before now opened opens writable = DoesMeet order status before now opened opens

@@ -1,17 +1,12 @@
 //! The program: the words that the system gives, and the desk on its files.
 
-ghost use Rattle.std.specs.Prelude.{◌≡◌, ◌≢◌, Some, None, IfOk, IsOk, IsErr, map, string_bytes};
-ghost use Rattle.hyd_command_words.specs.CommandGrammar.{Order, RunOrder, GenOrder, TwoFiles, order_of, run, check};
-ghost use Rattle.hyd_command_words.specs.CommandGrammar.{gen, FireOrder, ClosuresOrder, fire, closures};
-ghost use Rattle.hyd_command_words.specs.CommandGrammar.{WitnessOrder, MeetOrder, witness, meet};
+ghost use Rattle.std.specs.Prelude.{◌≡◌, ◌≢◌, Some, IfOk, IsOk, IsErr, map, string_bytes};
+ghost use Rattle.hyd_command_words.specs.CommandGrammar.{Order, order_of};
 ghost use Rattle.hyd_cli.specs.WordsAndUsageLine.{words_behind_name};
 ghost use Rattle.hyd_command_answers.specs.DeskContents.{seen};
 ghost use Rattle.hyd_cli.specs.Answers.{MayUse, Leaves, AnswersUsage};
 ghost use Rattle.hyd_command_answers.specs.FaultsAndRefusals.{HasCause};
-ghost use Rattle.hyd_cli.specs.Commands.{DoesRun, DoesCheck, DoesGen};
-ghost use Rattle.hyd_target_commands.specs.CommandsOnTargets.{DoesFire, DoesClosures};
-ghost use Rattle.hyd_witness_commands.specs.CommandMeet.{DoesMeet};
-ghost use Rattle.hyd_written_witnesses.specs.CommandWitness.{DoesWitness};
+ghost use Rattle.hyd_cli.specs.Commands.{DoesOrder};
 ghost use Rattle.hyd_command_answers.specs.declared.status.Status.TheVariants.{Usage};
 
 use crate::standard_error::say_why;
@@ -43,33 +38,12 @@ pub fn start<D: Desk>(alloc: Global, given: io::Result<Args>, desk: &mut D) -> S
     ensures cause { HasCause result (D.counts desk.old) (D.counts desk.new) }
     ensures leaves { Leaves (order_of (words_behind_name given)) result
         (seen D.files D.written D.printed desk.old) (seen D.files D.written D.printed desk.new) }
-    ensures usage { order_of (words_behind_name given) ≡ None → AnswersUsage result
-        (seen D.files D.written D.printed desk.old) (seen D.files D.written D.printed desk.new) }
+    ensures does { DoesOrder (order_of (words_behind_name given)) result
+        (seen D.files D.written D.printed desk.old) (seen D.files D.written D.printed desk.new)
+        (D.openings desk.old) (D.openings desk.new) (D.ready desk.new) }
     ensures no_words { IsErr given → AnswersUsage result
         (seen D.files D.written D.printed desk.old) (seen D.files D.written D.printed desk.new) }
-    ensures never { order_of (words_behind_name given) ≡ None → D.openings desk.new ≡ D.openings desk.old }
     ensures never_usage { (order : Order) → order_of (words_behind_name given) ≡ Some order → result ≢ Usage }
-    ensures runs { (order : RunOrder) → order_of (words_behind_name given) ≡ Some (run order) → DoesRun order result
-        (seen D.files D.written D.printed desk.old) (seen D.files D.written D.printed desk.new)
-        (D.openings desk.old) (D.openings desk.new) }
-    ensures checks { (files : TwoFiles) → order_of (words_behind_name given) ≡ Some (check files) → DoesCheck files
-        result (seen D.files D.written D.printed desk.old) (seen D.files D.written D.printed desk.new)
-        (D.openings desk.old) (D.openings desk.new) }
-    ensures generates { (order : GenOrder) → order_of (words_behind_name given) ≡ Some (gen order) → DoesGen order
-        result (seen D.files D.written D.printed desk.old) (seen D.files D.written D.printed desk.new)
-        (D.openings desk.old) (D.openings desk.new) (D.ready desk.new) }
-    ensures fires { (order : FireOrder) → order_of (words_behind_name given) ≡ Some (fire order) → DoesFire order result
-        (seen D.files D.written D.printed desk.old) (seen D.files D.written D.printed desk.new)
-        (D.openings desk.old) (D.openings desk.new) }
-    ensures closes { (order : ClosuresOrder) → order_of (words_behind_name given) ≡ Some (closures order) → DoesClosures order
-        result (seen D.files D.written D.printed desk.old) (seen D.files D.written D.printed desk.new)
-        (D.openings desk.old) (D.openings desk.new) }
-    ensures witnesses { (order : WitnessOrder) → order_of (words_behind_name given) ≡ Some (witness order) → DoesWitness
-        order result (seen D.files D.written D.printed desk.old) (seen D.files D.written D.printed desk.new)
-        (D.openings desk.old) (D.openings desk.new) }
-    ensures meets { (order : MeetOrder) → order_of (words_behind_name given) ≡ Some (meet order) → DoesMeet order result
-        (seen D.files D.written D.printed desk.old) (seen D.files D.written D.printed desk.new)
-        (D.openings desk.old) (D.openings desk.new) }
 {
     match words_behind(alloc, given) {
         Ok(words) => tool(alloc, &words, desk),

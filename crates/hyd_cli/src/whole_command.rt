@@ -1,18 +1,12 @@
 //! The call `tool`: any command of the program, from its words to its status.
 
-ghost use Rattle.std.specs.Prelude.{◌≡◌, ◌≢◌, Option, Some, None, map, option_map, string_bytes};
-ghost use Rattle.hyd_command_words.specs.CommandGrammar.{Order, RunOrder, GenOrder, TwoFiles, order_of, run, check};
-ghost use Rattle.hyd_command_words.specs.CommandGrammar.{gen, FireOrder, ClosuresOrder, fire, closures};
-ghost use Rattle.hyd_command_words.specs.CommandGrammar.{WitnessOrder, MeetOrder, witness, meet};
+ghost use Rattle.std.specs.Prelude.{◌≡◌, ◌≢◌, Option, Some, map, option_map, string_bytes};
+ghost use Rattle.hyd_command_words.specs.CommandGrammar.{Order, GenOrder, order_of, gen};
 ghost use Rattle.hyd_command_words.specs.CommandView.{order_seen};
 ghost use Rattle.hyd_command_answers.specs.DeskContents.{seen};
-ghost use Rattle.hyd_cli.specs.Answers.{MayUse, Leaves};
 ghost use Rattle.hyd_command_answers.specs.FaultsAndRefusals.{HasCause};
-ghost use Rattle.hyd_cli.specs.Answers.{AnswersUsage};
-ghost use Rattle.hyd_cli.specs.Commands.{DoesRun, DoesCheck, DoesGen};
-ghost use Rattle.hyd_target_commands.specs.CommandsOnTargets.{DoesFire, DoesClosures};
-ghost use Rattle.hyd_witness_commands.specs.CommandMeet.{DoesMeet};
-ghost use Rattle.hyd_written_witnesses.specs.CommandWitness.{DoesWitness};
+ghost use Rattle.hyd_cli.specs.Answers.{MayUse, Leaves, AnswersUsage};
+ghost use Rattle.hyd_cli.specs.Commands.{DoesOrder};
 ghost use Rattle.hyd_command_answers.specs.declared.status.Status.TheVariants.{Usage};
 
 use crate::command_gen::generate_network;
@@ -67,31 +61,10 @@ pub fn tool<D: Desk>(alloc: Global, words: &[String], desk: &mut D) -> Status
     ensures cause { HasCause result (D.counts desk.old) (D.counts desk.new) }
     ensures leaves { Leaves (order_of (map string_bytes words.now)) result
         (seen D.files D.written D.printed desk.old) (seen D.files D.written D.printed desk.new) }
-    ensures usage { order_of (map string_bytes words.now) ≡ None → AnswersUsage result
-        (seen D.files D.written D.printed desk.old) (seen D.files D.written D.printed desk.new) }
-    ensures never { order_of (map string_bytes words.now) ≡ None → D.openings desk.new ≡ D.openings desk.old }
-    ensures never_usage { (order : Order) → order_of (map string_bytes words.now) ≡ Some order → result ≢ Usage }
-    ensures runs { (order : RunOrder) → order_of (map string_bytes words.now) ≡ Some (run order) → DoesRun order result
+    ensures does { DoesOrder (order_of (map string_bytes words.now)) result
         (seen D.files D.written D.printed desk.old) (seen D.files D.written D.printed desk.new)
-        (D.openings desk.old) (D.openings desk.new) }
-    ensures checks { (files : TwoFiles) → order_of (map string_bytes words.now) ≡ Some (check files) → DoesCheck files
-        result (seen D.files D.written D.printed desk.old) (seen D.files D.written D.printed desk.new)
-        (D.openings desk.old) (D.openings desk.new) }
-    ensures generates { (order : GenOrder) → order_of (map string_bytes words.now) ≡ Some (gen order) → DoesGen order
-        result (seen D.files D.written D.printed desk.old) (seen D.files D.written D.printed desk.new)
         (D.openings desk.old) (D.openings desk.new) (D.ready desk.new) }
-    ensures fires { (order : FireOrder) → order_of (map string_bytes words.now) ≡ Some (fire order) → DoesFire order result
-        (seen D.files D.written D.printed desk.old) (seen D.files D.written D.printed desk.new)
-        (D.openings desk.old) (D.openings desk.new) }
-    ensures closes { (order : ClosuresOrder) → order_of (map string_bytes words.now) ≡ Some (closures order) → DoesClosures order
-        result (seen D.files D.written D.printed desk.old) (seen D.files D.written D.printed desk.new)
-        (D.openings desk.old) (D.openings desk.new) }
-    ensures witnesses { (order : WitnessOrder) → order_of (map string_bytes words.now) ≡ Some (witness order) → DoesWitness
-        order result (seen D.files D.written D.printed desk.old) (seen D.files D.written D.printed desk.new)
-        (D.openings desk.old) (D.openings desk.new) }
-    ensures meets { (order : MeetOrder) → order_of (map string_bytes words.now) ≡ Some (meet order) → DoesMeet order result
-        (seen D.files D.written D.printed desk.old) (seen D.files D.written D.printed desk.new)
-        (D.openings desk.old) (D.openings desk.new) }
+    ensures never_usage { (order : Order) → order_of (map string_bytes words.now) ≡ Some order → result ≢ Usage }
 {
     match read_command(alloc, words, desk) {
         Ok(found) => carry_out(alloc, found, desk),
@@ -107,31 +80,10 @@ fn carry_out<D: Desk>(alloc: Global, found: Option<Command<'_>>, desk: &mut D) -
     ensures cause { HasCause result (D.counts desk.old) (D.counts desk.new) }
     ensures leaves { Leaves (option_map order_seen found.entry) result
         (seen D.files D.written D.printed desk.old) (seen D.files D.written D.printed desk.new) }
-    ensures usage { option_map order_seen found.entry ≡ None → AnswersUsage result
-        (seen D.files D.written D.printed desk.old) (seen D.files D.written D.printed desk.new) }
-    ensures never { option_map order_seen found.entry ≡ None → D.openings desk.new ≡ D.openings desk.old }
-    ensures never_usage { (order : Order) → option_map order_seen found.entry ≡ Some order → result ≢ Usage }
-    ensures runs { (order : RunOrder) → option_map order_seen found.entry ≡ Some (run order) → DoesRun order result
-        (seen D.files D.written D.printed desk.old) (seen D.files D.written D.printed desk.new)
-        (D.openings desk.old) (D.openings desk.new) }
-    ensures checks { (files : TwoFiles) → option_map order_seen found.entry ≡ Some (check files) → DoesCheck files
-        result (seen D.files D.written D.printed desk.old) (seen D.files D.written D.printed desk.new)
-        (D.openings desk.old) (D.openings desk.new) }
-    ensures generates { (order : GenOrder) → option_map order_seen found.entry ≡ Some (gen order) → DoesGen order result
+    ensures does { DoesOrder (option_map order_seen found.entry) result
         (seen D.files D.written D.printed desk.old) (seen D.files D.written D.printed desk.new)
         (D.openings desk.old) (D.openings desk.new) (D.ready desk.new) }
-    ensures fires { (order : FireOrder) → option_map order_seen found.entry ≡ Some (fire order) → DoesFire order result
-        (seen D.files D.written D.printed desk.old) (seen D.files D.written D.printed desk.new)
-        (D.openings desk.old) (D.openings desk.new) }
-    ensures closes { (order : ClosuresOrder) → option_map order_seen found.entry ≡ Some (closures order) → DoesClosures order
-        result (seen D.files D.written D.printed desk.old) (seen D.files D.written D.printed desk.new)
-        (D.openings desk.old) (D.openings desk.new) }
-    ensures witnesses { (order : WitnessOrder) → option_map order_seen found.entry ≡ Some (witness order) → DoesWitness
-        order result (seen D.files D.written D.printed desk.old) (seen D.files D.written D.printed desk.new)
-        (D.openings desk.old) (D.openings desk.new) }
-    ensures meets { (order : MeetOrder) → option_map order_seen found.entry ≡ Some (meet order) → DoesMeet order result
-        (seen D.files D.written D.printed desk.old) (seen D.files D.written D.printed desk.new)
-        (D.openings desk.old) (D.openings desk.new) }
+    ensures never_usage { (order : Order) → option_map order_seen found.entry ≡ Some order → result ≢ Usage }
 {
     match found {
         Some(Command::Run(words)) => run_words(alloc, &words, desk),

@@ -36,7 +36,7 @@ coefficient_up_to d nano e l = record { not_negative = rw e l.at_least; at_most 
 -- ---- pipes
 
 -- numbers are told by their billionths
-pub refused_pipe : (l d n k : Decimal) (us : Bool) → IsRefused (Pipe l d n k us)
+pub refused_pipe : (l d n k : Decimal) (us : Bool) → IsRefused (Pipe us l d n k)
     → IsRefusedPipe l.nano d.nano n.nano k.nano us
 refused_pipe l d n k us refused = record {
   l = l;
@@ -51,7 +51,7 @@ refused_pipe l d n k us refused = record {
 }
 
 pub refused_pipe_numbers : (l d n k : Decimal) (us : Bool) → IsRefusedPipe l.nano d.nano n.nano k.nano us
-    → IsRefused (Pipe l d n k us)
+    → IsRefused (Pipe us l d n k)
 refused_pipe_numbers l d n k us is =
     rw (
       ← Decimal-equal is.l l is.l_is,

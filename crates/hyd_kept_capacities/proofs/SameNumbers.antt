@@ -6,7 +6,7 @@ use Rattle.hyd_num.specs.declared.link_capacities.Origin.TheVariants.{Pipe}
 use Rattle.hyd_spec_power_laws.specs.declared.power_capacities.HazenWilliamsPipe.{HazenWilliamsPipe}
 
 pub same_origin : (l d r m l' d' r' m' : Decimal) (us us' : Bool) → l ≡ l' → d ≡ d' → r ≡ r' → m ≡ m' → us ≡ us'
-    → Pipe l d r m us ≡ Pipe l' d' r' m' us'
+    → Pipe us l d r m ≡ Pipe us' l' d' r' m'
 same_origin l d r m l' d' r' m' us us' a b c e f = rw (a, b, c, e, f) refl
 
 abbrev pipe_of : (l d c m : Decimal) → Bool → HazenWilliamsPipe

@@ -51,9 +51,9 @@ impl KeptCapacities {
         requires diameter { IsDiameter diameter }
         requires roughness { IsRoughness roughness }
         requires minor { IsMinorCoefficient minor }
-        ensures origin { IfOk result (λ c. c.origin ≡ Origin.Pipe length diameter roughness minor us) }
+        ensures origin { IfOk result (λ c. c.origin ≡ Origin.Pipe us length diameter roughness minor) }
         ensures promises { IfOk result (λ c. IsPipeCapacity c) }
-        ensures refused { OnErr result (IsRefused (Origin.Pipe length diameter roughness minor us)) }
+        ensures refused { OnErr result (IsRefused (Origin.Pipe us length diameter roughness minor)) }
     {
         let numbers = PipeNumbers {
             length,
@@ -96,12 +96,12 @@ impl KeptCapacities {
         requires diameter { IsDiameter diameter }
         requires roughness { IsRoughness roughness }
         requires minor { IsMinorCoefficient minor }
-        ensures origin { IfOk result (λ c. c.origin ≡ Origin.Pipe length diameter roughness minor us) }
+        ensures origin { IfOk result (λ c. c.origin ≡ Origin.Pipe us length diameter roughness minor) }
         ensures made { IfOk result (λ c. IsMade c) }
         ensures encloses { IfOk result (λ c. IsEnclosure c) }
         ensures sharp { IfOk result (λ c. IsSharp c) }
-        ensures accepted { OnOk result (¬ IsRefused (Origin.Pipe length diameter roughness minor us)) }
-        ensures refused { OnErr result (IsRefused (Origin.Pipe length diameter roughness minor us)) }
+        ensures accepted { OnOk result (¬ IsRefused (Origin.Pipe us length diameter roughness minor)) }
+        ensures refused { OnErr result (IsRefused (Origin.Pipe us length diameter roughness minor)) }
     {
         let capacity = self.made_pipe(length, diameter, roughness, minor, us)?;
         self.pipes.keep(capacity);
@@ -121,12 +121,12 @@ impl KeptCapacities {
         requires diameter { IsDiameter diameter }
         requires roughness { IsRoughness roughness }
         requires minor { IsMinorCoefficient minor }
-        ensures origin { IfOk result (λ c. c.origin ≡ Origin.Pipe length diameter roughness minor us) }
+        ensures origin { IfOk result (λ c. c.origin ≡ Origin.Pipe us length diameter roughness minor) }
         ensures made { IfOk result (λ c. IsMade c) }
         ensures encloses { IfOk result (λ c. IsEnclosure c) }
         ensures sharp { IfOk result (λ c. IsSharp c) }
-        ensures accepted { OnOk result (¬ IsRefused (Origin.Pipe length diameter roughness minor us)) }
-        ensures refused { OnErr result (IsRefused (Origin.Pipe length diameter roughness minor us)) }
+        ensures accepted { OnOk result (¬ IsRefused (Origin.Pipe us length diameter roughness minor)) }
+        ensures refused { OnErr result (IsRefused (Origin.Pipe us length diameter roughness minor)) }
     {
         let numbers = PipeNumbers {
             length,

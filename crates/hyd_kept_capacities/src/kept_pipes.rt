@@ -43,7 +43,7 @@ impl Model for KeptPipes {
 // Whether a capacity is made from these numbers.
 fn has_numbers(origin: Origin, numbers: PipeNumbers) -> bool
     ensures { OnTrue result
-        (origin ≡ Origin.Pipe numbers.length numbers.diameter numbers.roughness numbers.minor numbers.us) }
+        (origin ≡ Origin.Pipe numbers.us numbers.length numbers.diameter numbers.roughness numbers.minor) }
 {
     let Origin::Pipe {
         length,
@@ -92,7 +92,7 @@ impl KeptPipes {
     /// The last capacity, where it is of these numbers.
     pub(crate) fn last(&self, numbers: PipeNumbers) -> Option<Capacity>
         ensures origin { IfSome result (λ c. c.origin
-            ≡ Origin.Pipe numbers.length numbers.diameter numbers.roughness numbers.minor numbers.us) }
+            ≡ Origin.Pipe numbers.us numbers.length numbers.diameter numbers.roughness numbers.minor) }
         ensures promises { IfSome result (λ c. IsPipeCapacity c) }
     {
         let count = self.kept.len();
@@ -109,7 +109,7 @@ impl KeptPipes {
     /// The first capacity that isn't taken yet, where it is of these numbers.
     pub(crate) fn take(&mut self, numbers: PipeNumbers) -> Option<Capacity>
         ensures origin { IfSome result (λ c. c.origin
-            ≡ Origin.Pipe numbers.length numbers.diameter numbers.roughness numbers.minor numbers.us) }
+            ≡ Origin.Pipe numbers.us numbers.length numbers.diameter numbers.roughness numbers.minor) }
         ensures promises { IfSome result (λ c. IsPipeCapacity c) }
     {
         if self.taken >= self.kept.len() {

@@ -15,6 +15,8 @@ pub struct Fixed {
 #[derive(Clone, Copy, Drop)]
 pub struct Pda {
     pub demand: i64,
+    /// Whether the file's pressures are in pounds a square inch.
+    pub us: bool,
     pub cap: Capacity,
     pub p0: Span,
     pub pf: Span,
@@ -22,8 +24,6 @@ pub struct Pda {
     pub minimum: Decimal,
     /// The file's required pressure.
     pub required: Decimal,
-    /// Whether the file's pressures are in pounds a square inch.
-    pub us: bool,
 }
 
 /// The law of a junction's demand, by its head above the elevation.

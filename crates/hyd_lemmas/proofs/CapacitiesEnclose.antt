@@ -13,7 +13,7 @@ use Rattle.hyd_lemmas.proofs.PumpEmitterAndDemandPairs.{pressure-at_most, pressu
 
 pub pair-at_most : (origin : Origin) (r : Pair) (S q y : ℕ) → StandsFor origin r
     → (q * q) * denominator r.lo ≤ numerator r.lo * (S * y) → loss_at_most origin S q y
-pair-at_most (Pipe length diameter roughness minor us) r S q y made h = pipe-at_most length diameter roughness minor
+pair-at_most (Pipe us length diameter roughness minor) r S q y made h = pipe-at_most length diameter roughness minor
     us r S q y made h
 pair-at_most (Valve diameter k us) r S q y made h = valve-at_most diameter k us r S q y made h
 pair-at_most (Pump flow drop thirds unit) r S q y made h = pump-at_most flow drop thirds unit r S q y made h
@@ -23,7 +23,7 @@ pair-at_most (PressureDemand demand minimum required us) r S q y made h = pressu
 
 pub pair-at_least : (origin : Origin) (r : Pair) (S q y : ℕ) → StandsFor origin r
     → numerator r.hi * (S * y) ≤ (q * q) * denominator r.hi → loss_at_least origin S q y
-pair-at_least (Pipe length diameter roughness minor us) r S q y made h = pipe-at_least length diameter roughness minor
+pair-at_least (Pipe us length diameter roughness minor) r S q y made h = pipe-at_least length diameter roughness minor
     us r S q y made h
 pair-at_least (Valve diameter k us) r S q y made h = valve-at_least diameter k us r S q y made h
 pair-at_least (Pump flow drop thirds unit) r S q y made h = pump-at_least flow drop thirds unit r S q y made h

@@ -171,7 +171,7 @@ pipe-below (suc v) length diameter roughness minor us r s mr ms =
 
 -- of two pairs that one origin stands for, neither is above the other
 pub StandsFor-below : (origin : Origin) (r s : Pair) → StandsFor origin r → StandsFor origin s → IsBelow r s
-StandsFor-below (Pipe length diameter roughness minor us) r s mr ms = pipe-below (billionths minor) length diameter
+StandsFor-below (Pipe us length diameter roughness minor) r s mr ms = pipe-below (billionths minor) length diameter
     roughness minor us r s mr ms
 StandsFor-below (Valve diameter k us) r s mr ms =
     unit-below mr.lost ms.lost r s (minor-below diameter k us ms.lost mr.lost ms.lost_is mr.lost_is) mr.capacity_is

@@ -74,7 +74,7 @@ pipe-sharp (suc v) length diameter roughness minor us r made =
     (wider 24 22 made.fittings (minor-near diameter minor us made.fittings made.fittings_is))))
 
 pub pair-sharp : (origin : Origin) (r : Pair) → StandsFor origin r → high r * 2 ^ 40 ≤ low r * (2 ^ 40 + 1)
-pair-sharp (Pipe length diameter roughness minor us) r made = pipe-sharp (billionths minor) length diameter roughness
+pair-sharp (Pipe us length diameter roughness minor) r made = pipe-sharp (billionths minor) length diameter roughness
     minor us r made
 pair-sharp (Valve diameter k us) r made =
     near-sharp 28 r (lit≤ tt) (unit-near made.lost r 24 made.capacity_is

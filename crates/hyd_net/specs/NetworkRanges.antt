@@ -114,7 +114,7 @@ pub record IsPipeNumbers (unit : FlowUnit) (length diameter roughness minor : De
 
 -- the numbers of a pipe are in range
 abbrev pub IsPipe : FlowUnit → Origin → Type 0
-IsPipe unit (PipeOrigin length diameter roughness minor us) = IsPipeNumbers unit length diameter roughness minor us
+IsPipe unit (PipeOrigin us length diameter roughness minor) = IsPipeNumbers unit length diameter roughness minor us
 IsPipe unit _ = ⊥
 
 -- those of a pipe with a Hazen-Williams coefficient, in the same units

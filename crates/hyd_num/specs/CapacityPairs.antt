@@ -131,7 +131,7 @@ pub record IsPressurePair (demand : ℤ) (minimum required : Decimal) (us : Bool
 
 -- the pair that the numbers of a file stand for
 abbrev pub StandsFor : Origin → Pair → Type 0
-StandsFor (Pipe length diameter roughness minor us) r = IsPipePair length diameter roughness minor us r
+StandsFor (Pipe us length diameter roughness minor) r = IsPipePair length diameter roughness minor us r
 StandsFor (Valve diameter k us) r = IsValvePair diameter k us r
 StandsFor (Pump flow drop thirds unit) r = IsPumpPair flow drop thirds unit r
 StandsFor (Emitter coefficient unit) r = IsEmitterPair coefficient unit r

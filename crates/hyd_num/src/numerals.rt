@@ -2,7 +2,7 @@
 #![tactic(auto)]
 
 ghost use Rattle.std.specs.Prelude.{◌≡◌, ◌+◌, ◌-◌, ◌*◌, ◌/◌, ◌^◌, ◌<◌, ◌≤◌, ◌↔◌, ◌++◌, true, false, ◌&&◌, nat_le};
-ghost use Rattle.std.specs.Prelude.{if◌then◌else◌, [], min, length, fold, take, drop, IfOk, unwrap_or, position, pos};
+ghost use Rattle.std.specs.Prelude.{if◌then◌else◌, [], min, length, fold, take, drop, IfOk, IfSome, unwrap_or, position, pos};
 ghost use Rattle.std.specs.Prelude.{◌+ℤ◌, ◌-ℤ◌, unsigned_abs};
 ghost use Rattle.std.specs.List.{before_first, after_first, list_all, list_any};
 ghost use borrow.Author.Differences.{up, down};
@@ -35,10 +35,12 @@ pub fn read_decimal(text: &[u8]) -> Result<Decimal, NumFault>
     ensures value { IfOk result (λ d. d.nano ≡ nano_of text.now) }
 {
     let body = behind_sign(text);
-    let mantissa = before_mark(body);
-    let exponent = behind_mark(body);
-    let whole = before_point(mantissa);
-    let decimals = behind_point(mantissa);
+    let mark = mark(body);
+    let mantissa = before_mark(body, mark);
+    let exponent = behind_mark(body, mark);
+    let point = point(mantissa);
+    let whole = before_point(mantissa, point);
+    let decimals = behind_point(mantissa, point);
     if !is_numeral(whole, decimals, exponent, has_mark(body)) {
         return Err(NumFault::NotANumber);
     }
@@ -113,28 +115,32 @@ fn has_mark(text: &[u8]) -> bool
     text.iter().any(|c| *c == b'e' || *c == b'E')
 }
 
-fn before_mark(text: &[u8]) -> &[u8]
+fn before_mark(text: &[u8], mark: Option<usize>) -> &[u8]
+    requires { mark ≡ position is_exponent_mark text.now }
     ensures { result.now ≡ before_first is_exponent_mark text.now }
 {
-    before(text, mark(text))
+    before(text, mark)
 }
 
-fn behind_mark(text: &[u8]) -> &[u8]
+fn behind_mark(text: &[u8], mark: Option<usize>) -> &[u8]
+    requires { mark ≡ position is_exponent_mark text.now }
     ensures { result.now ≡ after_first is_exponent_mark text.now }
 {
-    behind(text, mark(text))
+    behind(text, mark)
 }
 
-fn before_point(text: &[u8]) -> &[u8]
+fn before_point(text: &[u8], point: Option<usize>) -> &[u8]
+    requires { point ≡ position is_point text.now }
     ensures { result.now ≡ before_first is_point text.now }
 {
-    before(text, point(text))
+    before(text, point)
 }
 
-fn behind_point(text: &[u8]) -> &[u8]
+fn behind_point(text: &[u8], point: Option<usize>) -> &[u8]
+    requires { point ≡ position is_point text.now }
     ensures { result.now ≡ after_first is_point text.now }
 {
-    behind(text, point(text))
+    behind(text, point)
 }
 
 /// What stands before a place, or all.
@@ -181,11 +187,34 @@ fn times_ten(first: u128, places: u32) -> u128
     requires { first ≤ BEYOND }
     ensures { result ≡ min (first * 10 ^ places) BEYOND }
 {
+    if let Some(power) = small_power_of_ten(places) {
+        return (first * power).min(BEYOND);
+    }
     let mut number = first;
     for _ in 0..places {
         number = (10 * number).min(BEYOND);
     }
     number
+}
+
+// The powers of ten by which numbers without an exponent are multiplied.
+fn small_power_of_ten(places: u32) -> Option<u128>
+    ensures power { IfSome result (λ power. power ≡ 10 ^ places) }
+    ensures small { IfSome result (λ power. power ≤ 10 ^ 9) }
+{
+    match places {
+        9 => Some(1_000_000_000),
+        8 => Some(100_000_000),
+        7 => Some(10_000_000),
+        6 => Some(1_000_000),
+        5 => Some(100_000),
+        4 => Some(10_000),
+        3 => Some(1_000),
+        2 => Some(100),
+        1 => Some(10),
+        0 => Some(1),
+        _ => None,
+    }
 }
 
 // The number of the first digits of two rows, `lost` of them left out, and no more than `BEYOND`.

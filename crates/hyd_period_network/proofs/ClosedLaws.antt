@@ -8,8 +8,10 @@ use Rattle.hyd_spec.specs.Law.{Law}
 use Rattle.hyd_spec.specs.DemandsHeadsAndPumpLifts.{is_us}
 use Rattle.hyd_law.specs.declared.link_law_kinds.LinkLaw.{LinkLaw}
 use Rattle.hyd_period_network.specs.declared.junctions_ends_and_settings.Setting.{Setting}
-use Rattle.hyd_period_network.specs.LawsInSettings.{Represents, AreLawsOf, AreLaws, IsClosedLaw, AreClosed}
+use Rattle.hyd_period_network.specs.LawsInSettings.{Represents, AreLawsOf, AreBothOf, AreBoth, IsClosedLaw, AreClosed}
 use Rattle.hyd_period_network.specs.LawsInSettings.{closed_setting}
+use Rattle.hyd_period_network.specs.BothLaws.{own_of, law_of}
+use Rattle.hyd_period_network.specs.declared.both_laws.BothLaws.{BothLaws}
 use Rattle.hyd_lemmas.proofs.ListsOptionsAndResults.{any_default}
 use Rattle.hyd_period_network.proofs.RangesOfLinkNumbers.{closed_is}
 use Rattle.hyd_period_network.proofs.OneLinkSet.{same_or}
@@ -26,32 +28,30 @@ closed_one us bends kind own law is also = record {
   law_room = also.room;
 }
 
-pub closed_stand : (project : Project) (links : List Link) (settings : List Setting) (own laws : List LinkLaw)
-    → AreClosed project links own → AreClosed project links laws
+pub closed_stand : (project : Project) (links : List Link) (settings : List Setting) (laws : List BothLaws)
+    → AreClosed project links laws
     → ((k : ℕ) (s : Setting) → k < length links → slice_index_or settings k s ≡ closed_setting)
-    → AreLaws project links settings own laws
-closed_stand project links settings own laws are also set k link setting o l within =
-    subst (λ (s : Setting). AreLawsOf (is_us project) project.bends.list (slice_index_or links k link).kind s
-    (slice_index_or own k o) (slice_index_or laws k l)) (sym (set k setting within))
-    (closed_one (is_us project) project.bends.list (slice_index_or links k link).kind (slice_index_or own k o)
-    (slice_index_or laws k l) (are k link o within) (also k link l within))
+    → AreBoth project links settings laws
+closed_stand project links settings laws are set k link setting b within =
+    let here = slice_index_or laws k b in
+    subst (λ (s : Setting). AreBothOf project (slice_index_or links k link) s here) (sym (set k setting within))
+    (closed_one (is_us project) project.bends.list (slice_index_or links k link).kind (own_of here) (law_of here)
+    (are k link b within).own (are k link b within).law)
 
-pub closed_more : (bends : List (ListView HeadPoint)) (links : List Link) (laws news : List LinkLaw) (i : ℕ)
-    (l : Link) (law : LinkLaw) → news ≡ laws ++ law ∷ [] → length laws ≡ i
-    → ((k : ℕ) (link : Link) (x : LinkLaw) → k < i → IsClosedLaw bends (slice_index_or links k link).kind
-    (slice_index_or laws k x))
-    → i < length links → IsClosedLaw bends (slice_index_or links i l).kind law
-    → (k : ℕ) (link : Link) (x : LinkLaw) → k < i + 1 → IsClosedLaw bends (slice_index_or links k link).kind
-    (slice_index_or news k x)
-closed_more bends links laws news i l law new n all within here k link x less =
-    elim (same_or k i) as (λ _. IsClosedLaw bends (slice_index_or links k link).kind (slice_index_or news k x)) [
-      | inl same ↦ subst (λ (j : ℕ). IsClosedLaw bends (slice_index_or links j link).kind (slice_index_or news j x))
-          (sym same)
-          (subst (λ (w : LinkLaw). IsClosedLaw bends (slice_index_or links i link).kind w)
-          (sym (ap (λ (ws : List LinkLaw). slice_index_or ws i x) new ∙ get_or-append_right laws (law ∷ []) i i x n
+-- what is so of both laws of each link that a net has so far is so with one more
+pub with_more : (P : Link → BothLaws → Type 0) (links : List Link) (laws news : List BothLaws) (i : ℕ)
+    (l : Link) (both : BothLaws) → news ≡ laws ++ both ∷ [] → length laws ≡ i
+    → ((k : ℕ) (link : Link) (b : BothLaws) → k < i → P (slice_index_or links k link) (slice_index_or laws k b))
+    → i < length links → P (slice_index_or links i l) both
+    → (k : ℕ) (link : Link) (b : BothLaws) → k < i + 1 → P (slice_index_or links k link) (slice_index_or news k b)
+with_more P links laws news i l both new n all within here k link b less =
+    elim (same_or k i) as (λ _. P (slice_index_or links k link) (slice_index_or news k b)) [
+      | inl same ↦ subst (λ (j : ℕ). P (slice_index_or links j link) (slice_index_or news j b)) (sym same)
+          (subst (λ (w : BothLaws). P (slice_index_or links i link) w)
+          (sym (ap (λ (ws : List BothLaws). slice_index_or ws i b) new ∙ get_or-append_right laws (both ∷ []) i i b n
           (omega arith) ∙ (let z : i - i ≡ 0 = omega arith in rw z refl)))
-          (subst (λ (q : Link). IsClosedLaw bends q.kind law) (any_default links i l link within) here))
-      | inr other ↦ subst (λ (w : LinkLaw). IsClosedLaw bends (slice_index_or links k link).kind w)
-          (sym (ap (λ (ws : List LinkLaw). slice_index_or ws k x) new ∙ get_or_append_left laws (law ∷ []) x k
-          (omega (arith, n, other)))) (all k link x (omega (arith, other)))
+          (subst (λ (q : Link). P q both) (any_default links i l link within) here))
+      | inr other ↦ subst (λ (w : BothLaws). P (slice_index_or links k link) w)
+          (sym (ap (λ (ws : List BothLaws). slice_index_or ws k b) new ∙ get_or_append_left laws (both ∷ []) b k
+          (omega (arith, n, other)))) (all k link b (omega (arith, other)))
     ]

@@ -1,3 +1,4 @@
+pub mod LawsOfBoth
 pub mod TwoNetsOfOnePeriod
 pub mod GridJunctionsAndLinks
 pub mod HeadsOfReservoirsAndTanks

@@ -4,10 +4,11 @@ use Rattle.std.proofs.Common.{refl, ap, sym, ◌∙◌, subst, arith}
 use Rattle.std.proofs.lemmas.List.{get_or-set_same, get_or-set_other}
 use Rattle.hyd_spec.specs.ProgramTypes.{Project, Link, LinkState}
 use Rattle.hyd_spec.specs.declared.TankState.{TankState}
-use Rattle.hyd_spec.specs.DemandsHeadsAndPumpLifts.{is_us}
-use Rattle.hyd_law.specs.declared.link_law_kinds.LinkLaw.{LinkLaw}
+use Rattle.hyd_period_network.specs.BothLaws.{AreFree}
+use Rattle.hyd_period_network.specs.declared.both_laws.BothLaws.{BothLaws}
+use Rattle.hyd_period_network.specs.declared.junctions_ends_and_settings.Ends.{Ends}
 use Rattle.hyd_period_network.specs.declared.junctions_ends_and_settings.Setting.{Setting}
-use Rattle.hyd_period_network.specs.LawsInSettings.{AreLawsOf, AreLaws, AreSet, setting_of}
+use Rattle.hyd_period_network.specs.LawsInSettings.{AreBothOf, AreBoth, AreSet, setting_of}
 use Rattle.hyd_lemmas.proofs.ListsOptionsAndResults.{any_default}
 
 pub same_or : (k i : ℕ) → (k ≡ i) ⊎ (k ≢ i)
@@ -16,43 +17,47 @@ same_or zero (suc i) = inr (λ e. absurd (omega arith))
 same_or (suc k) zero = inr (λ e. absurd (omega arith))
 same_or (suc k) (suc i) = elim (same_or k i) [ inl e ↦ inl (ap suc e) | inr n ↦ inr (λ e. n (omega arith)) ]
 
--- what holds of one link and its three values, by equations
-moved : (project : Project) (l l' : Link) (s s' : Setting) (o o' w w' : LinkLaw) → l ≡ l' → s ≡ s' → o ≡ o' → w ≡ w'
-    → AreLawsOf (is_us project) project.bends.list l.kind s o w → AreLawsOf (is_us project) project.bends.list l'.kind
-    s' o' w'
-moved project l l' s s' o o' w w' a b c d here =
-    subst (λ (x : LinkLaw). AreLawsOf (is_us project) project.bends.list l'.kind s' o' x) d
-    (subst (λ (x : LinkLaw). AreLawsOf (is_us project) project.bends.list l'.kind s' x w) c
-    (subst (λ (x : Setting). AreLawsOf (is_us project) project.bends.list l'.kind x o w) b
-    (subst (λ (x : Link). AreLawsOf (is_us project) project.bends.list x.kind s o w) a here)))
+-- what holds of one link, its setting and its laws, by equations
+moved : (project : Project) (l l' : Link) (s s' : Setting) (b b' : BothLaws) → l ≡ l' → s ≡ s' → b ≡ b'
+    → AreBothOf project l s b → AreBothOf project l' s' b'
+moved project l l' s s' b b' el es eb here =
+    subst (λ (x : BothLaws). AreBothOf project l' s' x) eb
+    (subst (λ (x : Setting). AreBothOf project l' x b) es (subst (λ (x : Link). AreBothOf project x s b) el here))
 
-pub laws_set : (project : Project) (links : List Link) (settings : List Setting) (own laws : List LinkLaw) (i : ℕ)
-    (s : Setting) (o w : LinkLaw) (l : Link)
-    → AreLaws project links settings own laws → i < length links → i < length settings → i < length own
-    → i < length laws
-    → AreLawsOf (is_us project) project.bends.list (slice_index_or links i l).kind s o w
-    → AreLaws project links (slice_set settings i s) (slice_set own i o) (slice_set laws i w)
-laws_set project links settings own laws i s o w l all hl hs ho hw here k link setting before law h =
-    elim (same_or k i) as (λ _. AreLawsOf (is_us project) project.bends.list (slice_index_or links k link).kind
-    (slice_index_or (slice_set settings i s) k setting)
-    (slice_index_or (slice_set own i o) k before) (slice_index_or (slice_set laws i w) k law)) [
-      | inl e ↦ subst (λ (j : ℕ). AreLawsOf (is_us project) project.bends.list (slice_index_or links j link).kind
-          (slice_index_or (slice_set settings i s) j setting)
-          (slice_index_or (slice_set own i o) j before) (slice_index_or (slice_set laws i w) j law)) (sym e)
+pub both_set : (project : Project) (links : List Link) (settings : List Setting) (laws : List BothLaws) (i : ℕ)
+    (s : Setting) (b : BothLaws) (l : Link)
+    → AreBoth project links settings laws → i < length links → i < length settings → i < length laws
+    → AreBothOf project (slice_index_or links i l) s b
+    → AreBoth project links (slice_set settings i s) (slice_set laws i b)
+both_set project links settings laws i s b l all hl hs hw here k link setting both h =
+    elim (same_or k i) as (λ _. AreBothOf project (slice_index_or links k link)
+    (slice_index_or (slice_set settings i s) k setting) (slice_index_or (slice_set laws i b) k both)) [
+      | inl e ↦ subst (λ (j : ℕ). AreBothOf project (slice_index_or links j link)
+          (slice_index_or (slice_set settings i s) j setting) (slice_index_or (slice_set laws i b) j both)) (sym e)
           (moved project (slice_index_or links i l) (slice_index_or links i link) s
-          (slice_index_or (slice_set settings i s) i setting)
-          o (slice_index_or (slice_set own i o) i before) w (slice_index_or (slice_set laws i w) i law)
+          (slice_index_or (slice_set settings i s) i setting) b (slice_index_or (slice_set laws i b) i both)
           (any_default links i l link hl) (sym (get_or-set_same settings i s setting hs))
-          (sym (get_or-set_same own i o before ho)) (sym (get_or-set_same laws i w law hw)) here)
+          (sym (get_or-set_same laws i b both hw)) here)
       | inr n ↦
           moved project (slice_index_or links k link) (slice_index_or links k link)
           (slice_index_or settings k setting) (slice_index_or (slice_set settings i s) k setting)
-          (slice_index_or own k before) (slice_index_or (slice_set own i o) k before) (slice_index_or laws k law)
-          (slice_index_or (slice_set laws i w) k law)
-          refl (sym (get_or-set_other settings i k s setting n)) (sym (get_or-set_other own i k o before n))
-          (sym (get_or-set_other laws i k w law n))
-          (all k link setting before law h)
+          (slice_index_or laws k both) (slice_index_or (slice_set laws i b) k both)
+          refl (sym (get_or-set_other settings i k s setting n)) (sym (get_or-set_other laws i k b both n))
+          (all k link setting both h)
     ]
+
+-- the room for a second law stays
+pub free_set : (before : ℕ) (ends : List Ends) (laws : List BothLaws) (i : ℕ) (b : BothLaws)
+    → AreFree before ends laws → i < length laws
+    → ((both : BothLaws) → length b.between.items ≡ length (slice_index_or laws i both).between.items)
+    → AreFree before ends (slice_set laws i b)
+free_set before ends laws i b all hw same k e both h none =
+    all k e both h (elim (same_or k i) as (λ _. length (slice_index_or laws k both).between.items ≡ 0) [
+      | inl there ↦ subst (λ (j : ℕ). length (slice_index_or laws j both).between.items ≡ 0) (sym there)
+          (sym (same both) ∙ ap (λ (x : BothLaws). length x.between.items) (sym (get_or-set_same laws i b both hw))
+          ∙ subst (λ (j : ℕ). length (slice_index_or (slice_set laws i b) j both).between.items ≡ 0) there none)
+      | inr n ↦ ap (λ (x : BothLaws). length x.between.items) (sym (get_or-set_other laws i k b both n)) ∙ none
+    ])
 
 pub sets_more : (project : Project) (tanks : List TankState) (links : List Link) (states : List LinkState)
     (settings : List Setting) (i : ℕ) (s : Setting) (l : Link) (q : LinkState)

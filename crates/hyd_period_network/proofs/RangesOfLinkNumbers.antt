@@ -32,7 +32,7 @@ head_from false z some = omega (arith, ints, some)
 
 shutoff_by : (unit : FlowUnit) (head : ShutoffHead) (o : Origin) → IsPumpOrigin unit head o
     → IsShutoff (is_us_unit unit) head
-shutoff_by unit head (Pipe length diameter roughness minor us) is = absurd is
+shutoff_by unit head (Pipe us length diameter roughness minor) is = absurd is
 shutoff_by unit head (Valve diameter k us) is = absurd is
 shutoff_by unit (FourThirds h) (Pump flow drop thirds own) is =
     let a = head_from (is_us_unit unit) h.nano is.1.above in omega (arith, ints, is.1.range, a)

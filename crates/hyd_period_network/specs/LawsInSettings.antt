@@ -22,7 +22,9 @@ use Rattle.hyd_spec_certificates.specs.EnclosingFunctions.{low, high}
 use Rattle.hyd_law.specs.LinkLaws.{link_at_least, link_at_most, link_low, link_high, IsSoundLink, LinkAccepts}
 use Rattle.hyd_law.specs.declared.link_law_kinds.LinkLaw.{LinkLaw}
 use Rattle.hyd_law.specs.declared.link_law_kinds.LinkLaw.TheVariants.{Bent}
+use Rattle.hyd_period_network.specs.BothLaws.{own_of, law_of}
 use Rattle.hyd_period_network.specs.ExactLaw.{exact_law}
+use Rattle.hyd_period_network.specs.declared.both_laws.BothLaws.{BothLaws}
 use Rattle.hyd_period_network.specs.declared.junctions_ends_and_settings.Setting.{Setting}
 
 -- a law of the program stands for an exact law: it says the same of the exact flow, it has its enclosing functions, its
@@ -84,7 +86,27 @@ pub record AreLawsOf (us : Bool) (bends : List (ListView HeadPoint)) (kind : Lin
   pub own_room : HasRoomFor bends kind own
   pub law_room : HasRoomFor bends kind law
 
+-- a law is sound, and has room for the knots of a curve
+pub record IsHeld (bends : List (ListView HeadPoint)) (kind : LinkKind) (law : LinkLaw) : Type 0 where
+  pub sound : IsSoundLink law
+  pub room : HasRoomFor bends kind law
+
+-- so are both laws of a link
+pub record AreSoundBoth (bends : List (ListView HeadPoint)) (kind : LinkKind) (both : BothLaws) : Type 0 where
+  pub own : IsHeld bends kind (own_of both)
+  pub law : IsHeld bends kind (law_of both)
+
+-- the same of laws that one holds
+abbrev pub AreBothOf : Project → Link → Setting → BothLaws → Type 0
+AreBothOf project link setting both =
+    AreLawsOf (is_us project) project.bends.list link.kind setting (own_of both) (law_of both)
+
 -- so it is for each link of a network
+abbrev pub AreBoth : Project → List Link → List Setting → List BothLaws → Type 0
+AreBoth project links settings laws = (k : ℕ) (link : Link) (setting : Setting) (both : BothLaws) → k < length links
+    → AreBothOf project (slice_index_or links k link) (slice_index_or settings k setting) (slice_index_or laws k both)
+
+-- so it is for each link of a network, of lists of both
 abbrev pub AreLaws : Project → List Link → List Setting → List LinkLaw → List LinkLaw → Type 0
 AreLaws project links settings own laws = (k : ℕ) (link : Link) (setting : Setting) (o l : LinkLaw) → k < length links
     → AreLawsOf (is_us project) project.bends.list (slice_index_or links k link).kind
@@ -120,10 +142,15 @@ pub record IsClosedLaw (bends : List (ListView HeadPoint)) (kind : LinkKind) (la
   pub represents : Represents law Shut
   pub room : HasRoomFor bends kind law
 
+-- both laws of a closed link of a kind
+pub record AreBothClosed (bends : List (ListView HeadPoint)) (kind : LinkKind) (both : BothLaws) : Type 0 where
+  pub own : IsClosedLaw bends kind (own_of both)
+  pub law : IsClosedLaw bends kind (law_of both)
+
 -- so it is for each link of a network
-abbrev pub AreClosed : Project → List Link → List LinkLaw → Type 0
-AreClosed project links laws = (k : ℕ) (link : Link) (law : LinkLaw) → k < length links
-    → IsClosedLaw project.bends.list (slice_index_or links k link).kind (slice_index_or laws k law)
+abbrev pub AreClosed : Project → List Link → List BothLaws → Type 0
+AreClosed project links laws = (k : ℕ) (link : Link) (both : BothLaws) → k < length links
+    → AreBothClosed project.bends.list (slice_index_or links k link).kind (slice_index_or laws k both)
 
 -- a kind without a curve by straight lines
 abbrev pub HasNoCurve : LinkKind → Type 0

@@ -1,3 +1,4 @@
+pub mod BothLaws
 pub mod NetView
 pub mod LinkEnds
 pub mod Demands

@@ -1,7 +1,7 @@
 //! The laws of links in their settings.
 #![tactic(auto)]
 
-ghost use Rattle.std.specs.Prelude.{◌≡◌, ℕ, ℤ, Bool, true, not, List, if◌then◌else◌};
+ghost use Rattle.std.specs.Prelude.{◌≡◌, ℕ, ℤ, Bool, true, false, not, List, length, if◌then◌else◌};
 ghost use Rattle.std.specs.Bool.{OnTrue, OnFalse};
 ghost use Rattle.hyd_law.specs.ComposedLaws.{directed};
 ghost use Rattle.hyd_law.specs.LinkLaws.{IsSoundLink};
@@ -14,11 +14,13 @@ ghost use Rattle.hyd_spec.specs.Law.{Law};
 ghost use Rattle.hyd_spec.specs.Law as exact;
 ghost use Rattle.hyd_spec.specs.LinkLaw as spec;
 ghost use Rattle.hyd_spec.specs.DemandsHeadsAndPumpLifts.{is_us};
+ghost use Rattle.hyd_period_network.specs.BothLaws.{own_of, law_of};
 ghost use Rattle.hyd_period_network.specs.ExactLaw.{one_way_law};
 ghost use Rattle.hyd_period_network.specs.LawsInSettings.{Stands, Represents, HasRoom, HasRoomFor, HasNoCurve};
 ghost use Rattle.hyd_period_network.specs.LawsInSettings.{HasShutoff, IsLawMade};
-ghost use Rattle.hyd_period_network.specs.LawsInSettings.{CanStand, AreLawsOf, IsShutBetween, restricted};
+ghost use Rattle.hyd_period_network.specs.LawsInSettings.{CanStand, AreLawsOf, AreSoundBoth, IsShutBetween, restricted};
 
+use crate::both_laws::BothLaws;
 use crate::curves::{closed_curve, curve_pump_law, curve_valve_law, knots_of, points_of};
 use crate::junctions_ends_and_settings::Setting;
 use crate::pumps::pump_law;
@@ -402,25 +404,69 @@ fn is_same(a: &Setting, b: &Setting) -> bool
         && is_same_state(&a.state, &b.state)
 }
 
+// Makes a law a link's own in a state.
+fn set_own(project: &Project, kind: &LinkKind, state: &LinkState, own: &mut LinkLaw)
+    requires can { CanStand project.now kind.now state.now }
+    requires sound { IsSoundLink own.old }
+    requires room { HasRoomFor project.now.bends.list kind.now own.old }
+    ensures represents { Represents own.new (spec.own_law (is_us project.now) project.now.bends.list kind.now
+        state.now) }
+    ensures room { HasRoomFor project.now.bends.list kind.now own.new }
+{
+    let held = mem::replace(own, LinkLaw::Shut(Shut));
+    *own = own_law(project, kind, state, held);
+}
+
+// Makes a law that of a link in a setting.
+fn set_law(project: &Project, kind: &LinkKind, setting: &Setting, law: &mut LinkLaw)
+    requires can { CanStand project.now kind.now setting.now.state }
+    requires sound { IsSoundLink law.old }
+    requires room { HasRoomFor project.now.bends.list kind.now law.old }
+    ensures stands { Stands law.new (restricted setting.now.no_forward setting.now.no_reverse
+        (spec.own_law (is_us project.now) project.now.bends.list kind.now setting.now.state)) }
+    ensures shut { IsShutBetween setting.now law.new }
+    ensures room { HasRoomFor project.now.bends.list kind.now law.new }
+{
+    let held = mem::replace(law, LinkLaw::Shut(Shut));
+    *law = restricted(own_law(project, kind, &setting.state, held), setting);
+}
+
+// Makes both laws of a link those of a setting.
+fn set_both(project: &Project, kind: &LinkKind, setting: &Setting, laws: &mut BothLaws)
+    requires can { CanStand project.now kind.now setting.now.state }
+    requires held { AreSoundBoth project.now.bends.list kind.now laws.old }
+    requires free { length laws.old.between.items ≡ 0 → (setting.now.no_forward ≡ false)
+        × (setting.now.no_reverse ≡ false) }
+    ensures stand { AreLawsOf (is_us project.now) project.now.bends.list kind.now setting.now (own_of laws.new)
+        (law_of laws.new) }
+    ensures count { length laws.new.between.items ≡ length laws.old.between.items }
+{
+    set_own(project, kind, &setting.state, &mut laws.own);
+    if laws.between.len() > 0 {
+        set_law(project, kind, setting, &mut laws.between[0]);
+    }
+}
+
 /// Puts a link into a setting. Where it is in that setting, nothing is written. No memory is taken.
 pub(crate) fn set_link(
     project: &Project,
     kind: &LinkKind,
     wanted: &Setting,
     setting: &mut Setting,
-    own: &mut LinkLaw,
-    law: &mut LinkLaw,
+    laws: &mut BothLaws,
 )
     requires can { CanStand project.now kind.now wanted.now.state }
-    requires stand { AreLawsOf (is_us project.now) project.now.bends.list kind.now setting.old own.old law.old }
-    ensures stand { AreLawsOf (is_us project.now) project.now.bends.list kind.now setting.new own.new law.new }
+    requires stand { AreLawsOf (is_us project.now) project.now.bends.list kind.now setting.old (own_of laws.old)
+        (law_of laws.old) }
+    requires free { length laws.old.between.items ≡ 0 → (wanted.now.no_forward ≡ false)
+        × (wanted.now.no_reverse ≡ false) }
+    ensures stand { AreLawsOf (is_us project.now) project.now.bends.list kind.now setting.new (own_of laws.new)
+        (law_of laws.new) }
     ensures set { setting.new ≡ wanted.now }
+    ensures count { length laws.new.between.items ≡ length laws.old.between.items }
 {
     if !is_same(setting, wanted) {
-        let held_own = mem::replace(own, LinkLaw::Shut(Shut));
-        let held = mem::replace(law, LinkLaw::Shut(Shut));
-        *own = own_law(project, kind, &wanted.state, held_own);
-        *law = restricted(own_law(project, kind, &wanted.state, held), wanted);
+        set_both(project, kind, wanted, laws);
         *setting = *wanted;
     }
 }

@@ -1,16 +1,20 @@
 //! The laws of closed links, with which a net opens.
 #![tactic(auto)]
 
-ghost use Rattle.std.specs.Prelude.{◌≡◌, ◌≤◌, ◌+◌, ◌*◌, length, IfOk};
+ghost use Rattle.std.specs.Prelude.{◌≡◌, ◌≤◌, ◌<◌, ◌+◌, ◌*◌, ◌^◌, false, length, map, All, IfOk};
 ghost use Rattle.hyd_net.specs.Curves.{IsPumpCurve, IsLossCurve};
 ghost use Rattle.hyd_net.specs.NetworkRanges.{HasSizes};
 ghost use Rattle.hyd_net.specs.Sound.{IsSound};
 ghost use Rattle.hyd_spec.specs.Law as exact;
-ghost use Rattle.hyd_period_network.specs.LawsInSettings.{Represents, HasRoom, IsClosedLaw, AreClosed};
+ghost use Rattle.hyd_spec.specs.NodeNumbers.{nodes_before_tanks};
+ghost use Rattle.hyd_period_network.specs.BothLaws.{IsFree, AreFree};
+ghost use Rattle.hyd_period_network.specs.LawsInSettings.{Represents, HasRoom, IsClosedLaw, AreBothClosed, AreClosed};
+ghost use Rattle.hyd_period_network.specs.NetsSetToPeriods.{ends_of};
 
+use crate::both_laws::BothLaws;
 use crate::curves::{closed_curve, points_of, write_pump_knots, write_valve_knots};
 use hyd_law::{Knot, LinkLaw, Shut};
-use hyd_net::{HeadPoint, LinkKind, List, Project};
+use hyd_net::{HeadPoint, Link, LinkKind, List, Project};
 use std::alloc::{AllocError as OutOfMemory, Global};
 
 const SPEED_ONE: i64 = 1_000_000_000;
@@ -60,16 +64,59 @@ fn closed_law(alloc: Global, project: &Project, kind: &LinkKind) -> Result<LinkL
     }
 }
 
-/// The law of each link of a network, all closed.
-pub(crate) fn closed_laws(alloc: Global, project: &Project) -> Result<Vec<LinkLaw>, OutOfMemory>
+// Whether a link ends at a tank.
+fn ends_at_tank(project: &Project, link: &Link) -> bool
+    requires few { length project.now.junctions.list + length project.now.reservoirs.list ≤ 2 ^ 32 }
+    ensures { result ≡ false → (link.now.from < nodes_before_tanks project.now)
+        × (link.now.to < nodes_before_tanks project.now) }
+{
+    let before = project.junctions.len() + project.reservoirs.len();
+    link.from as usize >= before || link.to as usize >= before
+}
+
+// The law between tanks of a link that ends at one, closed.
+fn closed_between(
+    alloc: Global,
+    project: &Project,
+    link: &Link,
+) -> Result<Vec<LinkLaw>, OutOfMemory>
+    requires few { length project.now.junctions.list + length project.now.reservoirs.list ≤ 2 ^ 32 }
+    requires sizes { HasSizes project.now.options.unit project.now.patterns.list project.now.bends.list link.now.kind }
+    ensures closed { IfOk result (λ laws. All (IsClosedLaw project.now.bends.list link.now.kind) laws.items) }
+    ensures free { IfOk result (λ laws. length laws.items ≡ 0 → (link.now.from < nodes_before_tanks project.now)
+        × (link.now.to < nodes_before_tanks project.now)) }
+{
+    let mut laws = Vec::new(alloc);
+    if ends_at_tank(project, link) {
+        laws.push(closed_law(alloc, project, &link.kind)?)?;
+    }
+    Ok(laws)
+}
+
+// Both laws of a link, closed.
+fn closed_both(alloc: Global, project: &Project, link: &Link) -> Result<BothLaws, OutOfMemory>
+    requires few { length project.now.junctions.list + length project.now.reservoirs.list ≤ 2 ^ 32 }
+    requires sizes { HasSizes project.now.options.unit project.now.patterns.list project.now.bends.list link.now.kind }
+    ensures closed { IfOk result (AreBothClosed project.now.bends.list link.now.kind) }
+    ensures free { IfOk result (IsFree (nodes_before_tanks project.now) link.now.from link.now.to) }
+{
+    let between = closed_between(alloc, project, link)?;
+    let own = closed_law(alloc, project, &link.kind)?;
+    Ok(BothLaws { between, own })
+}
+
+/// Both laws of each link of a network, all closed.
+pub(crate) fn closed_laws(alloc: Global, project: &Project) -> Result<Vec<BothLaws>, OutOfMemory>
     requires { IsSound project.now }
     ensures count { IfOk result (λ laws. length laws.items ≡ length project.now.links.list) }
     ensures closed { IfOk result (λ laws. AreClosed project.now project.now.links.list laws.items) }
+    ensures free { IfOk result (λ laws. AreFree (nodes_before_tanks project.now)
+        (map ends_of project.now.links.list) laws.items) }
 {
     let links = project.links.as_slice();
     let mut laws = Vec::with_capacity(alloc, links.len())?;
     for link in links {
-        laws.push(closed_law(alloc, project, &link.kind)?)?;
+        laws.push(closed_both(alloc, project, link)?)?;
     }
     Ok(laws)
 }

@@ -3,6 +3,7 @@
 //! Tested by `hyd_tests_on_laws_periods_and_tanks` and `hyd_tests_on_nets`.
 #![tactic(auto)]
 
+mod both_laws;
 mod curves;
 mod demands;
 mod fault;

@@ -9,7 +9,7 @@ use smallvec::SmallVec;
 use std::alloc::{AllocError as OutOfMemory, Global};
 
 // Appends a link end to the row of its node, where the node is a junction.
-fn add_tie(rows: &mut Vec<SmallVec<Tie, 6>>, node: u32, tie: Tie) -> Result<(), OutOfMemory>
+fn add_tie(rows: &mut Vec<SmallVec<Tie, 4>>, node: u32, tie: Tie) -> Result<(), OutOfMemory>
     ensures { OnOk result (AddsTie node tie rows.old.items rows.new.items) }
 {
     if (node as usize) < rows.len() {
@@ -18,7 +18,7 @@ fn add_tie(rows: &mut Vec<SmallVec<Tie, 6>>, node: u32, tie: Tie) -> Result<(), 
     Ok(())
 }
 
-fn empty_rows(alloc: Global, junctions: usize) -> Result<Vec<SmallVec<Tie, 6>>, OutOfMemory>
+fn empty_rows(alloc: Global, junctions: usize) -> Result<Vec<SmallVec<Tie, 4>>, OutOfMemory>
     ensures count { IfOk result (λ rows. length rows.items ≡ junctions) }
     ensures each { IfOk result (λ rows. AreRows [] rows.items) }
 {
@@ -34,7 +34,7 @@ pub(crate) fn rows_of(
     alloc: Global,
     junctions: usize,
     ends: &[Ends],
-) -> Result<Vec<SmallVec<Tie, 6>>, OutOfMemory>
+) -> Result<Vec<SmallVec<Tie, 4>>, OutOfMemory>
     requires { length ends.now ≤ 2 ^ 31 }
     ensures count { IfOk result (λ rows. length rows.items ≡ junctions) }
     ensures each { IfOk result (λ rows. AreRows ends.now rows.items) }

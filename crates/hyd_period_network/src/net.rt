@@ -1,8 +1,9 @@
 //! The network of a period.
 #![tactic(auto)]
 
+use crate::both_laws::BothLaws;
 use crate::junctions_ends_and_settings::{Ends, NetJunction, Setting, Tie};
-use hyd_law::{LinkLaw, OutLaw};
+use hyd_law::OutLaw;
 use hyd_spec_certificates::LevelSpan;
 use smallvec::SmallVec;
 use std::marker::Model;
@@ -17,18 +18,18 @@ pub struct Net {
     pub(crate) tanks: Vec<LevelSpan>,
     pub(crate) ends: Vec<Ends>,
     pub(crate) settings: Vec<Setting>,
-    pub(crate) own: Vec<LinkLaw>,
-    pub(crate) laws: Vec<LinkLaw>,
-    pub(crate) rows: Vec<SmallVec<Tie, 6>>,
+    pub(crate) laws: Vec<BothLaws>,
+    pub(crate) rows: Vec<SmallVec<Tie, 4>>,
 }
 
 impl Model for Net {
-    ghost use Rattle.std.specs.Prelude.{◌+◌, length};
+    ghost use Rattle.std.specs.Prelude.{◌+◌, length, map};
     ghost use Rattle.std.specs.Coded.{codes};
     ghost use Rattle.hyd_spec_power_laws.specs.contracts.power_capacities.PowerCapacity as power;
     ghost use Rattle.hyd_period_network.specs.NetView.{NetView};
     ghost use Rattle.hyd_period_network.specs.SoundNets.{IsSoundNet};
     ghost use Rattle.hyd_period_network.specs.LinkEnds.{AreRowsOf};
+    ghost use Rattle.hyd_period_network.specs.BothLaws.{own_of, law_of, AreFree};
 
     ghost Value = { NetView };
 
@@ -42,8 +43,8 @@ impl Model for Net {
       tanks = n.tanks.items;
       ends = n.ends.items;
       settings = n.settings.items;
-      own = n.own.items;
-      laws = n.laws.items;
+      own = map own_of n.laws.items;
+      laws = map law_of n.laws.items;
     } };
 
     ghost invariant = { λ n. IsSoundNet (record {
@@ -53,8 +54,9 @@ impl Model for Net {
       tanks = n.tanks.items;
       ends = n.ends.items;
       settings = n.settings.items;
-      own = n.own.items;
-      laws = n.laws.items;
-    }) × AreRowsOf (length n.junctions.items + length n.reservoirs.items
-        + length n.tanks.items) n.ends.items n.rows.items };
+      own = map own_of n.laws.items;
+      laws = map law_of n.laws.items;
+    }) × (AreRowsOf (length n.junctions.items + length n.reservoirs.items
+        + length n.tanks.items) n.ends.items n.rows.items
+        × AreFree (length n.junctions.items + length n.reservoirs.items) n.ends.items n.laws.items) };
 }

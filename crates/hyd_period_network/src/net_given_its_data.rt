@@ -64,13 +64,6 @@ impl Net {
         give_demands(project, demands, &mut self.demands);
         give_heads(heads, &mut self.reservoirs);
         set_tanks(project, levels, &mut self.tanks);
-        set_links(
-            project,
-            links,
-            tanks,
-            &mut self.settings,
-            &mut self.own,
-            &mut self.laws,
-        );
+        set_links(project, links, tanks, &mut self.settings, &mut self.laws);
     }
 }

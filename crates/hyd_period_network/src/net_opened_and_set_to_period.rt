@@ -45,7 +45,6 @@ impl Net {
         let tanks = copies(alloc, LevelSpan { lo: 0, hi: 0 }, project.tanks.len())?;
         let ends = all_ends(alloc, project.links.as_slice())?;
         let settings = copies(alloc, shut, project.links.len())?;
-        let own = closed_laws(alloc, project)?;
         let laws = closed_laws(alloc, project)?;
         let nodes = junctions.len() + reservoirs.len() + tanks.len();
         let rows = rows_of(alloc, nodes, &ends)?;
@@ -56,7 +55,6 @@ impl Net {
             tanks,
             ends,
             settings,
-            own,
             laws,
             rows,
         })
@@ -95,14 +93,7 @@ impl Net {
         set_demands(project, time, kept, &mut self.demands);
         set_reservoirs(project, time, &mut self.reservoirs);
         set_tanks(project, levels, &mut self.tanks);
-        set_links(
-            project,
-            links,
-            tanks,
-            &mut self.settings,
-            &mut self.own,
-            &mut self.laws,
-        );
+        set_links(project, links, tanks, &mut self.settings, &mut self.laws);
         Ok(())
     }
 }

@@ -121,7 +121,7 @@ impl Net {
         ensures value { slice_get self.now.own link ≡ Some result.now }
         ensures stands { Stands result.now (exact_law result.now) }
     {
-        &self.own[link as usize]
+        &self.laws[link as usize].own
     }
 
     /// The law of a link in its state, between tanks that may be full or empty.
@@ -132,7 +132,7 @@ impl Net {
         ensures sound { IsSoundLink result.now }
         ensures accepts { (d : ℤ) → unsigned_abs d ≤ 2 * box_limit → LinkAccepts result.now d }
     {
-        &self.laws[link as usize]
+        self.laws[link as usize].law()
     }
 
     /// The head of a node that is a reservoir or a tank, in head ticks, in a problem and on a side.

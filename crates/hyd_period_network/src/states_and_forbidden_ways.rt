@@ -1,15 +1,18 @@
 //! The settings of links: their states, and the ways that full and empty tanks forbid.
 #![tactic(auto)]
 
-ghost use Rattle.std.specs.Prelude.{◌≡◌, ◌+◌, ◌^◌, ◌≤◌, ◌<◌, length, false};
+ghost use Rattle.std.specs.Prelude.{◌≡◌, ◌+◌, ◌^◌, ◌≤◌, ◌<◌, length, map, false};
 ghost use Rattle.std.specs.Option.{option_map_or};
 ghost use Rattle.hyd_spec.specs.LinkLaw.{is_full, is_empty, overflows};
+ghost use Rattle.hyd_spec.specs.NodeNumbers.{nodes_before_tanks};
 ghost use Rattle.hyd_net.specs.Sound.{IsSound};
-ghost use Rattle.hyd_period_network.specs.LawsInSettings.{tank_state, setting_of, AreLaws, AreSet, AreStates};
+ghost use Rattle.hyd_period_network.specs.LawsInSettings.{tank_state, setting_of, AreBoth, AreSet, AreStates};
+ghost use Rattle.hyd_period_network.specs.BothLaws.{AreFree};
+ghost use Rattle.hyd_period_network.specs.NetsSetToPeriods.{ends_of};
 
+use crate::both_laws::BothLaws;
 use crate::junctions_ends_and_settings::Setting;
 use crate::laws::set_link;
-use hyd_law::LinkLaw;
 use hyd_net::{Link, LinkState, Project};
 use hyd_spec::TankState;
 
@@ -88,19 +91,18 @@ pub(crate) fn set_links(
     states: &[LinkState],
     tanks: &[TankState],
     settings: &mut [Setting],
-    own: &mut [LinkLaw],
-    laws: &mut [LinkLaw],
+    laws: &mut [BothLaws],
 )
     requires sound { IsSound project.now }
     requires states { AreStates project.now states.now }
     requires each_setting { length settings.old ≡ length project.now.links.list }
-    requires each_own { length own.old ≡ length project.now.links.list }
     requires each_law { length laws.old ≡ length project.now.links.list }
-    requires stand { AreLaws project.now project.now.links.list settings.old own.old laws.old }
+    requires stand { AreBoth project.now project.now.links.list settings.old laws.old }
+    requires free { AreFree (nodes_before_tanks project.now) (map ends_of project.now.links.list) laws.old }
     ensures count_settings { length settings.new ≡ length settings.old }
-    ensures count_own { length own.new ≡ length own.old }
     ensures count_laws { length laws.new ≡ length laws.old }
-    ensures stand { AreLaws project.now project.now.links.list settings.new own.new laws.new }
+    ensures stand { AreBoth project.now project.now.links.list settings.new laws.new }
+    ensures free { AreFree (nodes_before_tanks project.now) (map ends_of project.now.links.list) laws.new }
     ensures set { AreSet project.now tanks.now project.now.links.list states.now settings.new
         (length project.now.links.list) }
 {
@@ -112,7 +114,6 @@ pub(crate) fn set_links(
             &links[i].kind,
             &wanted,
             &mut settings[i],
-            &mut own[i],
             &mut laws[i],
         );
     }

@@ -10,11 +10,10 @@ pub record IsSpan (places : ℕ) (span : Span) : Type 0 where
   pub ordered : span.from ≤ span.to
   pub inside : span.to ≤ places
 
--- A column among so many, and at least one of so many entries.
+-- A column among so many, and one of so many entries.
 pub record IsUpdate (columns entries : ℕ) (update : Update) : Type 0 where
   pub column : update.column < columns
-  pub ordered : update.from < update.to
-  pub inside : update.to ≤ entries
+  pub entry : update.from < entries
 
 -- A row among so many, and a link among so many.
 pub record IsTerm (rows links : ℕ) (term : Term) : Type 0 where

@@ -1,7 +1,7 @@
 //! The numbers of a factor, column by column from those of the columns before.
 ghost use Rattle.std.specs.Prelude.{◌≡◌, ◌<◌, length};
 ghost use Rattle.std.specs.List.{All};
-ghost use Rattle.hyd_sparse.specs.Tables.{IsUpdate, IsTerm};
+ghost use Rattle.hyd_sparse.specs.Tables.{IsSpan, IsUpdate, IsTerm};
 
 use crate::pattern::Pattern;
 use crate::tables::{Span, Term, Update};
@@ -54,18 +54,32 @@ pub(crate) fn subtract(sums: &mut [f64], rows: &[u32], values: &[f64], multiple:
     }
 }
 
-/// Takes from the sums of a column's rows what the column's updates say.
-fn update(sums: &mut [f64], updates: &[Update], rows: &[u32], values: &[f64], pivots: &[f64])
-    requires rows { All (λ row. row < length sums.old) rows.now }
-    requires values { length values.now ≡ length rows.now }
-    requires updates { All (IsUpdate (length pivots.now) (length rows.now)) updates.now }
+/// Takes from the sums of a column's rows what an update says: from its entry to the end of its column.
+fn update(sums: &mut [f64], update: Update, pattern: &Pattern, values: &[f64], pivots: &[f64])
+    requires sums { length sums.old ≡ length pattern.now.columns.items }
+    requires values { length values.now ≡ length pattern.now.rows.items }
+    requires pivots { length pivots.now ≡ length pattern.now.columns.items }
+    requires update { IsUpdate (length pattern.now.columns.items) (length pattern.now.rows.items) update }
     ensures { length sums.new ≡ length sums.old }
 {
-    for update in updates {
-        let from = update.from as usize;
-        let to = update.to as usize;
-        let multiple = values[from] * pivots[update.column as usize];
-        subtract(sums, &rows[from..to], &values[from..to], multiple);
+    let from = update.from as usize;
+    let column = update.column as usize;
+    let multiple = values[from] * pivots[column];
+    let to = pattern.column(column).entries.to.max(from);
+    let entries = Span { from, to };
+    subtract(sums, pattern.rows_of(entries), &values[from..to], multiple);
+}
+
+/// Takes from the sums of a column's rows what the column's updates say.
+fn update_by(sums: &mut [f64], updates: Span, pattern: &Pattern, values: &[f64], pivots: &[f64])
+    requires sums { length sums.old ≡ length pattern.now.columns.items }
+    requires values { length values.now ≡ length pattern.now.rows.items }
+    requires pivots { length pivots.now ≡ length pattern.now.columns.items }
+    requires updates { IsSpan (length pattern.now.updates.items) updates }
+    ensures { length sums.new ≡ length sums.old }
+{
+    for one in pattern.updates_of(updates) {
+        update(sums, *one, pattern, values, pivots);
     }
 }
 
@@ -114,13 +128,7 @@ fn eliminate_column<E: Entry>(
     let column = pattern.column(place);
     sums[place] = diagonal[column.node as usize].value();
     add_terms(sums, pattern.terms_of(column.terms), off);
-    update(
-        sums,
-        pattern.updates_of(column.updates),
-        pattern.rows(),
-        values,
-        pivots,
-    );
+    update_by(sums, column.updates, pattern, values, pivots);
     let pivot = pivot_for(sums[place]);
     pivots[place] = pivot;
     sums[place] = 0.0;

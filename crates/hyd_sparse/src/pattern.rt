@@ -36,13 +36,6 @@ impl Pattern {
         self.columns[place]
     }
 
-    pub fn rows(&self) -> &[u32]
-        ensures rows { result.now ≡ self.now.rows.items }
-        ensures inside { All (λ row. row < length self.now.columns.items) result.now }
-    {
-        self.rows.as_slice()
-    }
-
     pub fn rows_of(&self, entries: Span) -> &[u32]
         requires { IsSpan (length self.now.rows.items) entries }
         ensures rows { result.now ≡ take (entries.to - entries.from) (drop entries.from self.now.rows.items) }

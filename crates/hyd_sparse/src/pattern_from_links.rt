@@ -97,12 +97,11 @@ fn note_updates(
     column: u32,
     entries: Span,
 ) -> Result<(), OutOfMemory> {
-    let to = short(entries.to)?;
     for place in entries.from..entries.to {
         let row = rows.get(place).copied().unwrap_or(column);
         if let Some(list) = lists.get_mut(row as usize) {
             let from = short(place)?;
-            list.push(Update { column, from, to })?;
+            list.push(Update { column, from })?;
         }
     }
     Ok(())
@@ -132,7 +131,7 @@ fn append_updates(
     ensures { OnOk result (All (IsUpdate columns entries) table.new.items) }
 {
     for update in updates {
-        if update.column < columns && update.from < update.to && update.to as usize <= entries {
+        if update.column < columns && (update.from as usize) < entries {
             table.push(*update)?;
         }
     }
@@ -147,7 +146,7 @@ fn make_updates(
 ) -> Result<Parts<Update>, OutOfMemory>
     ensures { IfOk result (λ parts. All (IsUpdate columns entries) parts.items.items) }
 {
-    let mut items = Vec::new(alloc);
+    let mut items = Vec::with_capacity(alloc, entries)?;
     let mut ends = Vec::with_capacity(alloc, columns as usize)?;
     for list in lists {
         append_updates(&mut items, list, columns, entries)?;

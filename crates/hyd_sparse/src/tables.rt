@@ -7,13 +7,12 @@ pub(crate) struct Span {
     pub to: usize,
 }
 
-/// How an earlier column changes a later one: the column, and its entries from the later one's row
-/// on.
+/// How an earlier column changes a later one: the column, and the first of its entries that count, that of the later
+/// one's row.
 #[derive(Clone, Copy)]
 pub(crate) struct Update {
     pub column: u32,
     pub from: u32,
-    pub to: u32,
 }
 
 /// A number of the matrix below its diagonal: its row, and the link that it is handed in for.

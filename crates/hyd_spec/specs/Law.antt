@@ -68,7 +68,7 @@ pressure_resistance demand minimum required us =
 
 -- The relation "loses at most" of what a capacity was made of.
 abbrev pub loss_at_most : Origin → Loss
-loss_at_most (Pipe length diameter roughness minor us) = PipeLossAtMost us length diameter roughness minor
+loss_at_most (Pipe us length diameter roughness minor) = PipeLossAtMost us length diameter roughness minor
 loss_at_most (Valve diameter k us) = ValveLossAtMost us diameter k
 loss_at_most (Pump flow drop thirds unit) = SquareLossAtMost (pump_resistance flow drop thirds unit)
 loss_at_most (Emitter coefficient unit) = SquareLossAtMost (emitter_resistance coefficient unit)
@@ -77,7 +77,7 @@ loss_at_most (PressureDemand demand minimum required us) = SquareLossAtMost
 
 -- The relation "loses at least" of what a capacity was made of.
 abbrev pub loss_at_least : Origin → Loss
-loss_at_least (Pipe length diameter roughness minor us) = PipeLossAtLeast us length diameter roughness minor
+loss_at_least (Pipe us length diameter roughness minor) = PipeLossAtLeast us length diameter roughness minor
 loss_at_least (Valve diameter k us) = ValveLossAtLeast us diameter k
 loss_at_least (Pump flow drop thirds unit) = SquareLossAtLeast (pump_resistance flow drop thirds unit)
 loss_at_least (Emitter coefficient unit) = SquareLossAtLeast (emitter_resistance coefficient unit)

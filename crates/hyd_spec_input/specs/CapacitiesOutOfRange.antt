@@ -29,7 +29,7 @@ pub record IsRefusedPipe (length diameter roughness minor : ℤ) (us : Bool) : T
   pub n_is : n.nano ≡ roughness
   pub k : Decimal
   pub k_is : k.nano ≡ minor
-  pub refused : IsRefused (Pipe l d n k us)
+  pub refused : IsRefused (Pipe us l d n k)
 
 -- with Hazen-Williams losses
 pub record IsRefusedPowerPipe (length diameter coefficient minor : ℤ) (us : Bool) : Type 0 where

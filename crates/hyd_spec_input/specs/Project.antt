@@ -167,7 +167,7 @@ pub record IsPipeOf (us : Bool) (length diameter roughness minor : ℤ) (cap : C
   pub n_is : n.nano ≡ roughness
   pub k : Decimal
   pub k_is : k.nano ≡ minor
-  pub origin : cap.origin ≡ PipeOrigin l d n k us
+  pub origin : cap.origin ≡ PipeOrigin us l d n k
 
 -- the capacity by powers of a pipe of these numbers
 pub record IsPowerPipeOf (us : Bool) (length diameter coefficient minor : ℤ) (cap : PowerCapacity) : Type 0 where

@@ -1,2 +1,3 @@
 pub mod RowsOfSpreads
 pub mod TextsOfSpreads
+pub mod RangesOfEnds

@@ -1,9 +1,10 @@
 -- Spreads that were read, and texts from which none came.
-use Rattle.std.specs.Prelude.{◌≡◌, ℕ, ◌≤◌, List, ◌++◌, length, map, drop, None, slice_get, Some, ⊤}
+use Rattle.std.specs.Prelude.{◌≡◌, ℕ, ◌≤◌, List, ◌++◌, length, map, drop, None, slice_get, Some, ⊤, All}
 use Rattle.hyd_spec.specs.ProgramTypes.{Project}
 use Rattle.hyd_spec_lines.specs.WordsOfLines.{text_lines}
 use Rattle.hyd_spec_spread.specs.Spreads.{Spread}
 use Rattle.hyd_spec_spread_rows.specs.TextsOfSpreads.{line_fault, rows_of, factors_from, interval_from}
+use Rattle.hyd_spec_spread_rows.specs.RangesOfEnds.{AreFactors, AreOffsets}
 use Rattle.hyd_spread_rows.specs.declared.said.Tables.{Tables}
 use Rattle.hyd_spread_rows.specs.declared.resolved.SpreadRows.{SpreadRows}
 use Rattle.hyd_spread_rows.specs.declared.fault.SpreadFault.{SpreadFault}
@@ -19,6 +20,12 @@ spread_of rows = record {
   heads = map interval_from rows.heads.items;
   levels = map interval_from rows.levels.items;
 }
+
+-- the numbers of rows that were read are in range
+pub record AreInRange (rows : SpreadRows) : Type 0 where
+  pub demands : All AreFactors rows.demands.items
+  pub emitters : All AreFactors rows.emitters.items
+  pub heads : All AreOffsets rows.heads.items
 
 -- what holds of a fault; want of memory says nothing
 abbrev pub IfFault : SpreadRefused → (SpreadFault → Type 0) → Type 0

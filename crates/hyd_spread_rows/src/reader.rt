@@ -10,7 +10,7 @@ ghost use Rattle.hyd_spec_lines.specs.WordsOfLines as form;
 ghost use Rattle.hyd_spec_spread_rows.specs.TextsOfSpreads.{line_fault, rows_of, IsLineFault};
 ghost use Rattle.hyd_spec_spread_rows.specs.TextsOfSpreads.{IsFault, HasNoFault, spread_in};
 ghost use Rattle.hyd_spread_rows.specs.RowsSaid.{AreSaid, HasPlaces};
-ghost use Rattle.hyd_spread_rows.specs.SpreadsRead.{IfFault, spread_of};
+ghost use Rattle.hyd_spread_rows.specs.SpreadsRead.{IfFault, spread_of, AreInRange};
 
 use crate::fault::{SpreadFault, SpreadRefused, TEXT_TOO_LONG};
 use crate::ids::{count, numbered};
@@ -96,6 +96,7 @@ pub fn read_spread(
     ensures fault { IfErr result (λ refused. IfFault refused (λ f. IsFault project.now text.now f.line f.cause)) }
     ensures no_fault { IfOk result (λ _. HasNoFault project.now text.now) }
     ensures spread { IfOk result (λ rows. spread_of rows ≡ spread_in project.now text.now) }
+    ensures range { IfOk result AreInRange }
 {
     if text.len() > LONGEST_TEXT {
         return Err(SpreadRefused::Fault(TEXT_TOO_LONG));

@@ -219,7 +219,7 @@ pipe-numbers (suc k) length diameter roughness minor us r made = friction-number
     made.friction made.friction_is
 
 numbers-made : (origin : Origin) (r : Pair) → StandsFor origin r → HasPositiveNumbers origin
-numbers-made (Pipe length diameter roughness minor us) r made = pipe-numbers (billionths minor) length diameter
+numbers-made (Pipe us length diameter roughness minor) r made = pipe-numbers (billionths minor) length diameter
     roughness minor us r made
 numbers-made (Valve diameter k us) r made = (
   width-above us (billionths diameter) (ratio-above _ _ made.lost_is.across made.lost_is.across_is),

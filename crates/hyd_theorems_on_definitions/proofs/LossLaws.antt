@@ -283,7 +283,7 @@ flow-above unit v = one-le-pow 2 (100 * (flow_factor unit).den) (mul-pos (omega 
 -- the loss of numbers that are above 0 where they have to be
 pub IsLossLaw-origin : (origin : Origin) → HasPositiveNumbers origin
     → IsLossLaw (loss_at_most origin) (loss_at_least origin)
-IsLossLaw-origin (Pipe length diameter roughness minor us) h = IsLossLaw-pipe us length diameter roughness minor h.0
+IsLossLaw-origin (Pipe us length diameter roughness minor) h = IsLossLaw-pipe us length diameter roughness minor h.0
     h.1.0 h.1.1
 IsLossLaw-origin (Valve diameter k us) h = IsLossLaw-valve us diameter k h.0 h.1
 IsLossLaw-origin (Pump flow drop thirds unit) h = IsLossLaw-square (pump_resistance flow drop thirds unit)

@@ -30,7 +30,7 @@ pub record IsLossLaw (at_most at_least : Loss) : Type 0 where
 
 -- The numbers behind a capacity that have to be above 0 for that.
 abbrev pub HasPositiveNumbers : Origin → Type 0
-HasPositiveNumbers (Pipe length diameter roughness minor us) =
+HasPositiveNumbers (Pipe us length diameter roughness minor) =
     (0 < billionths length) × ((0 < billionths diameter) × (0 < billionths roughness))
 HasPositiveNumbers (Valve diameter k us) = (0 < billionths diameter) × (0 < billionths k)
 HasPositiveNumbers (Pump flow drop thirds unit) = 0 < unsigned_abs drop.nano

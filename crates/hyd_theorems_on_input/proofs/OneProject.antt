@@ -208,8 +208,8 @@ one_pipe u l d n k a b f g =
     let across = Decimal-equal f.d g.d (f.d_is ∙ sym g.d_is) in
     let rough = Decimal-equal f.n g.n (f.n_is ∙ sym g.n_is) in
     let minor = Decimal-equal f.k g.k (f.k_is ∙ sym g.k_is) in
-    let origins : PipeOrigin f.l f.d f.n f.k u ≡ PipeOrigin g.l g.d g.n g.k u =
-    λ i. PipeOrigin (long i) (across i) (rough i) (minor i) u in
+    let origins : PipeOrigin u f.l f.d f.n f.k ≡ PipeOrigin u g.l g.d g.n g.k =
+    λ i. PipeOrigin u (long i) (across i) (rough i) (minor i) in
     one_capacity a b (f.origin ∙ origins ∙ sym g.origin) f.made g.made
 
 one_power_pipe : (u : Bool) (l d n k : ℤ) (a b : PowerCapacity) → IsPowerPipeOf u l d n k a

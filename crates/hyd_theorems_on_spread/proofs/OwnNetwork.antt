@@ -41,7 +41,7 @@ own-emitter unit capacity ranged made = by-origin capacity.origin refl ranged
   where
     by-origin : (o : Origin) → capacity.origin ≡ o → IsEmitter unit o → IsEmitterOf capacity.origin
         (coefficient_of capacity.origin) capacity
-    by-origin (Pipe length diameter roughness minor us) e is = absurd is
+    by-origin (Pipe us length diameter roughness minor) e is = absurd is
     by-origin (Valve diameter k us) e is = absurd is
     by-origin (Pump flow drop thirds own) e is = absurd is
     by-origin (Emitter coefficient own) e is = record {

@@ -1,3 +1,3 @@
 mod PickedRows
 mod RightNumbers
-mod SpreadsOfTexts
+pub mod SpreadsOfTexts

@@ -1,4 +1,5 @@
--- The numbers of rows without a fault: factors lie around 1, offsets around 0, levels within the bounds of tanks.
+-- The numbers of rows without a fault: factors and offsets are in range, around 1 and around 0, and levels lie within
+-- the bounds of tanks.
 use Rattle.std.proofs.Common.{◌≡◌, ℕ, zero, suc, ◌+◌, ◌/◌, ◌^◌, ◌≤◌, ℤ}
 use Rattle.std.proofs.Common.{pos, negsuc, neg_ℤ, ◌+ℤ◌, ◌-ℤ◌, ◌≤ℤ◌, refl, sym, ap}
 use Rattle.std.proofs.Common.{◌∙◌, arith, Bool, true, false, List, [], ◌∷◌, inl, inr}
@@ -7,6 +8,7 @@ use Rattle.std.specs.List.{list_all}
 use Rattle.std.proofs.lemmas.Bool.{cases_Bool, and_parts}
 use Rattle.std.proofs.lemmas.Int.{ints}
 use lib.Signed.{le_z}
+use Rattle.hyd_net.specs.NumberRanges.{head_limit}
 use Rattle.hyd_num.specs.FileQuantity.{head_ticks}
 use Rattle.hyd_num.specs.Numeral.{nano_of}
 use Rattle.hyd_spec.specs.ProgramTypes.{Project, Tank}
@@ -15,11 +17,13 @@ use Rattle.hyd_spec_input.specs.Columns.{word, amount, units, needed, ends, numb
 use Rattle.hyd_spec_spread.specs.Spreads.{IsAroundOne, Holds}
 use Rattle.hyd_spec_spread_rows.specs.declared.Subject.{Subject}
 use Rattle.hyd_spec_spread_rows.specs.declared.Subject.TheVariants.{Demand, Emitter, Head, Level}
+use Rattle.hyd_spec_spread_rows.specs.declared.Ends.{Ends}
 use Rattle.hyd_spec_spread_rows.specs.RowsOfSpreads.{ends_by_percent, before_percent, percent, least_factor}
 use Rattle.hyd_spec_spread_rows.specs.RowsOfSpreads.{greatest_percentage, factor_words, offset_words, level_words}
 use Rattle.hyd_spec_spread_rows.specs.RowsOfSpreads.{is_low_level, is_high_level, in_head_ticks, part_of_one}
 use Rattle.hyd_spec_spread_rows.specs.RowsOfSpreads.{factor_ends, length_ends}
 use Rattle.hyd_spec_spread_rows.specs.TextsOfSpreads.{factors_from, interval_from}
+use Rattle.hyd_spec_spread_rows.specs.RangesOfEnds.{AreFactors, AreOffsets}
 use Rattle.hyd_lemmas.proofs.BooleanTests.{le_z-yes}
 use Rattle.hyd_theorems_on_input.proofs.NodeRanges.{head_rises}
 use Rattle.hyd_theorems_on_input.proofs.RowsWithoutFault.{all_none, needed_none, within, in_range}
@@ -30,12 +34,22 @@ abs-positive : (z : ℤ) → pos 0 ≤ℤ z → pos (unsigned_abs z) ≡ z
 abs-positive (pos n) le = refl
 abs-positive (negsuc n) le = absurd (omega (arith, ints, le))
 
-around : (low high : ℤ) → pos 0 ≤ℤ low → low ≤ℤ units 1 → units 1 ≤ℤ high
-    → IsAroundOne (factors_from (record { low = low; high = high }))
-around low high some below above =
-    let a = abs-positive low some in
-    let b = abs-positive high (omega (arith, ints, above)) in
+-- factors in range have 1 among them
+pub around-one : (ends : Ends) → AreFactors ends → IsAroundOne (factors_from ends)
+around-one ends range =
+    let some = range.least.at_least in
+    let below = range.least.at_most in
+    let above = range.greatest.at_least in
+    let a = abs-positive ends.low some in
+    let b = abs-positive ends.high (omega (arith, ints, above)) in
     record { least = omega (arith, ints, a, below); greatest = omega (arith, ints, b, above) }
+
+factors : (low high : ℤ) → pos 0 ≤ℤ low → low ≤ℤ units 1 → units 1 ≤ℤ high → high ≤ℤ units (10 ^ 6)
+    → AreFactors (record { low = low; high = high })
+factors low high some below above most = record {
+  least = record { at_least = some; at_most = omega (arith, ints, below) };
+  greatest = record { at_least = omega (arith, ints, above); at_most = omega (arith, ints, most) };
+}
 
 part-small : (n : ℕ) → n ≤ 10 ^ 11 → (n + 99) / 100 ≤ 10 ^ 9
 part-small n le = omega (arith, le)
@@ -53,7 +67,7 @@ greatest-small Head = omega (arith, ints)
 greatest-small Level = omega (arith, ints)
 
 pub factors-right : (s : Subject) (words : List (List ℕ)) → factor_words s words ≡ None
-    → IsAroundOne (factors_from (factor_ends words))
+    → AreFactors (factor_ends words)
 factors-right s words e = elim (cases_Bool (ends_by_percent (word 2 words))) [
   | inl by_percent ↦
       let parts = all_none (needed (percent (greatest_percentage s)) 2 words ∷ ends 3 words ∷ [])
@@ -66,8 +80,8 @@ factors-right s words e = elim (cases_Bool (ends_by_percent (word 2 words))) [
       let most = greatest-small s in
       let size = abs-positive p low in
       let small = part-small (unsigned_abs p) (omega (arith, ints, size, high, most)) in
-      rw by_percent (around (units 1 -ℤ pos (part_of_one p)) (units 1 +ℤ pos (part_of_one p))
-      (omega (arith, ints, small)) (omega (arith, ints)) (omega (arith, ints)))
+      rw by_percent (factors (units 1 -ℤ pos (part_of_one p)) (units 1 +ℤ pos (part_of_one p))
+      (omega (arith, ints, small)) (omega (arith, ints)) (omega (arith, ints)) (omega (arith, ints, small)))
   | inr by_factor ↦
       let parts = all_none (needed (number_within (least_factor s) (units 1)) 2 words
       ∷ needed (number_within (units 1) (units (10 ^ 6))) 3 words ∷ ends 4 words ∷ []) (rw by_factor at e) in
@@ -77,9 +91,8 @@ factors-right s words e = elim (cases_Bool (ends_by_percent (word 2 words))) [
       let b = within (units 1) (units (10 ^ 6)) (word 3 words) w.right in
       let some = least-positive s in
       let least = a.at_least in
-      let below = a.at_most in
-      let above = b.at_least in
-      rw by_factor (around (amount 2 words) (amount 3 words) (omega (arith, ints, some, least)) below above)
+      rw by_factor (factors (amount 2 words) (amount 3 words) (omega (arith, ints, some, least)) a.at_most b.at_least
+      b.at_most)
 ]
 
 -- ---- lengths
@@ -88,8 +101,17 @@ no-ticks : (us : Bool) → head_ticks us (pos 0) ≡ pos 0
 no-ticks true = refl
 no-ticks false = refl
 
+-- 10,000 feet or metres are at most the greatest head
+farthest : (us : Bool) → head_ticks us (units (10 ^ 4)) ≤ℤ pos head_limit
+farthest true = omega (arith, ints)
+farthest false = omega (arith, ints)
+
+farthest-down : (us : Bool) → neg_ℤ (pos head_limit) ≤ℤ head_ticks us (neg_ℤ (units (10 ^ 4)))
+farthest-down true = omega (arith, ints)
+farthest-down false = omega (arith, ints)
+
 pub offsets-right : (project : Project) (words : List (List ℕ)) → offset_words words ≡ None
-    → Holds (interval_from (length_ends project words)) (pos 0)
+    → AreOffsets (length_ends project words)
 offsets-right project words e =
     let parts = all_none (needed (number_within (neg_ℤ (units (10 ^ 4))) (pos 0)) 2 words
     ∷ needed (number_within (pos 0) (units (10 ^ 4))) 3 words ∷ ends 4 words ∷ []) e in
@@ -97,10 +119,22 @@ offsets-right project words e =
     let w = needed_none (number_within (pos 0) (units (10 ^ 4))) 3 words parts.1.0 in
     let a = within (neg_ℤ (units (10 ^ 4))) (pos 0) (word 2 words) v.right in
     let b = within (pos 0) (units (10 ^ 4)) (word 3 words) w.right in
-    let low = head_rises (is_us project) (amount 2 words) (pos 0) a.at_most in
-    let high = head_rises (is_us project) (pos 0) (amount 3 words) b.at_least in
-    let zero = no-ticks (is_us project) in
-    record { low = omega (arith, ints, low, zero); high = omega (arith, ints, high, zero) }
+    let us = is_us project in
+    let lowest = head_rises us (neg_ℤ (units (10 ^ 4))) (amount 2 words) a.at_least in
+    let low = head_rises us (amount 2 words) (pos 0) a.at_most in
+    let high = head_rises us (pos 0) (amount 3 words) b.at_least in
+    let highest = head_rises us (amount 3 words) (units (10 ^ 4)) b.at_most in
+    let zero = no-ticks us in
+    let down = farthest-down us in
+    let up = farthest us in
+    record {
+      least = record { at_least = omega (arith, ints, lowest, down); at_most = omega (arith, ints, low, zero) };
+      greatest = record { at_least = omega (arith, ints, high, zero); at_most = omega (arith, ints, highest, up) };
+    }
+
+-- offsets in range have 0 among them
+pub around-zero : (ends : Ends) → AreOffsets ends → Holds (interval_from ends) (pos 0)
+around-zero ends range = record { low = range.least.at_most; high = range.greatest.at_least }
 
 all-at : (p : Tank → Bool) (tanks : List Tank) (k : ℕ) (tank : Tank) → list_all p tanks ≡ true
     → slice_get tanks k ≡ Some tank → p tank ≡ true

@@ -1,6 +1,6 @@
--- What a text without a fault gives is a spread.
+-- The ends that a text without a fault gives are in range, and make a spread.
 use Rattle.std.proofs.Common.{◌≡◌, ℕ, zero, suc, ◌+◌, ◌<◌, pos, refl, sym, ap, subst, ◌∙◌, arith, true}
-use Rattle.std.proofs.Common.{false, List, [], ◌∷◌, length, map, inl, inr, get_or}
+use Rattle.std.proofs.Common.{false, List, [], ◌∷◌, length, map, inl, inr, get_or, All}
 use Rattle.std.specs.Prelude.{Option, Some, None, slice_get, slice_index_or}
 use Rattle.std.proofs.lemmas.Bool.{cases_eq, cases_lt}
 use Rattle.std.proofs.lemmas.Int.{ints}
@@ -19,11 +19,13 @@ use Rattle.hyd_spec_spread_rows.specs.declared.Ends.{Ends}
 use Rattle.hyd_spec_spread_rows.specs.RowsOfSpreads.{is_all, is_known, is_of, node_named, tanks_meant, tank_at}
 use Rattle.hyd_spec_spread_rows.specs.RowsOfSpreads.{some_tank}
 use Rattle.hyd_spec_spread_rows.specs.TextsOfSpreads.{HasNoFault, spread_in, rows_of, row_for, ends_for, at_both}
-use Rattle.hyd_spec_spread_rows.specs.TextsOfSpreads.{factors_from, interval_from}
+use Rattle.hyd_spec_spread_rows.specs.TextsOfSpreads.{factors_from, interval_from, demand_ends, emitter_ends, head_ends}
+use Rattle.hyd_spec_spread_rows.specs.RangesOfEnds.{AreFactors, AreOffsets}
 use Rattle.hyd_theorems_on_definitions.proofs.SoundTankLemmas.{sound_tank}
 use Rattle.hyd_theorems_on_input.proofs.OccurrencesOfNames.{same_name}
 use Rattle.hyd_theorems_on_spread_rows.proofs.PickedRows.{Counts, counts, ends-case}
-use Rattle.hyd_theorems_on_spread_rows.proofs.RightNumbers.{factors-right, offsets-right, levels-right}
+use Rattle.hyd_theorems_on_spread_rows.proofs.RightNumbers.{factors-right, offsets-right, levels-right, around-one}
+use Rattle.hyd_theorems_on_spread_rows.proofs.RightNumbers.{around-zero}
 
 -- ---- lists of ends
 
@@ -44,34 +46,65 @@ item-is g f d from (y ∷ xs) (suc k) x at =
     item-is g f d (suc from) xs k x at
     ∙ (let n : suc from + k ≡ from + suc k = omega arith in ap (λ m. g (f m x)) n)
 
-module _ (project : Project) (sound : IsSound project) (text : List ℕ) (none : HasNoFault project text) where
-  abbrev rows : List (List (List ℕ))
-  rows = rows_of (text_lines text)
+all-each : {X : Type 0} (P : Ends → Type 0) (f : ℕ → X → Ends) (from : ℕ) (xs : List X)
+    → ((k : ℕ) (x : X) → P (f k x)) → All P (map_from f from xs)
+all-each P f from [] each k d lt = absurd (omega (arith, lt))
+all-each P f from (x ∷ xs) each zero d lt = each from x
+all-each P f from (x ∷ xs) each (suc k) d lt = all-each P f (suc from) xs each k d (omega (arith, lt))
 
-  -- ---- factors
+-- the rows of a text
+abbrev rows_in : List ℕ → List (List (List ℕ))
+rows_in text = rows_of (text_lines text)
 
-  one-around : IsAroundOne (factors_from (at_both (units 1)))
-  one-around = record { least = omega arith; greatest = omega arith }
+-- ---- the ends for nodes, in range
 
-  demands-around : (node : ℕ) → IsAroundOne (factors_from (ends_for project Demand rows (at_both (units 1)) node))
-  demands-around node = ends-case (λ ends. IsAroundOne (factors_from ends)) project Demand (at_both (units 1))
-      (row_for project Demand rows node) one-around
+module _ (project : Project) (text : List ℕ) (none : HasNoFault project text) where
+  one-right : AreFactors (at_both (units 1))
+  one-right = record {
+    least = record { at_least = omega (arith, ints); at_most = omega (arith, ints) };
+    greatest = record { at_least = omega (arith, ints); at_most = omega (arith, ints) };
+  }
+
+  zero-right : AreOffsets (at_both (pos 0))
+  zero-right = record {
+    least = record { at_least = omega (arith, ints); at_most = omega (arith, ints) };
+    greatest = record { at_least = omega (arith, ints); at_most = omega (arith, ints) };
+  }
+
+  demand-right : (node : ℕ) → AreFactors (ends_for project Demand (rows_in text) (at_both (units 1)) node)
+  demand-right node = ends-case AreFactors project Demand (at_both (units 1))
+      (row_for project Demand (rows_in text) node) one-right
       (λ words e. factors-right Demand words (counts project text none Demand node words e).right.numbers)
 
-  emitters-around : (node : ℕ) → IsAroundOne (factors_from (ends_for project Emitter rows (at_both (units 1)) node))
-  emitters-around node = ends-case (λ ends. IsAroundOne (factors_from ends)) project Emitter (at_both (units 1))
-      (row_for project Emitter rows node) one-around
+  emitter-right : (node : ℕ) → AreFactors (ends_for project Emitter (rows_in text) (at_both (units 1)) node)
+  emitter-right node = ends-case AreFactors project Emitter (at_both (units 1))
+      (row_for project Emitter (rows_in text) node) one-right
       (λ words e. factors-right Emitter words (counts project text none Emitter node words e).right.numbers)
 
-  -- ---- heads
-
-  heads-around : (node : ℕ) → Holds (interval_from (ends_for project Head rows (at_both (pos 0)) node)) (pos 0)
-  heads-around node = ends-case (λ ends. Holds (interval_from ends) (pos 0)) project Head (at_both (pos 0))
-      (row_for project Head rows node) (record { low = omega (arith, ints); high = omega (arith, ints) })
+  head-right : (node : ℕ) → AreOffsets (ends_for project Head (rows_in text) (at_both (pos 0)) node)
+  head-right node = ends-case AreOffsets project Head (at_both (pos 0)) (row_for project Head (rows_in text) node)
+      zero-right
       (λ words e. offsets-right project words (counts project text none Head node words e).right.numbers)
 
-  -- ---- levels
+  pub demands-right : All AreFactors (demand_ends project (rows_in text))
+  demands-right = all-each AreFactors
+      (λ j (junction : Junction). ends_for project Demand (rows_in text) (at_both (units 1)) j) 0
+      project.junctions.list (λ k x. demand-right k)
 
+  pub emitters-right : All AreFactors (emitter_ends project (rows_in text))
+  emitters-right = all-each AreFactors
+      (λ j (junction : Junction). ends_for project Emitter (rows_in text) (at_both (units 1)) j) 0
+      project.junctions.list (λ k x. emitter-right k)
+
+  pub heads-right : All AreOffsets (head_ends project (rows_in text))
+  heads-right = all-each AreOffsets
+      (λ r (reservoir : Reservoir).
+      ends_for project Head (rows_in text) (at_both (pos 0)) (junction_count project + r)) 0
+      project.reservoirs.list (λ k x. head-right (junction_count project + k))
+
+-- ---- a spread
+
+module _ (project : Project) (sound : IsSound project) (text : List ℕ) (none : HasNoFault project text) where
   distinct-places : (m n : ℕ) → m < length project.node_ids → n < length project.node_ids
       → get_or project.node_ids m [] ≡ get_or project.node_ids n [] → m ≡ n
   distinct-places m n lm ln same = elim (cases_eq m n) [
@@ -122,9 +155,10 @@ module _ (project : Project) (sound : IsSound project) (text : List ℕ) (none :
   ]
 
   level-right : (k : ℕ) (tank : Tank) → slice_get project.tanks.list k ≡ Some tank
-      → IsLevelInterval tank (interval_from (ends_for project Level rows (at_both tank.initial) (tank_node project k)))
+      → IsLevelInterval tank
+      (interval_from (ends_for project Level (rows_in text) (at_both tank.initial) (tank_node project k)))
   level-right k tank at = ends-case (λ ends. IsLevelInterval tank (interval_from ends)) project Level
-      (at_both tank.initial) (row_for project Level rows (tank_node project k))
+      (at_both tank.initial) (row_for project Level (rows_in text) (tank_node project k))
       (let range = (sound_tank project sound k tank at).ranges.initial in
       record {
         above_least = range.at_least;
@@ -144,21 +178,24 @@ module _ (project : Project) (sound : IsSound project) (text : List ℕ) (none :
   pub is-spread : IsSpread project (spread_in project text)
   is-spread = record {
     demands = at-each IsAroundOne factors_from
-        (λ j (junction : Junction). ends_for project Demand rows (at_both (units 1)) j) one_alone 0
-        project.junctions.list (record { least = omega arith; greatest = omega arith }) (λ k x. demands-around k);
+        (λ j (junction : Junction). ends_for project Demand (rows_in text) (at_both (units 1)) j) one_alone 0
+        project.junctions.list (record { least = omega arith; greatest = omega arith })
+        (λ k x. around-one _ (demand-right project text none k));
     emitters = at-each IsAroundOne factors_from
-        (λ j (junction : Junction). ends_for project Emitter rows (at_both (units 1)) j) one_alone 0
-        project.junctions.list (record { least = omega arith; greatest = omega arith }) (λ k x. emitters-around k);
+        (λ j (junction : Junction). ends_for project Emitter (rows_in text) (at_both (units 1)) j) one_alone 0
+        project.junctions.list (record { least = omega arith; greatest = omega arith })
+        (λ k x. around-one _ (emitter-right project text none k));
     heads = at-each (λ x. Holds x (pos 0)) interval_from
-        (λ r (reservoir : Reservoir). ends_for project Head rows (at_both (pos 0)) (junction_count project + r))
+        (λ r (reservoir : Reservoir).
+        ends_for project Head (rows_in text) (at_both (pos 0)) (junction_count project + r))
         (exactly (pos 0)) 0 project.reservoirs.list
         (record { low = omega (arith, ints); high = omega (arith, ints) })
-        (λ k x. heads-around (junction_count project + k));
+        (λ k x. around-zero _ (head-right project text none (junction_count project + k)));
     levels = λ k tank at.
         let e = item-is interval_from
-        (λ n (t : Tank). ends_for project Level rows (at_both t.initial) (tank_node project n)) (exactly tank.initial) 0
-        project.tanks.list k tank at in
+        (λ n (t : Tank). ends_for project Level (rows_in text) (at_both t.initial) (tank_node project n))
+        (exactly tank.initial) 0 project.tanks.list k tank at in
         let n : 0 + k ≡ k = omega arith in
-        subst (IsLevelInterval tank) (sym (e ∙ ap (λ m. interval_from (ends_for project Level rows
+        subst (IsLevelInterval tank) (sym (e ∙ ap (λ m. interval_from (ends_for project Level (rows_in text)
         (at_both tank.initial) (tank_node project m))) n)) (level-right k tank at);
   }

@@ -1,20 +1,13 @@
 -- What a command does is what was asked for.
 use Rattle.std.proofs.Common.{◌≡◌, Option, Some, option_map, sym, ap, ◌∙◌, subst}
-use Rattle.hyd_command_words.specs.CommandGrammar.{Order, RunOrder, GenOrder, TwoFiles, run, check, gen}
-use Rattle.hyd_command_words.specs.CommandGrammar.{FireOrder, ClosuresOrder, fire, closures}
-use Rattle.hyd_command_words.specs.CommandGrammar.{WitnessOrder, MeetOrder, witness, meet}
+use Rattle.hyd_command_words.specs.CommandGrammar.{Order, run, check, gen, fire, closures, witness, meet}
 use Rattle.hyd_command_words.specs.CommandView.{order_seen, run_seen, gen_seen, files_seen, fire_seen, closures_seen}
 use Rattle.hyd_command_words.specs.CommandView.{witness_seen, meet_seen}
 use Rattle.hyd_command_words.specs.declared.command.Command.{Command}
 use Rattle.hyd_command_words.specs.declared.command.Command.TheVariants.{Run, Check, Gen, Fire, Closures, Witness, Meet}
 use Rattle.hyd_command_answers.specs.DeskContents.{seen}
 use Rattle.hyd_cli.specs.Answers.{Leaves}
-use Rattle.hyd_cli.specs.Commands.{DoesRun, DoesCheck, DoesGen}
-use Rattle.hyd_target_commands.specs.CommandsOnTargets.{DoesFire, DoesClosures}
-use Rattle.hyd_witness_commands.specs.CommandMeet.{DoesMeet}
-use Rattle.hyd_written_witnesses.specs.CommandWitness.{DoesWitness}
-use Rattle.hyd_cli.proofs.CommandsOfWords.{same_run, same_check, same_gen_order, same_fire, same_closures}
-use Rattle.hyd_cli.proofs.CommandsOfWords.{same_witness, same_meet}
+use Rattle.hyd_cli.specs.Commands.{DoesOrder}
 use Rattle.hyd_cli.proofs.whole_command.carry_out.Goals as goal
 
 pub returns-in-Some-Run-clause-leaves : goal.returns-in-Some-Run-clause-leaves
@@ -28,15 +21,17 @@ returns-in-Some-Run-clause-leaves g c =
     ap (λ (f : Option Command). option_map order_seen f) found in
     subst (λ (o : Option Order). Leaves o c.run_words.result before now) (sym known) c.run_words.ensures.leaves
 
-pub returns-in-Some-Run-clause-runs : goal.returns-in-Some-Run-clause-runs
-returns-in-Some-Run-clause-runs g c order asked =
+pub returns-in-Some-Run-clause-does : goal.returns-in-Some-Run-clause-does
+returns-in-Some-Run-clause-does g c =
     let words = c.in-Some-Run.words in
     let kind : c.in-Some-Run.field-0 ≡ Run words = rw c.in-Some-Run.is at c.in-Some-Run.field-0-is in
     let found : c.args.found ≡ Some (Run words) = c.in-Some-Run.is ∙ ap Some kind in
     let before = seen g.D.Desk.files g.D.Desk.written g.D.Desk.printed c.args.desk.now in
     let now = seen g.D.Desk.files g.D.Desk.written g.D.Desk.printed c.run_words.new.desk in
-    subst (λ (o : RunOrder). DoesRun o c.run_words.result before now (g.D.Desk.openings c.args.desk.now)
-    (g.D.Desk.openings c.run_words.new.desk)) (sym (same_run words c.args.found order found asked))
+    let known : option_map order_seen c.args.found ≡ Some (run (run_seen words)) =
+    ap (λ (f : Option Command). option_map order_seen f) found in
+    subst (λ (o : Option Order). DoesOrder o c.run_words.result before now (g.D.Desk.openings c.args.desk.now)
+    (g.D.Desk.openings c.run_words.new.desk) (g.D.Desk.ready c.run_words.new.desk)) (sym known)
     c.run_words.ensures.does
 
 pub returns-in-Some-Check-clause-leaves : goal.returns-in-Some-Check-clause-leaves
@@ -50,15 +45,18 @@ returns-in-Some-Check-clause-leaves g c =
     ap (λ (f : Option Command). option_map order_seen f) found in
     subst (λ (o : Option Order). Leaves o c.check_files.result before now) (sym known) c.check_files.ensures.leaves
 
-pub returns-in-Some-Check-clause-checks : goal.returns-in-Some-Check-clause-checks
-returns-in-Some-Check-clause-checks g c asked_files asked =
+pub returns-in-Some-Check-clause-does : goal.returns-in-Some-Check-clause-does
+returns-in-Some-Check-clause-does g c =
     let files = c.in-Some-Check.files in
     let kind : c.in-Some-Check.field-0 ≡ Check files = rw c.in-Some-Check.is at c.in-Some-Check.field-0-is in
     let found : c.args.found ≡ Some (Check files) = c.in-Some-Check.is ∙ ap Some kind in
     let before = seen g.D.Desk.files g.D.Desk.written g.D.Desk.printed c.args.desk.now in
     let now = seen g.D.Desk.files g.D.Desk.written g.D.Desk.printed c.check_files.new.desk in
-    subst (λ (f : TwoFiles). DoesCheck f c.check_files.result before now (g.D.Desk.openings c.args.desk.now)
-    (g.D.Desk.openings c.check_files.new.desk)) (sym (same_check files c.args.found asked_files found asked)) (record {
+    let known : option_map order_seen c.args.found ≡ Some (check (files_seen files)) =
+    ap (λ (f : Option Command). option_map order_seen f) found in
+    subst (λ (o : Option Order). DoesOrder o c.check_files.result before now (g.D.Desk.openings c.args.desk.now)
+    (g.D.Desk.openings c.check_files.new.desk) (g.D.Desk.ready c.check_files.new.desk)) (sym known)
+    (record {
       refused = c.check_files.ensures.refused;
       checks = c.check_files.ensures.answers;
       checks_openly = c.check_files.ensures.answers_openly;
@@ -79,16 +77,17 @@ returns-in-Some-Gen-clause-leaves g c =
     subst (λ (o : Option Order). Leaves o c.generate_network.result before now) (sym known)
     (c.generate_network.ensures.leaves (gen_seen words))
 
-pub returns-in-Some-Gen-clause-generates : goal.returns-in-Some-Gen-clause-generates
-returns-in-Some-Gen-clause-generates g c order asked =
+pub returns-in-Some-Gen-clause-does : goal.returns-in-Some-Gen-clause-does
+returns-in-Some-Gen-clause-does g c =
     let words = c.in-Some-Gen.words in
     let kind : c.in-Some-Gen.field-0 ≡ Gen words = rw c.in-Some-Gen.is at c.in-Some-Gen.field-0-is in
     let found : c.args.found ≡ Some (Gen words) = c.in-Some-Gen.is ∙ ap Some kind in
     let before = seen g.D.Desk.files g.D.Desk.written g.D.Desk.printed c.args.desk.now in
     let now = seen g.D.Desk.files g.D.Desk.written g.D.Desk.printed c.generate_network.new.desk in
-    subst (λ (o : GenOrder). DoesGen o c.generate_network.result before now (g.D.Desk.openings c.args.desk.now)
-    (g.D.Desk.openings c.generate_network.new.desk) (g.D.Desk.ready c.generate_network.new.desk))
-    (sym (same_gen_order words c.args.found order found asked))
+    let known : option_map order_seen c.args.found ≡ Some (gen (gen_seen words)) =
+    ap (λ (f : Option Command). option_map order_seen f) found in
+    subst (λ (o : Option Order). DoesOrder o c.generate_network.result before now (g.D.Desk.openings c.args.desk.now)
+    (g.D.Desk.openings c.generate_network.new.desk) (g.D.Desk.ready c.generate_network.new.desk)) (sym known)
     (record {
       refused = c.generate_network.ensures.refused;
       generates = c.generate_network.ensures.answers;
@@ -109,15 +108,18 @@ returns-in-Some-Fire-clause-leaves g c =
     ap (λ (f : Option Command). option_map order_seen f) found in
     subst (λ (o : Option Order). Leaves o c.find_bracket.result before now) (sym known) c.find_bracket.ensures.leaves
 
-pub returns-in-Some-Fire-clause-fires : goal.returns-in-Some-Fire-clause-fires
-returns-in-Some-Fire-clause-fires g c order asked =
+pub returns-in-Some-Fire-clause-does : goal.returns-in-Some-Fire-clause-does
+returns-in-Some-Fire-clause-does g c =
     let words = c.in-Some-Fire.words in
     let kind : c.in-Some-Fire.field-0 ≡ Fire words = rw c.in-Some-Fire.is at c.in-Some-Fire.field-0-is in
     let found : c.args.found ≡ Some (Fire words) = c.in-Some-Fire.is ∙ ap Some kind in
     let before = seen g.D.Desk.files g.D.Desk.written g.D.Desk.printed c.args.desk.now in
     let now = seen g.D.Desk.files g.D.Desk.written g.D.Desk.printed c.find_bracket.new.desk in
-    subst (λ (o : FireOrder). DoesFire o c.find_bracket.result before now (g.D.Desk.openings c.args.desk.now)
-    (g.D.Desk.openings c.find_bracket.new.desk)) (sym (same_fire words c.args.found order found asked)) (record {
+    let known : option_map order_seen c.args.found ≡ Some (fire (fire_seen words)) =
+    ap (λ (f : Option Command). option_map order_seen f) found in
+    subst (λ (o : Option Order). DoesOrder o c.find_bracket.result before now (g.D.Desk.openings c.args.desk.now)
+    (g.D.Desk.openings c.find_bracket.new.desk) (g.D.Desk.ready c.find_bracket.new.desk)) (sym known)
+    (record {
       refused = c.find_bracket.ensures.refused;
       fires = c.find_bracket.ensures.fires;
       only_prints = c.find_bracket.ensures.only_prints;
@@ -135,15 +137,18 @@ returns-in-Some-Closures-clause-leaves g c =
     ap (λ (f : Option Command). option_map order_seen f) found in
     subst (λ (o : Option Order). Leaves o c.close_pipes.result before now) (sym known) c.close_pipes.ensures.leaves
 
-pub returns-in-Some-Closures-clause-closes : goal.returns-in-Some-Closures-clause-closes
-returns-in-Some-Closures-clause-closes g c order asked =
+pub returns-in-Some-Closures-clause-does : goal.returns-in-Some-Closures-clause-does
+returns-in-Some-Closures-clause-does g c =
     let words = c.in-Some-Closures.words in
     let kind : c.in-Some-Closures.field-0 ≡ Closures words = rw c.in-Some-Closures.is at c.in-Some-Closures.field-0-is in
     let found : c.args.found ≡ Some (Closures words) = c.in-Some-Closures.is ∙ ap Some kind in
     let before = seen g.D.Desk.files g.D.Desk.written g.D.Desk.printed c.args.desk.now in
     let now = seen g.D.Desk.files g.D.Desk.written g.D.Desk.printed c.close_pipes.new.desk in
-    subst (λ (o : ClosuresOrder). DoesClosures o c.close_pipes.result before now (g.D.Desk.openings c.args.desk.now)
-    (g.D.Desk.openings c.close_pipes.new.desk)) (sym (same_closures words c.args.found order found asked)) (record {
+    let known : option_map order_seen c.args.found ≡ Some (closures (closures_seen words)) =
+    ap (λ (f : Option Command). option_map order_seen f) found in
+    subst (λ (o : Option Order). DoesOrder o c.close_pipes.result before now (g.D.Desk.openings c.args.desk.now)
+    (g.D.Desk.openings c.close_pipes.new.desk) (g.D.Desk.ready c.close_pipes.new.desk)) (sym known)
+    (record {
       refused = c.close_pipes.ensures.refused;
       closes = c.close_pipes.ensures.closes;
       only_prints = c.close_pipes.ensures.only_prints;
@@ -161,15 +166,18 @@ returns-in-Some-Witness-clause-leaves g c =
     ap (λ (f : Option Command). option_map order_seen f) found in
     subst (λ (o : Option Order). Leaves o c.write_witness.result before now) (sym known) c.write_witness.ensures.leaves
 
-pub returns-in-Some-Witness-clause-witnesses : goal.returns-in-Some-Witness-clause-witnesses
-returns-in-Some-Witness-clause-witnesses g c order asked =
+pub returns-in-Some-Witness-clause-does : goal.returns-in-Some-Witness-clause-does
+returns-in-Some-Witness-clause-does g c =
     let words = c.in-Some-Witness.words in
     let kind : c.in-Some-Witness.field-0 ≡ Witness words = rw c.in-Some-Witness.is at c.in-Some-Witness.field-0-is in
     let found : c.args.found ≡ Some (Witness words) = c.in-Some-Witness.is ∙ ap Some kind in
     let before = seen g.D.Desk.files g.D.Desk.written g.D.Desk.printed c.args.desk.now in
     let now = seen g.D.Desk.files g.D.Desk.written g.D.Desk.printed c.write_witness.new.desk in
-    subst (λ (o : WitnessOrder). DoesWitness o c.write_witness.result before now (g.D.Desk.openings c.args.desk.now)
-    (g.D.Desk.openings c.write_witness.new.desk)) (sym (same_witness words c.args.found order found asked)) (record {
+    let known : option_map order_seen c.args.found ≡ Some (witness (witness_seen words)) =
+    ap (λ (f : Option Command). option_map order_seen f) found in
+    subst (λ (o : Option Order). DoesOrder o c.write_witness.result before now (g.D.Desk.openings c.args.desk.now)
+    (g.D.Desk.openings c.write_witness.new.desk) (g.D.Desk.ready c.write_witness.new.desk)) (sym known)
+    (record {
       refused = c.write_witness.ensures.refused;
       searches = c.write_witness.ensures.searches;
       not_refused = c.write_witness.ensures.not_refused;
@@ -189,15 +197,18 @@ returns-in-Some-Meet-clause-leaves g c =
     ap (λ (f : Option Command). option_map order_seen f) found in
     subst (λ (o : Option Order). Leaves o c.meet_file.result before now) (sym known) c.meet_file.ensures.leaves
 
-pub returns-in-Some-Meet-clause-meets : goal.returns-in-Some-Meet-clause-meets
-returns-in-Some-Meet-clause-meets g c order asked =
+pub returns-in-Some-Meet-clause-does : goal.returns-in-Some-Meet-clause-does
+returns-in-Some-Meet-clause-does g c =
     let words = c.in-Some-Meet.words in
     let kind : c.in-Some-Meet.field-0 ≡ Meet words = rw c.in-Some-Meet.is at c.in-Some-Meet.field-0-is in
     let found : c.args.found ≡ Some (Meet words) = c.in-Some-Meet.is ∙ ap Some kind in
     let before = seen g.D.Desk.files g.D.Desk.written g.D.Desk.printed c.args.desk.now in
     let now = seen g.D.Desk.files g.D.Desk.written g.D.Desk.printed c.meet_file.new.desk in
-    subst (λ (o : MeetOrder). DoesMeet o c.meet_file.result before now (g.D.Desk.openings c.args.desk.now)
-    (g.D.Desk.openings c.meet_file.new.desk)) (sym (same_meet words c.args.found order found asked)) (record {
+    let known : option_map order_seen c.args.found ≡ Some (meet (meet_seen words)) =
+    ap (λ (f : Option Command). option_map order_seen f) found in
+    subst (λ (o : Option Order). DoesOrder o c.meet_file.result before now (g.D.Desk.openings c.args.desk.now)
+    (g.D.Desk.openings c.meet_file.new.desk) (g.D.Desk.ready c.meet_file.new.desk)) (sym known)
+    (record {
       refused = c.meet_file.ensures.refused;
       meets = c.meet_file.ensures.meets;
       not_refused = c.meet_file.ensures.not_refused;

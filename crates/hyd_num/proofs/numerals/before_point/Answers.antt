@@ -5,4 +5,4 @@ use Rattle.hyd_num.proofs.numerals.before_point.Goals as goal
 
 pub returns : goal.returns
 returns c = c.before-2.ensures ∙ ap (λ x. take x c.args.text.now) (ap (λ o. unwrap_or o (length c.args.text.now))
-    c.point.ensures ∙ place_is is_point c.args.text.now)
+    c.requires ∙ place_is is_point c.args.text.now)

@@ -5,4 +5,4 @@ use Rattle.hyd_num.proofs.numerals.behind_mark.Goals as goal
 
 pub returns : goal.returns
 returns c = c.behind.ensures ∙ ap (λ x. drop (x + 1) c.args.text.now) (ap (λ o. unwrap_or o (length c.args.text.now))
-    c.mark.ensures ∙ place_is is_exponent_mark c.args.text.now)
+    c.requires ∙ place_is is_exponent_mark c.args.text.now)

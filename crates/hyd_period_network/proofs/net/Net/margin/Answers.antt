@@ -11,7 +11,7 @@ use Rattle.hyd_period_network.proofs.net.Net.margin.Goals as goal
 count_is : (c : goal.After-len) → c.len.result ≡ length (ties_from c.args.junction 0 c.self.inside.ends.items)
 count_is c =
     let count = ap (λ (n : NetView). length n.junctions) c.self.view_is in
-    c.len.ensures.value ∙ ap length (row_at _ _ _ c.args.junction c.index.result.now c.self.invariant.1
+    c.len.ensures.value ∙ ap length (row_at _ _ _ c.args.junction c.index.result.now c.self.invariant.1.0
     (omega (arith, count, c.requires)) c.index.ensures)
 
 small : (c : goal.After-len) → c.len.result ≤ 2 ^ 32

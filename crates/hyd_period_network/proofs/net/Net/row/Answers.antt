@@ -12,7 +12,7 @@ use Rattle.hyd_period_network.proofs.net.Net.row.Goals as goal
 row_is : (c : goal.After-as_slice) → c.as_slice.result.now ≡ ties_from c.args.node 0 c.self.inside.ends.items
 row_is c =
     let count = ap node_count c.self.view_is in
-    c.as_slice.ensures ∙ row_at _ _ _ c.args.node c.index.result.now c.self.invariant.1
+    c.as_slice.ensures ∙ row_at _ _ _ c.args.node c.index.result.now c.self.invariant.1.0
     (omega (arith, count, c.requires)) c.index.ensures
 
 pub returns-clause-ties : goal.returns-clause-ties

@@ -1,6 +1,7 @@
-use Rattle.std.proofs.Common.{◌≡◌, ℕ, ◌++◌, List, length, take, drop, subst, ap, sym, ◌∙◌}
+use Rattle.std.proofs.Common.{◌≡◌, ℕ, ◌+◌, ◌++◌, List, length, map, take, drop, subst, ap, sym, ◌∙◌}
 use Rattle.hyd_period_network.specs.declared.junctions_ends_and_settings.NetJunction.{NetJunction}
 use Rattle.hyd_period_network.specs.NetView.{NetView}
+use Rattle.hyd_period_network.specs.BothLaws.{own_of, law_of, AreFree}
 use Rattle.hyd_period_network.specs.LinkEnds.{AreRowsOf}
 use Rattle.hyd_period_network.specs.GivenData.{with_emitters}
 use Rattle.hyd_period_network.proofs.GivenDataLemmas.{count_given, but_given, given_sound, nodes_given}
@@ -16,8 +17,8 @@ old c = record {
   tanks = c.self.inside.tanks.items;
   ends = c.self.inside.ends.items;
   settings = c.self.inside.settings.items;
-  own = c.self.inside.own.items;
-  laws = c.self.inside.laws.items;
+  own = map own_of c.self.inside.laws.items;
+  laws = map law_of c.self.inside.laws.items;
 }
 
 each : (c : goal.After-self-1) → length c.args.emitters.now ≡ length (old c).junctions
@@ -50,5 +51,8 @@ pub invariant_of-self : goal.invariant_of-self
 invariant_of-self c =
     let sound = given_sound (old c) c.args.emitters.now (each c) c.requires.sound c.self.invariant.0 in
     let rows = subst (λ (n : ℕ). AreRowsOf n c.self.inside.ends.items c.self.inside.rows.items)
-    (sym (nodes_given (old c) c.args.emitters.now (each c))) c.self.invariant.1 in
-    rw (junctions_are c) (sound, rows)
+    (sym (nodes_given (old c) c.args.emitters.now (each c))) c.self.invariant.1.0 in
+    let free = subst (λ (n : ℕ). AreFree (n + length c.self.inside.reservoirs.items) c.self.inside.ends.items
+    c.self.inside.laws.items) (sym (count_given c.self.inside.junctions.items c.args.emitters.now (each c)))
+    c.self.invariant.1.1 in
+    rw (junctions_are c) (sound, (rows, free))

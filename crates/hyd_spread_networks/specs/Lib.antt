@@ -1,0 +1,4 @@
+pub mod HeadsBySpreads
+pub mod NetsOfSpreads
+pub mod RefusedSpreads
+pub mod RoomForPeriods

@@ -1,0 +1,4 @@
+pub mod VectorsOfSides
+pub mod CertificatesOver
+pub mod FoundOnBoth
+pub mod CloseVectors

@@ -1,0 +1,2 @@
+pub mod VectorsOfBothNetworks
+pub mod NarrowForSpreads
