@@ -24,8 +24,8 @@ use hyd_vector_check::difference;
 /// By how much every flow may miss its law, in flow ticks.
 pub(crate) const TOLERANCE: i128 = MISSED_FLOW_TICKS as i128;
 
-// The flow of a link between two head differences, widened by the tolerance.
-fn between(law: &LinkLaw, least: i64, greatest: i64) -> Span
+/// The flow of a link between two head differences, in head ticks, widened by the tolerance, in flow ticks.
+pub fn flow_between(law: &LinkLaw, least: i64, greatest: i64) -> Span
     requires sound { IsSoundLink law.now }
     requires least { LinkAccepts law.now least }
     requires greatest { LinkAccepts law.now greatest }
@@ -68,5 +68,5 @@ pub fn flow_box(net: &Net, link: u32, low: &[i64], high: &[i64]) -> Span
         node_head(net, Problem::Main, Side::Upper, high, ends.from),
         node_head(net, Problem::Main, Side::Lower, low, ends.to),
     );
-    between(net.law(link), least, greatest)
+    flow_between(net.law(link), least, greatest)
 }

@@ -13,7 +13,7 @@ use hyd_period_network::Net;
 use hyd_spec_certificates::{Problem, Side};
 
 /// The head of a node in a problem and on a side, a vector's for the junctions, in head ticks.
-pub(crate) fn node_head(net: &Net, problem: Problem, side: Side, u: &[i64], node: u32) -> i64
+pub fn node_head(net: &Net, problem: Problem, side: Side, u: &[i64], node: u32) -> i64
     requires vector { IsVector net.now u.now }
     requires pinned { HasProblem net.now problem }
     requires in_range { node < node_count net.now }

@@ -20,8 +20,9 @@ use hyd_period_network::Net;
 use hyd_spec_certificates::{Problem, Side};
 use hyd_vector_check::flows_out;
 
-// The flows of links out of a tank, less those into it, with that tank pinned.
-fn tank_flows(net: &Net, tank: u32, side: Side, u: &[i64], node: u32) -> i128
+/// The flows of links out of a tank, less those into it, with that tank pinned, in flow ticks: for UPPER at most, for
+/// LOWER at least.
+pub fn tank_flows(net: &Net, tank: u32, side: Side, u: &[i64], node: u32) -> i128
     requires in_range { tank < length net.now.tanks }
     requires vector { IsVector net.now u.now }
     requires node { node ≡ tank_node_of net.now tank }

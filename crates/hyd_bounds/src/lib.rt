@@ -10,7 +10,8 @@ mod inflows;
 mod outflows;
 mod status_words;
 
-pub use flows::flow_box;
-pub use inflows::{pinned_in_order, tank_inflow};
+pub use flows::{flow_between, flow_box};
+pub use heads::node_head;
+pub use inflows::{pinned_in_order, tank_flows, tank_inflow};
 pub use outflows::out_box;
-pub use status_words::status_of;
+pub use status_words::{status_of, word_of};

@@ -141,7 +141,8 @@ fn limited(law: &LinkLaw, ticks: i64, least: i64, greatest: i64) -> StatusWord
     }
 }
 
-fn word_of(state: &LinkState, law: &LinkLaw, least: i64, greatest: i64) -> StatusWord
+/// The status word of a link in its state, with its own law, between two head differences, in head ticks.
+pub fn word_of(state: &LinkState, law: &LinkLaw, least: i64, greatest: i64) -> StatusWord
     requires sound { IsSoundLink law.now }
     requires least { LinkAccepts law.now least }
     requires greatest { LinkAccepts law.now greatest }

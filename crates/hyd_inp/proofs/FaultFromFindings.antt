@@ -1,7 +1,6 @@
 -- The fault of a text from what was found.
-use Rattle.std.proofs.Common.{◌≡◌, ◌≤◌, ◌^◌, ℕ, Bool, true, false, ◌||◌, List, [], ◌∷◌, length, Option, Some, None}
+use Rattle.std.proofs.Common.{◌≡◌, ◌≤◌, ◌^◌, ℕ, Bool, true, false, ◌||◌, List, [], ◌∷◌, length, Some, None}
 use Rattle.std.proofs.Common.{refl, sym, ap, ◌∙◌, subst, arith, inl, inr}
-use Rattle.std.specs.Prelude.{IfSome, IfNone}
 use Rattle.std.specs.List.{list_any}
 use Rattle.std.proofs.lemmas.Bool.{cases_Bool, le-leb}
 use Rattle.std.proofs.lemmas.List.{length-map}
@@ -28,6 +27,9 @@ use Rattle.hyd_net.specs.declared.project.Project.{Project}
 use Rattle.hyd_spec_input.specs.Project.{IsProject}
 use Rattle.hyd_theorems_on_input.proofs.RowsToProject.{all_right}
 use Rattle.hyd_inp.specs.declared.fault.InpFault.{InpFault}
+use Rattle.hyd_inp.specs.declared.fault.InpRefused.{InpRefused}
+use Rattle.hyd_inp.specs.declared.fault.InpRefused.TheVariants.{OutOfMemory, Fault}
+use Rattle.hyd_inp.specs.FaultOrNoMemory.{IfFault}
 
 -- ---- none is wrong
 
@@ -166,32 +168,19 @@ lacks_nothing rows named some = rw (named, some) refl
 
 -- ---- what is found by the reader of a text
 
-pub some_of_text : (text t : List ℕ) (found : Option InpFault) → t ≡ text → length text ≤ 2 ^ 26
-    → IfSome found (λ f. IsFaultOf (items_of t) f.line f.cause) → IfSome found (λ f. IsFault text f.line f.cause)
-some_of_text text t None e short faulty = tt
-some_of_text text t (Some fault) e short faulty =
+pub found_of_text : (text t : List ℕ) (fault : InpFault) → t ≡ text → length text ≤ 2 ^ 26
+    → IsFaultOf (items_of t) fault.line fault.cause → IsFault text fault.line fault.cause
+found_of_text text t fault e short faulty =
     let P : List ℕ → Type 0 = λ x. IsFaultOf (items_of x) fault.line fault.cause in
     inr (short, subst P e faulty)
 
-pub none_of_text : (text t : List ℕ) (found : Option InpFault) → t ≡ text → IfNone found (HasNoFault t)
-    → IfNone found (HasNoFault text)
-none_of_text text t None e none = subst HasNoFault e none
-none_of_text text t (Some fault) e none = tt
-
 -- ---- the whole reader
 
-pub fault_read : (text t : List ℕ) (found : Option InpFault) (fault : InpFault) → t ≡ text → length text ≤ 2 ^ 26
-    → found ≡ Some fault → IfSome found (λ f. IsFaultOf (items_of t) f.line f.cause)
-    → IsFault text fault.line fault.cause
-fault_read text t found fault e short is faulty =
-    let P : Option InpFault → Type 0 = λ o. IfSome o (λ f. IsFaultOf (items_of t) f.line f.cause) in
-    let here : IsFaultOf (items_of t) fault.line fault.cause = subst P is faulty in
-    let Q : List ℕ → Type 0 = λ x. IsFaultOf (items_of x) fault.line fault.cause in
-    inr (short, subst Q e here)
-
-pub none_read : (t : List ℕ) (found : Option InpFault) → found ≡ None → IfNone found (HasNoFault t) → HasNoFault t
-none_read t found is none =
-    let P : Option InpFault → Type 0 = λ o. IfNone o (HasNoFault t) in subst P is none
+pub fault_read : (text t : List ℕ) (refused : InpRefused) → t ≡ text → length text ≤ 2 ^ 26
+    → IfFault refused (λ f. IsFaultOf (items_of t) f.line f.cause) → IfFault refused (λ f. IsFault text f.line f.cause)
+fault_read text t OutOfMemory e short faulty = tt
+fault_read text t (Fault fault) e short faulty =
+    found_of_text text t fault e short faulty
 
 rows_read : (text t : List ℕ) (lines items : List Line) → t ≡ text → lines ≡ items
     → rows_at text items ≡ rows_in (items_of text) → rows_in (items_of t) ≡ rows_at t lines

@@ -1,3 +1,2 @@
 pub mod FirstWrongAmongSections
 pub mod FaultFromFindings
-pub mod TableRows

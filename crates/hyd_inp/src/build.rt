@@ -9,19 +9,20 @@ ghost use Rattle.hyd_spec_input.specs.Faults.{NoneIs, IsWrongWithOthers};
 ghost use Rattle.hyd_spec_input.specs.OptionsAndTimesInForce as force;
 ghost use Rattle.hyd_spec_input.specs.Project.{IsProject};
 ghost use Rattle.hyd_rows_and_tables.specs.RowsOfLines.{rows_at};
+ghost use Rattle.hyd_inp.specs.IdTables.{AreTables};
 ghost use Rattle.hyd_inp.specs.Parts.{AreNumbers, AreNodes, AreLinks, ArePatternsControlsAndRules, AreParts};
 ghost use Rattle.hyd_inp.specs.RowsToBuildFrom.{AreRowsForNetwork, rows_from};
 
 use crate::network_parts::{Links, Nodes, Parts, PatternsControlsAndRules, assemble};
 use crate::numbered_names::{Numbers, ids_of, number};
 use crate::rows_to_build_from::RowsForNetwork;
-use crate::tables::gather_tables;
+use crate::tables::Tables;
 use hyd_build_links_controls_and_rules::{RowsForLinks, build_controls, build_rules};
 use hyd_build_nodes_patterns_and_options::{
     build_junctions, build_patterns, build_reservoirs, build_tanks, options_in_force,
     times_in_force,
 };
-use hyd_curves::{gather_bends, gather_points, gather_shapes};
+use hyd_curves::{gather_bends, gather_shapes};
 use hyd_judge_nodes_curves_and_options::unit_in_force;
 use hyd_kept_capacities::KeptCapacities;
 use hyd_lex::{Line, Lines};
@@ -144,6 +145,7 @@ fn build_parts(
     alloc: Global,
     text: &Lines<'_>,
     lines: &[Line],
+    tables: &Tables,
     numbers: &Numbers,
     unit: FlowUnit,
     kept: &mut KeptCapacities,
@@ -152,19 +154,18 @@ fn build_parts(
     requires lie { All (LiesIn text.now.text) lines.now }
     requires by_itself { NoneIs (IsWrongByItself (rows_at text.now.text lines.now)) }
     requires with_others { NoneIs (IsWrongWithOthers (rows_at text.now.text lines.now)) }
+    requires tables { AreTables text.now.text (rows_at text.now.text lines.now) tables.now }
     requires numbers { AreNumbers (rows_at text.now.text lines.now) numbers.now }
     requires unit { unit ≡ force.unit (rows_at text.now.text lines.now) }
     ensures { IfOk result (AreParts (rows_at text.now.text lines.now)) }
 {
-    let tables = gather_tables(alloc, text, lines)?;
-    let points = gather_points(alloc, text, lines, &tables.curves)?;
     let given = RowsForNetwork {
         lines,
         numbers,
         nodes: &tables.nodes,
         links: &tables.links,
         curves: &tables.curves,
-        points: &points,
+        points: &tables.points,
         unit,
     };
     let nodes = build_nodes(alloc, text, &given)?;
@@ -177,23 +178,26 @@ fn build_parts(
     })
 }
 
-/// Builds the network of a file without a fault, with the capacities of pipes that were kept when it was judged.
+/// Builds the network of a file without a fault, with the tables and the capacities of pipes that were kept when it was
+/// judged.
 pub(crate) fn build(
     alloc: Global,
     text: &Lines<'_>,
     lines: &[Line],
+    tables: &Tables,
     kept: &mut KeptCapacities,
 ) -> Result<Project, OutOfMemory>
     requires few { length lines.now ≤ 2 ^ 26 }
     requires lie { All (LiesIn text.now.text) lines.now }
     requires by_itself { NoneIs (IsWrongByItself (rows_at text.now.text lines.now)) }
     requires with_others { NoneIs (IsWrongWithOthers (rows_at text.now.text lines.now)) }
+    requires tables { AreTables text.now.text (rows_at text.now.text lines.now) tables.now }
     ensures { IfOk result (IsProject (rows_at text.now.text lines.now)) }
 {
     let unit = unit_in_force(text, lines);
     let numbers = number(alloc, text, lines)?;
     let ids = ids_of(&numbers)?;
-    let parts = build_parts(alloc, text, lines, &numbers, unit, kept)?;
+    let parts = build_parts(alloc, text, lines, tables, &numbers, unit, kept)?;
     let options = options_in_force(text, lines, unit, &numbers.patterns);
     let times = times_in_force(text, lines);
     Ok(assemble(ids, parts, options, times))

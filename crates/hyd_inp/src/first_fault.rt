@@ -1,16 +1,19 @@
-//! The first fault of a text.
+//! The first fault of a text, or what its network is built from.
 #![tactic(auto)]
 
-ghost use Rattle.std.specs.Prelude.{◌≡◌, ◌≤◌, ◌^◌, length, IfOk, IfSome, IfNone};
+ghost use Rattle.std.specs.Prelude.{◌≡◌, ◌≤◌, ◌^◌, length, IfOk, IfErr, IfSome, IfNone};
 ghost use Rattle.std.specs.List.{All};
 ghost use Rattle.hyd_spec_lines.specs.Lines.{LiesIn, items_of, rows_in, all_rows_in, fault_in};
 ghost use Rattle.hyd_spec_input.specs.Faults.{IsFault, IsFaultOf, HasNoFault};
 ghost use Rattle.hyd_spec_input.specs.OptionsAndTimesInForce as force;
 ghost use Rattle.hyd_rows_and_tables.specs.RowsOfLines.{rows_at};
+ghost use Rattle.hyd_inp.specs.FaultOrNoMemory.{IfFault};
+ghost use Rattle.hyd_inp.specs.IdTables.{AreTables};
 
-use crate::fault::{InpFault, TEXT_TOO_LONG, line_cause};
+use crate::fault::{InpFault, InpRefused, TEXT_TOO_LONG, line_cause};
 use crate::first_wrong_with_others::first_with_others;
 use crate::missing_from_file::lack;
+use crate::tables::Tables;
 use hyd_kept_capacities::KeptCapacities;
 use hyd_lex::{LexFault, Line, Lines};
 use hyd_net::OutOfMemory;
@@ -34,45 +37,48 @@ fn is_by_power(text: &Lines<'_>, lines: &[Line], end: Option<LexFault>) -> bool
     }
 }
 
-/// The fault of a text of at most 64 MiB: its first row that is wrong by itself, the fault that ends its rows, its
-/// first row that is wrong with the others, what it lacks. The capacities of pipes are kept.
-pub(crate) fn fault_of(
+/// The tables of a text of at most 64 MiB that has no fault, else its fault: its first row that is wrong by itself, the
+/// fault that ends its rows, its first row that is wrong with the others, what it lacks. The capacities of pipes are kept.
+pub(crate) fn tables_or_fault(
     alloc: Global,
     text: &Lines<'_>,
     lines: &[Line],
     end: Option<LexFault>,
     kept: &mut KeptCapacities,
-) -> Result<Option<InpFault>, OutOfMemory>
+) -> Result<Tables, InpRefused>
     requires few { length lines.now ≤ 2 ^ 26 }
     requires lie { All (LiesIn text.now.text) lines.now }
     requires rows { rows_at text.now.text lines.now ≡ rows_in (items_of text.now.text) }
     requires end { end ≡ fault_in (items_of text.now.text) }
     requires short { length text.now.text ≤ 2 ^ 26 }
-    ensures fault { IfOk result (λ fault. IfSome fault (λ f. IsFaultOf (items_of text.now.text) f.line f.cause)) }
-    ensures none { IfOk result (λ fault. IfNone fault (HasNoFault text.now.text)) }
+    ensures fault { IfErr result (λ refused. IfFault refused
+        (λ f. IsFaultOf (items_of text.now.text) f.line f.cause)) }
+    ensures none { IfOk result (λ _. HasNoFault text.now.text) }
+    ensures tables { IfOk result (AreTables text.now.text (rows_at text.now.text lines.now)) }
 {
     let by_power = is_by_power(text, lines, end);
     if let Some(found) = first_by_itself(text, lines, by_power) {
-        return Ok(Some(InpFault {
+        return Err(InpRefused::Fault(InpFault {
             line: found.line,
             cause: found.cause,
         }));
     }
     if let Some(fault) = end {
-        return Ok(Some(InpFault {
+        return Err(InpRefused::Fault(InpFault {
             line: fault.line,
             cause: line_cause(fault.cause),
         }));
     }
-    if let Some(found) = first_with_others(alloc, text, lines, kept)? {
-        return Ok(Some(InpFault {
+    let judged = first_with_others(alloc, text, lines, kept)?;
+    if let Some(found) = judged.found {
+        return Err(InpRefused::Fault(InpFault {
             line: found.line,
             cause: found.cause,
         }));
     }
     match lack(text, lines) {
-        Some(cause) => Ok(Some(InpFault { line: 0, cause })),
-        None => Ok(None),
+        Some(cause) => Err(InpRefused::Fault(InpFault { line: 0, cause })),
+        None => Ok(judged.tables),
     }
 }
 
@@ -89,12 +95,15 @@ pub fn find_fault(alloc: Global, text: &[u8]) -> Result<Option<InpFault>, OutOfM
     let gathered = gather(alloc, text)?;
     let reader = Lines::new(text);
     let mut kept = KeptCapacities::new(alloc);
-    let fault = fault_of(
+    match tables_or_fault(
         alloc,
         &reader,
         gathered.lines.as_slice(),
         gathered.fault,
         &mut kept,
-    )?;
-    Ok(fault)
+    ) {
+        Ok(_) => Ok(None),
+        Err(InpRefused::Fault(fault)) => Ok(Some(fault)),
+        Err(InpRefused::OutOfMemory) => Err(OutOfMemory),
+    }
 }

@@ -10,7 +10,7 @@ ghost use Rattle.hyd_inp.specs.FaultOrNoMemory.{IfFault};
 
 use crate::build::build;
 use crate::fault::{InpRefused, TEXT_TOO_LONG};
-use crate::first_fault::{LONGEST_TEXT, fault_of};
+use crate::first_fault::{LONGEST_TEXT, tables_or_fault};
 use hyd_kept_capacities::KeptCapacities;
 use hyd_lex::Lines;
 use hyd_net::Project;
@@ -33,9 +33,7 @@ pub fn read_project(alloc: Global, text: &[u8]) -> Result<Project, InpRefused>
     let reader = Lines::new(text);
     let lines = gathered.lines.as_slice();
     let mut kept = KeptCapacities::new(alloc);
-    if let Some(fault) = fault_of(alloc, &reader, lines, gathered.fault, &mut kept)? {
-        return Err(InpRefused::Fault(fault));
-    }
-    let project = build(alloc, &reader, lines, &mut kept)?;
+    let tables = tables_or_fault(alloc, &reader, lines, gathered.fault, &mut kept)?;
+    let project = build(alloc, &reader, lines, &tables, &mut kept)?;
     Ok(project)
 }

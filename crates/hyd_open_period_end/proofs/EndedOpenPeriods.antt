@@ -158,10 +158,10 @@ module _ (project : Project) (sound : IsSound project) (grid : Grid) (standing :
         rw (at_first, zero, lists.0, lists.1) there
   ]
 
-  pub closed-of : (begun looked decided told : Facts) (close : OpenPeriodEnd)
+  pub closed-of : (looked decided told : Facts) (close : OpenPeriodEnd)
       → found.shortest ≡ shortest_length standing.late way → found.row.length ≡ longest_length way
-      → AreBegun project standing.known begun → looked ≡ record begun { inflows = looked.inflows }
-      → AreStarted project grid standing.known found.row looked → decided ≡ record looked { changes = decided.changes }
+      → AreBegun project standing.known looked → AreStarted project grid standing.known found.row looked
+      → decided ≡ record looked { changes = decided.changes }
       → told ≡ record decided { length = close.first; events = told.events }
       → close.commanded.items ≡ links_left project grid standing found.row way
       → decided.changes.list ≡ changes_left project grid standing found.row looked.changes.list way
@@ -175,8 +175,8 @@ module _ (project : Project) (sound : IsSound project) (grid : Grid) (standing :
       → ControlsAreDecided project (map levels_of close.next.levels.list)
       → close.first ≡ first_end way → close.late ≡ late_at_end standing.late way
       → IsClosedOpenly project grid standing found told close
-  closed-of begun looked decided told close shortest longest is keep_looked started keep_decided keep_told links changes
-      known opened levels volumes states controls first late =
+  closed-of looked decided told close shortest longest is started keep_decided keep_told links changes known opened
+      levels volumes states controls first late =
       let some = later-end project sound grid standing found.row before way ends_so in
       let last = end-in-time project sound grid standing found.row before way ends_so in
       record {
@@ -217,7 +217,7 @@ module _ (project : Project) (sound : IsSound project) (grid : Grid) (standing :
           changes = ap (λ (f : Facts). f.changes.list) keep_told ∙ changes
               ∙ behind project grid standing found.row looked.changes.list way
               ∙ ap (λ (cs : List Change). cs ++ report.changes_left project grid standing found.row way)
-              (ap (λ (f : Facts). f.changes.list) keep_looked ∙ is.changes);
+              is.changes;
           brings = brings-so told.events.list close.opened.list close.first close.late first late known opened;
         };
       }

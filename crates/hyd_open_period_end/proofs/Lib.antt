@@ -1,3 +1,4 @@
 mod CarriedLeftByFacts
 mod EndedOpenPeriods
+pub mod PeriodsLookedAt
 pub mod StocksThere

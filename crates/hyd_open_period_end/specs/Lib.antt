@@ -1,3 +1,4 @@
 pub mod CarriedAtEnd
+pub mod LookedAt
 pub mod OpenMatters
 pub mod EndOfOpenPeriod

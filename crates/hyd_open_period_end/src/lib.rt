@@ -13,4 +13,5 @@ mod matters;
 mod open_period_end;
 mod telling;
 
+pub use inflows_and_readings::look;
 pub use open_period_end::{ANY_SLACK, OpenPeriodEnd};

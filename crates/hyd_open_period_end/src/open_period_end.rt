@@ -3,29 +3,20 @@
 
 ghost use Rattle.std.specs.Prelude.{ℕ, ◌≡◌, ◌<◌, ◌≤◌, ◌+◌, ◌^◌, length, IfOk, IfErr, OnOk, OnErr};
 ghost use Rattle.hyd_net.specs.Sound.{IsSound};
-ghost use Rattle.hyd_spec.specs.NodeNumbers.{tank_count};
-ghost use Rattle.hyd_spec_certificates.specs.Valid.{AreCertificates};
 ghost use Rattle.hyd_spec_certificates.specs.Stops.{IsTightRow};
-ghost use Rattle.hyd_spec_open_ends.specs.OpenStandings.{OpenStanding, OpenRecord};
 ghost use Rattle.hyd_spec_open_refusals.specs.RefusedOpenRecords.{LeavesMatterOpen, HasLengths, HasOtherLengths};
 ghost use Rattle.hyd_theorems_on_definitions.specs.LyingInIntervals.{HasStock};
-ghost use Rattle.hyd_theorems_on_definitions.specs.SoundLawsAndGrids.{TanksInOrder};
-ghost use Rattle.hyd_cert.specs.RecordView.{row_of};
-ghost use Rattle.hyd_open_certificates.specs.OpenRowView.{open_record_of};
-ghost use Rattle.hyd_period_network.specs.NetAsPeriodNetwork.{grid_of};
-ghost use Rattle.hyd_period_network.specs.NetsSetToPeriods.{IsNetOf};
 ghost use Rattle.hyd_period_facts.specs.ReservedMemory.{HasRoom as HasFactsRoom};
 ghost use Rattle.hyd_period_facts.specs.FactsBeforeEnd.{HaveTanks, stocks_in};
-ghost use Rattle.hyd_period_end.specs.FactsBeforeVectors.{AreBegun, AreReady};
+ghost use Rattle.hyd_period_end.specs.FactsBeforeVectors.{AreReady};
 ghost use Rattle.hyd_period_end.specs.EndOfPeriod.{AreKeptIn};
-ghost use Rattle.hyd_period_end.specs.OpenMatters.{SharesVectors};
 ghost use Rattle.hyd_open_period_end.specs.EndOfOpenPeriod.{AreOfSomeStart, HasRoom, IsClosedOpenly};
+ghost use Rattle.hyd_open_period_end.specs.LookedAt.{AreReadings, AreOfSomeRecord, ForPeriod};
 ghost use Rattle.hyd_open_period_end.specs.OpenMatters.{IsOpenlyOpenAt, IsLeftOpen};
 
 use crate::arrivals::reached_at;
 use crate::ending::decide_end;
 use crate::following::follow;
-use crate::inflows_and_readings::look;
 use crate::matters::open_end;
 use crate::telling::tell_end;
 use hyd_cert::Record;
@@ -35,7 +26,6 @@ use hyd_open_ends::{first_end, late_at_end, lengths_of};
 use hyd_period_end::Open;
 use hyd_period_facts::{Facts, TankStart};
 use hyd_period_length::Readings;
-use hyd_period_network::Net;
 use hyd_spec_certificates::{Event, LevelSpan};
 use std::alloc::Global;
 
@@ -114,60 +104,57 @@ impl OpenPeriodEnd {
     }
 
     /// Ends a period that begins before the end of the run, in one of the seconds from the facts' time to `late` later,
-    /// by the vectors of its record, which are certificates, where its end may be open by at most `slack` seconds: puts
-    /// its lengths into the record, completes the facts by what flows into tanks, when its end comes first, and the events
-    /// and changes of its end, and leaves when that comes, with its events where it is open by some seconds, the states that links are commanded to be in, and the stocks and
-    /// states of tanks with which the next period begins (EPANET 2.2 User Manual, chapter 3). The facts hold what is
-    /// known at its start, with some stock between the ends of each interval. It takes no memory.
+    /// by what was looked at: what flows into its tanks, among the facts, and the readings. Its end may be open by at
+    /// most `slack` seconds. Puts its lengths into the record, completes the facts by when its end comes first, and the
+    /// events and changes of its end, and leaves when that comes, with its events where it is open by some seconds, the
+    /// states that links are commanded to be in, and the stocks and states of tanks with which the next period begins
+    /// (EPANET 2.2 User Manual, chapter 3). The facts hold what is known at its start, with some stock between the ends
+    /// of each interval. It takes no memory.
     ///
-    /// Fails with [`Open`], the first matter that the vectors leave open: a rule or the end of the period, between two
-    /// seconds after its first start, and where that is decided the state of a tank or a level control there. The record
-    /// then stays; nothing but its room is said of what is left. With [`ANY_SLACK`] it fails exactly where the vectors
-    /// leave a matter open, by however many seconds.
+    /// Contracts speak of any grid and record of which inflows and readings are: of a net and a record whose vectors
+    /// are certificates there, as [`look`](crate::look) reads them, or of two nets, one a side.
+    ///
+    /// Fails with [`Open`], the first matter that is left open: a rule or the end of the period, between two seconds
+    /// after its first start, and where that is decided the state of a tank or a level control there. The record then
+    /// stays; nothing but its room is said of what is left. With [`ANY_SLACK`] it fails exactly where a matter is left
+    /// open, by however many seconds.
     pub fn finish(
         &mut self,
         project: &Project,
-        net: &Net,
         late: u32,
         slack: u32,
         found: &mut OpenRow,
         facts: &mut Facts,
     ) -> Result<(), Open>
         requires sound { IsSound project.now }
-        requires of { IsNetOf project.now net.now }
-        requires order { TanksInOrder (grid_of net.now) }
-        requires certificates { AreCertificates project.now (grid_of net.now) (row_of found.old.row) }
-        requires tanks { found.old.row.tanks ≡ tank_count project.now }
         requires ready { AreReady project.now facts.old }
+        requires have { HaveTanks project.now facts.old }
+        requires readings { AreReadings project.now self.old.readings }
         requires begins { AreOfSomeStart project.now late facts.old }
+        requires looked { AreOfSomeRecord project.now facts.old self.old.readings }
         requires there { (k : ℕ) → HasStock (stocks_in facts.old k) }
         requires before_end { facts.old.time < project.now.times.duration }
         requires late { late ≤ 10 ^ 8 }
         requires room { HasRoom project.now self.old }
-        ensures closed { OnOk result ((standing : OpenStanding) → standing.late ≡ late
-            → AreBegun project.now standing.known facts.old
-            → IsClosedOpenly project.now (grid_of net.now) standing (open_record_of found.new) facts.new self.new) }
+        ensures closed { OnOk result (ForPeriod project.now late facts.old self.old.readings
+            (λ grid standing other. other.shortest ≡ found.new.shortest
+            → other.row.length ≡ found.new.row.length
+            → IsClosedOpenly project.now grid standing other facts.new self.new)) }
         ensures within_slack { OnOk result (self.new.late ≤ slack) }
         ensures held { OnOk result (AreKeptIn project.now self.new.next) }
         ensures have { OnOk result (HaveTanks project.now facts.new) }
-        ensures open { IfErr result (λ what. (standing : OpenStanding) (other : OpenRecord) → standing.late ≡ late
-            → AreBegun project.now standing.known facts.old → SharesVectors other.row (row_of found.old.row)
-            → IsOpenlyOpenAt project.now (grid_of net.now) standing slack other what) }
-        ensures stops { IfErr result (λ what. (standing : OpenStanding) → standing.late ≡ late
-            → AreBegun project.now standing.known facts.old
-            → IsTightRow project.now standing.known (grid_of net.now) (row_of found.old.row)
-            → IsLeftOpen project.now standing slack what) }
-        ensures matter { 10 ^ 8 ≤ slack → OnErr result ((standing : OpenStanding) (other : OpenRecord)
-            → standing.late ≡ late → AreBegun project.now standing.known facts.old
-            → SharesVectors other.row (row_of found.old.row)
-            → LeavesMatterOpen project.now (grid_of net.now) standing other) }
-        ensures decided { OnOk result ((standing : OpenStanding) (other : OpenRecord) → standing.late ≡ late
-            → AreBegun project.now standing.known facts.old → SharesVectors other.row (row_of found.old.row)
-            → LeavesMatterOpen project.now (grid_of net.now) standing other → ⊥) }
-        ensures lengths { OnOk result ((standing : OpenStanding) (other : OpenRecord) → standing.late ≡ late
-            → AreBegun project.now standing.known facts.old → SharesVectors other.row (row_of found.old.row)
-            → (HasLengths other found.new.shortest found.new.row.length → ⊥)
-            → HasOtherLengths project.now (grid_of net.now) standing other) }
+        ensures open { IfErr result (λ what. ForPeriod project.now late facts.old self.old.readings
+            (λ grid standing other. IsOpenlyOpenAt project.now grid standing slack other what)) }
+        ensures stops { IfErr result (λ what. ForPeriod project.now late facts.old self.old.readings
+            (λ grid standing other. IsTightRow project.now standing.known grid other.row
+            → IsLeftOpen project.now standing slack what)) }
+        ensures matter { 10 ^ 8 ≤ slack → OnErr result (ForPeriod project.now late facts.old self.old.readings
+            (LeavesMatterOpen project.now)) }
+        ensures decided { OnOk result (ForPeriod project.now late facts.old self.old.readings
+            (λ grid standing other. LeavesMatterOpen project.now grid standing other → ⊥)) }
+        ensures lengths { OnOk result (ForPeriod project.now late facts.old self.old.readings
+            (λ grid standing other. (HasLengths other found.new.shortest found.new.row.length → ⊥)
+            → HasOtherLengths project.now grid standing other)) }
         ensures row { found.new ≡ record found.old {
           row = record found.old.row { length = found.new.row.length };
           shortest = found.new.shortest;
@@ -177,7 +164,6 @@ impl OpenPeriodEnd {
         ensures facts { HasFactsRoom project.now facts.new }
         ensures room { HasRoom project.now self.new }
     {
-        look(project, net, &found.row, &mut self.readings, facts);
         let way = match decide_end(
             project,
             facts,

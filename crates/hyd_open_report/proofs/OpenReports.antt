@@ -111,7 +111,7 @@ module _ (project : Project) (grid : Grid) (states : List LinkState) (standing :
       (state_lines project grid states found.row facts)
       (state_are project grid states standing found first late.end events facts are tanks same each)))
 
-  end_is : AreOpenEndLines project grid standing found (open_end_lines facts late.end events)
+  pub end_is : AreOpenEndLines project grid standing found (open_end_lines facts late.end events)
   unfolding end_by
   end_is =
       subst (λ (t : ℕ). AreOpenEndLines project grid standing found (end_by (t + facts.length) late.end
@@ -122,7 +122,7 @@ module _ (project : Project) (grid : Grid) (states : List LinkState) (standing :
       (standing.known.time + first) late.end facts.events.list cs events)) (sym apart.1)
       (ends_are project grid standing found first late.end facts.events.list events are.by_rules are.brings)))
 
-  start_is : open_start_lines facts late.start ≡ report.open_control_lines project standing
+  pub start_is : open_start_lines facts late.start ≡ report.open_control_lines project standing
   start_is =
       ap (λ (n : ℕ). map (λ (change : Change). record { line = change_line facts.time change; late = n })
       (take (before_rules facts.changes.list) facts.changes.list)) start

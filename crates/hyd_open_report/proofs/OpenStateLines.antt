@@ -39,7 +39,7 @@ use Rattle.hyd_lemmas.proofs.ListsOptionsAndResults.{numbered_at}
 -- ---- printed ends
 
 -- the ends that print an interval do, of quantities with denominators above 0
-prints : (quantity : ℤ → Rational) → ((t : ℤ) → 0 < (quantity t).den) → (ticks : Interval)
+pub prints : (quantity : ℤ → Rational) → ((t : ℤ) → 0 < (quantity t).den) → (ticks : Interval)
     → Prints quantity ticks (printed quantity ticks)
 unfolding printed
 prints quantity above ticks =
@@ -65,7 +65,7 @@ each_line P f n (x ∷ xs) each =
           (each (suc k) y at)),
     )
 
-every_line : {X : Type 0} (P : ℕ → X → ReportLine → Type 0) (f : ℕ → X → ReportLine) (xs : List X)
+pub every_line : {X : Type 0} (P : ℕ → X → ReportLine → Type 0) (f : ℕ → X → ReportLine) (xs : List X)
     → ((k : ℕ) (x : X) → slice_get xs k ≡ Some x → P k x (f k x)) → LineEach P 0 xs (map_from f 0 xs)
 every_line P f xs each = each_line P f 0 xs (λ k x at. let m : k ≡ 0 + k = omega arith in subst (λ j. P j x (f j x)) m
     (each k x at))
@@ -112,7 +112,7 @@ module _ (project : Project) (grid : Grid) (states : List LinkState) (standing :
       at
       ∙ ap (inflow_of_tank project grid found.row) m)
 
-  tank_here : (k : ℕ) (tank : Tank) → slice_get project.tanks.list k ≡ Some tank
+  pub tank_here : (k : ℕ) (tank : Tank) → slice_get project.tanks.list k ≡ Some tank
       → IsTankLine project grid standing.known found.row k tank (tank_line project facts.levels.list facts.inflows.list
       facts.tanks.list k tank)
   tank_here k tank at =
@@ -138,7 +138,7 @@ module _ (project : Project) (grid : Grid) (states : List LinkState) (standing :
             (slice_get-get_or facts.tanks.list k Between (omega (arith, within, few)));
       }
 
-  link_here : (l : ℕ) (link : Link) → slice_get project.links.list l ≡ Some link
+  pub link_here : (l : ℕ) (link : Link) → slice_get project.links.list l ≡ Some link
       → IsLinkLine project grid standing.known found.row l link (link_line project grid (heads_below grid found.row)
       (heads_above grid found.row) states l link)
   link_here l link at =

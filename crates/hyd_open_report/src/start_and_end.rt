@@ -61,8 +61,10 @@ fn first_end(facts: &Facts) -> u64
     u64::from(facts.time) + u64::from(facts.length)
 }
 
-/// Puts the lines of changes by controls at a start that is open by so many seconds.
-pub(crate) fn put_start<D: Desk>(
+/// Puts the lines of changes by controls at a start that is open by so many seconds. Its faults and its needs are those
+/// of `Pen::put`: after a fault, what went out is a front of what was put in before and of these lines. It takes no
+/// memory.
+pub fn put_start<D: Desk>(
     project: &Project,
     facts: &Facts,
     late: u32,
@@ -111,8 +113,8 @@ pub(crate) fn put_opened<D: Desk>(
 }
 
 /// Puts the lines of events and of changes by rules at an end that is known to the second, and those of events at one
-/// that is open by so many seconds.
-pub(crate) fn put_end<D: Desk>(
+/// that is open by so many seconds. Its faults and its needs are those of `put_start`. It takes no memory.
+pub fn put_end<D: Desk>(
     project: &Project,
     facts: &Facts,
     late: u32,

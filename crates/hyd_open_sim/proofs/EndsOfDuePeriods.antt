@@ -1,6 +1,6 @@
 -- How a period ends by the vectors of its record.
 use Rattle.std.proofs.Common.{◌≡◌, ◌≢◌, ◌≤◌, ℕ, false, List, [], ◌∷◌, ◌++◌, map, refl, sym, ap, subst, ◌∙◌, arith}
-use Rattle.std.specs.Prelude.{All, Result, Ok, Err, OnOk, OnErr}
+use Rattle.std.specs.Prelude.{Result, Ok, Err, OnOk, OnErr}
 use Rattle.hyd_spec.specs.ProgramTypes.{Project, Tank, LinkState}
 use Rattle.hyd_spec.specs.Lists.{map_from}
 use Rattle.hyd_spec.specs.declared.Change.{Change}
@@ -15,15 +15,13 @@ use Rattle.hyd_spec_open_ends.specs.OpenRecords.{LeadsOnOpenly, continues, finis
 use Rattle.hyd_spec_open_refusals.specs.RefusedOpenRecords.{HasLengths, HasOtherLengths, LeavesMatterOpen, at_end}
 use Rattle.hyd_net.specs.ListView.{ListView}
 use Rattle.hyd_cert.specs.RecordView.{row_of}
-use Rattle.hyd_tank.specs.StockIntervals.{IsInflow, volumes_of}
+use Rattle.hyd_tank.specs.StockIntervals.{volumes_of}
 use Rattle.hyd_period_facts.specs.FactsBeforeEnd.{HaveTanks}
 use Rattle.hyd_period_facts.specs.declared.facts.Facts.{Facts}
 use Rattle.hyd_period_network.specs.NetAsPeriodNetwork.{grid_of}
 use Rattle.hyd_period_network.specs.NetView.{NetView}
 use Rattle.hyd_period_end.specs.EndOfPeriod.{AreKeptIn}
-use Rattle.hyd_period_end.specs.FactsBeforeVectors.{AreBegun, AreReady}
-use Rattle.hyd_period_end.specs.OpenMatters.{SharesVectors}
-use Rattle.hyd_period_end.proofs.FactsByVectors.{have-tanks}
+use Rattle.hyd_period_end.specs.FactsBeforeVectors.{AreBegun}
 use Rattle.hyd_open_certificates.specs.OpenRowView.{open_record_of}
 use Rattle.hyd_open_certificates.specs.declared.open_row.OpenRow.{OpenRow}
 use Rattle.hyd_open_facts.specs.FactsOfOpenPeriod.{AreOpenFacts, EndBringsOpenly, at_last}
@@ -34,7 +32,7 @@ use Rattle.hyd_open_sim_start.specs.StartedPeriods.{IsStarted}
 use Rattle.hyd_open_sim_start.specs.declared.standing.Standing.{Standing as Here}
 use Rattle.hyd_open_sim_start.proofs.StandingsAtStarts.{late-at-last}
 use Rattle.hyd_theorems_on_open_refusals.proofs.OneOpenRefusal.{open-not-last}
-use Rattle.hyd_open_sim.specs.EndedPeriods.{IsMade, IsOver, next_standing}
+use Rattle.hyd_open_sim.specs.EndedPeriods.{IsMade, IsOver, IsOverBy, next_standing}
 use Rattle.hyd_open_sim.proofs.StandingsBehindPeriods.{at-last, at-later}
 
 -- what follows of an answer that is there
@@ -53,51 +51,46 @@ no-more (x ∷ xs) = ap (λ (ys : List Change). x ∷ ys) (no-more xs)
 
 -- ---- the end of the run
 
-module _ (project : Project) (here : Here) (grid : Grid) (found : OpenRow) (before now : Facts) (close : OpenPeriodEnd)
-    (is : IsStanding project here) (last : here.time ≡ project.times.duration)
-    (begun : AreBegun project (known_for here) before) (ready : AreReady project before)
+module _ (project : Project) (here : Here) (grid : Grid) (found : OpenRecord) (before now : Facts)
+    (close : OpenPeriodEnd) (is : IsStanding project here) (last : here.time ≡ project.times.duration)
+    (begun : AreBegun project (known_for here) before) (have : HaveTanks project before)
     (no_shortest : found.shortest ≡ 0) (no_length : found.row.length ≡ 0) (no_first : close.first ≡ 0)
     (no_late : close.late ≡ 0) (none_opened : close.opened.list ≡ [])
-    (keeps : now ≡ record before { length = 0; inflows = now.inflows; events = now.events })
-    (inflows : map flows_of now.inflows.list
-    ≡ map_from (λ k (tank : Tank). inflow_of_tank project grid (row_of found.row) k) 0 project.tanks.list)
-    (small : All IsInflow now.inflows.list) (no_events : now.events.list ≡ []) where
+    (keeps : now ≡ record before { length = 0; events = now.events })
+    (inflows : map flows_of before.inflows.list
+    ≡ map_from (λ k (tank : Tank). inflow_of_tank project grid found.row k) 0 project.tanks.list)
+    (no_events : now.events.list ≡ []) where
   late-none : here.late ≡ 0
   late-none = late-at-last project here is last
 
-  have-inflows : HaveTanks project (record before { inflows = now.inflows })
-  have-inflows = have-tanks project grid (row_of found.row) before now.inflows ready inflows small
-
-  have-now : HaveTanks project (record before { length = 0; inflows = now.inflows; events = now.events })
+  have-now : HaveTanks project (record before { length = 0; events = now.events })
   have-now = record {
-    levels = have-inflows.levels;
-    volumes = have-inflows.volumes;
-    inflows = have-inflows.inflows;
-    tanks = have-inflows.tanks;
-    held = have-inflows.held;
-    small = have-inflows.small;
+    levels = have.levels;
+    volumes = have.volumes;
+    inflows = have.inflows;
+    tanks = have.tanks;
+    held = have.held;
+    small = have.small;
   }
 
-  brings-nothing : EndBringsOpenly project grid (standing_for here) (open_record_of found) close.first close.late
-      now.events.list close.opened.list []
+  brings-nothing : EndBringsOpenly project grid (standing_for here) found close.first close.late now.events.list
+      close.opened.list []
   brings-nothing =
-      subst (λ (es : List Event). EndBringsOpenly project grid (standing_for here) (open_record_of found) close.first
-      close.late es close.opened.list []) (sym no_events)
-      (subst (λ (es : List Event). EndBringsOpenly project grid (standing_for here) (open_record_of found) close.first
-      close.late [] es []) (sym none_opened)
-      (subst (λ (n : ℕ). EndBringsOpenly project grid (standing_for here) (open_record_of found) n close.late [] [] [])
-      (sym no_first)
-      (subst (λ (n : ℕ). EndBringsOpenly project grid (standing_for here) (open_record_of found) 0 n [] [] [])
-      (sym no_late) (at_last last))))
+      subst (λ (es : List Event). EndBringsOpenly project grid (standing_for here) found close.first close.late es
+      close.opened.list []) (sym no_events)
+      (subst (λ (es : List Event). EndBringsOpenly project grid (standing_for here) found close.first close.late [] es
+      []) (sym none_opened)
+      (subst (λ (n : ℕ). EndBringsOpenly project grid (standing_for here) found n close.late [] [] []) (sym no_first)
+      (subst (λ (n : ℕ). EndBringsOpenly project grid (standing_for here) found 0 n [] [] []) (sym no_late)
+      (at_last last))))
 
-  facts-last : AreOpenFacts project grid (standing_for here) (open_record_of found) close.first close.late
-      close.opened.list now
+  facts-last : AreOpenFacts project grid (standing_for here) found close.first close.late close.opened.list now
   facts-last = record {
     time = ap (λ (f : Facts). f.time) keeps ∙ begun.time;
     length = ap (λ (f : Facts). f.length) keeps ∙ sym no_first;
     levels = ap (λ (f : Facts). map levels_of f.levels.list) keeps ∙ begun.levels;
     volumes = ap (λ (f : Facts). map volumes_of f.volumes.list) keeps ∙ begun.volumes;
-    inflows = inflows;
+    inflows = ap (λ (f : Facts). map flows_of f.inflows.list) keeps ∙ inflows;
     tanks = ap (λ (f : Facts). f.tanks.list) keeps ∙ begun.tanks;
     links = ap (λ (f : Facts). f.links.list) keeps ∙ begun.links;
     by_rules = [];
@@ -106,9 +99,9 @@ module _ (project : Project) (here : Here) (grid : Grid) (found : OpenRow) (befo
     brings = brings-nothing;
   }
 
-  pub last-over : (slack : ℕ) → IsOver project slack here grid found now close
+  pub last-over : (slack : ℕ) → IsOverBy project slack here grid found now close
   last-over slack = record {
-    leads_on = subst (LeadsOnOpenly project grid (standing_for here) (open_record_of found))
+    leads_on = subst (LeadsOnOpenly project grid (standing_for here) found)
         (sym (at-last project here close last)) (finishes (record {
           is_last = last;
           no_shortest = no_shortest;
@@ -138,12 +131,12 @@ last-lengths project here grid other shortest longest last short long apart =
 
 -- ---- any other end
 
-pub closed-over : (project : Project) (slack : ℕ) (here : Here) (grid : Grid) (found : OpenRow) (facts : Facts)
+pub closed-over : (project : Project) (slack : ℕ) (here : Here) (grid : Grid) (found : OpenRecord) (facts : Facts)
     (close : OpenPeriodEnd) → here.time ≢ project.times.duration
-    → IsClosedOpenly project grid (standing_for here) (open_record_of found) facts close → close.late ≤ slack
-    → AreKeptIn project close.next → HaveTanks project facts → IsOver project slack here grid found facts close
+    → IsClosedOpenly project grid (standing_for here) found facts close → close.late ≤ slack
+    → AreKeptIn project close.next → HaveTanks project facts → IsOverBy project slack here grid found facts close
 closed-over project slack here grid found facts close other closed within held have = record {
-  leads_on = subst (LeadsOnOpenly project grid (standing_for here) (open_record_of found))
+  leads_on = subst (LeadsOnOpenly project grid (standing_for here) found)
       (sym (at-later project here close other)) (continues closed.continues);
   within = (let e = ap (λ (s : OpenStanding). s.late) (at-later project here close other) in omega (arith, e, within));
   facts_are = closed.facts_are;

@@ -3,7 +3,7 @@
 use Rattle.std.specs.Prelude.{◌≡◌, ◌≢◌, ℕ, suc, ◌<◌, ◌≤◌, true, ◌==◌, if◌then◌else◌}
 use Rattle.hyd_spec.specs.ProgramTypes.{Project}
 use Rattle.hyd_spec_certificates.specs.PeriodNetwork.{Grid}
-use Rattle.hyd_spec_open_ends.specs.OpenStandings.{OpenStanding}
+use Rattle.hyd_spec_open_ends.specs.OpenStandings.{OpenStanding, OpenRecord}
 use Rattle.hyd_spec_open_ends.specs.OpenRecords.{LeadsOnOpenly, IsValidOpenly}
 use Rattle.hyd_period_facts.specs.FactsBeforeEnd.{HaveTanks}
 use Rattle.hyd_period_facts.specs.declared.facts.Facts.{Facts}
@@ -32,19 +32,22 @@ abbrev pub next_standing : Project → Here → OpenPeriodEnd → OpenStanding
 next_standing project here close =
     if here.time == project.times.duration then last_standing here else standing_left (standing_for here) close
 
--- a period is over, and this is what it leaves: its record leads on, its end is open by at most the slack, the facts
--- are its own, and where the run goes on, it ends a second after its first start or later, and the next stocks lie
--- within the bounds of their tanks
-pub record IsOver (project : Project) (slack : ℕ) (here : Here) (grid : Grid) (found : OpenRow) (facts : Facts)
+-- a period is over by a record on a grid, and this is what it leaves: its record leads on, its end is open by at most
+-- the slack, the facts are its own, and where the run goes on, it ends a second after its first start or later, and the
+-- next stocks lie within the bounds of their tanks
+pub record IsOverBy (project : Project) (slack : ℕ) (here : Here) (grid : Grid) (found : OpenRecord) (facts : Facts)
     (close : OpenPeriodEnd) : Type 0 where
-  pub leads_on : LeadsOnOpenly project grid (standing_for here) (open_record_of found)
-      (next_standing project here close)
+  pub leads_on : LeadsOnOpenly project grid (standing_for here) found (next_standing project here close)
   pub within : (next_standing project here close).late ≤ slack
-  pub facts_are : AreOpenFacts project grid (standing_for here) (open_record_of found) close.first close.late
-      close.opened.list facts
+  pub facts_are : AreOpenFacts project grid (standing_for here) found close.first close.late close.opened.list facts
   pub have : HaveTanks project facts
   pub held : here.time ≢ project.times.duration → AreKeptIn project close.next
   pub later : here.time ≢ project.times.duration → 0 < close.first
+
+-- so it is by the record that the program keeps
+abbrev pub IsOver : Project → ℕ → Here → Grid → OpenRow → Facts → OpenPeriodEnd → Type 0
+IsOver project slack here grid found facts close =
+    IsOverBy project slack here grid (open_record_of found) facts close
 
 -- its record is valid besides, and the net is that of the period, with links in the states of the facts
 pub record IsMade (project : Project) (slack : ℕ) (here : Here) (net : NetView) (found : OpenRow) (facts : Facts)

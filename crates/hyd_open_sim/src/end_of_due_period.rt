@@ -1,9 +1,8 @@
 //! The end of a period that is due, by the vectors of its record.
 #![tactic(auto)]
 
-ghost use Rattle.std.specs.Prelude.{◌≡◌, ℕ, ◌≤◌, ◌^◌, IfErr, OnErr, OnOk};
+ghost use Rattle.std.specs.Prelude.{◌≡◌, ◌≤◌, ◌^◌, IfErr, OnErr, OnOk};
 ghost use Rattle.hyd_net.specs.Sound.{IsSound};
-ghost use Rattle.hyd_spec.specs.NodeNumbers.{tank_count};
 ghost use Rattle.hyd_spec_certificates.specs.Stops.{IsTightRow};
 ghost use Rattle.hyd_spec_certificates.specs.Valid.{AreCertificates};
 ghost use Rattle.hyd_spec_open_ends.specs.OpenStandings.{OpenRecord};
@@ -22,62 +21,14 @@ ghost use Rattle.hyd_open_sim_start.specs.StandingsOfOpenRuns.{IsStanding, known
 ghost use Rattle.hyd_open_sim.specs.EndedPeriods.{IsOver};
 ghost use Rattle.hyd_open_sim.specs.RunView.{header_for};
 
-use hyd_cert::Record;
+use crate::ends_by_readings::end_by_readings;
 use hyd_net::Project;
 use hyd_open_certificates::OpenRow;
-use hyd_open_period_end::OpenPeriodEnd;
+use hyd_open_period_end::{OpenPeriodEnd, look};
 use hyd_open_sim_start::Standing;
 use hyd_period_end::Open;
-use hyd_period_facts::{Facts, put_inflows};
+use hyd_period_facts::Facts;
 use hyd_period_network::Net;
-
-// Puts into a record that its period lasts no time. All else of it stays.
-fn put_no_length(row: &mut Record)
-    ensures { row.new ≡ record row.old { length = 0 } }
-{
-    row.length = 0;
-}
-
-// Ends the period at the end of the run, which lasts no time and brings nothing.
-fn end_run(
-    project: &Project,
-    standing: &Standing,
-    net: &Net,
-    found: &mut OpenRow,
-    facts: &mut Facts,
-    close: &mut OpenPeriodEnd,
-)
-    requires sound { IsSound project.now }
-    requires standing { IsStanding project.now standing.now }
-    requires last { standing.now.time ≡ project.now.times.duration }
-    requires of { IsNetOf project.now net.now }
-    requires order { TanksInOrder (grid_of net.now) }
-    requires certificates { AreCertificates project.now (grid_of net.now) (row_of found.old.row) }
-    requires tanks { found.old.row.tanks ≡ tank_count project.now }
-    requires begun { AreBegun project.now (known_for standing.now) facts.old }
-    requires ready { AreReady project.now facts.old }
-    requires close { HasCloseRoom project.now close.old }
-    ensures over { (slack : ℕ) → IsOver project.now slack standing.now (grid_of net.now) found.new facts.new close.new }
-    ensures found { found.new ≡ record found.old {
-      row = record found.old.row { length = found.new.row.length };
-      shortest = found.new.shortest;
-    } }
-    ensures shortest { found.new.shortest ≡ 0 }
-    ensures length { found.new.row.length ≡ 0 }
-    ensures facts { HasRoom project.now facts.new }
-    ensures links { facts.new.links ≡ facts.old.links }
-    ensures close { HasCloseRoom project.now close.new }
-{
-    let _standing = standing;
-    put_inflows(project, net, &found.row, &mut facts.inflows);
-    facts.events.clear();
-    facts.length = 0;
-    put_no_length(&mut found.row);
-    found.shortest = 0;
-    close.opened.clear();
-    close.first = 0;
-    close.late = 0;
-}
 
 /// Ends a period by the vectors of its record, which are certificates, where its end may be open by at most the slack.
 /// Fails with the first matter that they leave open.
@@ -120,9 +71,6 @@ pub(crate) fn end_period(
     ensures links { facts.new.links ≡ facts.old.links }
     ensures close { HasCloseRoom project.now close.new }
 {
-    if standing.time == project.times.duration {
-        end_run(project, standing, net, found, facts, close);
-        return Ok(());
-    }
-    close.finish(project, net, standing.late, slack, found, facts)
+    look(project, net, &found.row, &mut close.readings, facts);
+    end_by_readings(project, standing, slack, found, facts, close)
 }

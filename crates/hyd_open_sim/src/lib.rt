@@ -7,6 +7,7 @@
 mod closing_of_run;
 mod due_period;
 mod end_of_due_period;
+mod ends_by_readings;
 mod handed_in_record;
 mod moving_on;
 mod narrow_records;
@@ -17,6 +18,7 @@ mod run_at_start;
 mod run_out_of_parts;
 mod steps;
 
+pub use ends_by_readings::end_by_readings;
 pub use open_settings::OpenSettings;
 pub use open_sim::OpenSim;
 pub use run_out_of_parts::room_for_events;

@@ -20,17 +20,17 @@ use Rattle.hyd_spec_certificates.specs.PeriodNetwork.{Grid, GridLink, GridJuncti
 use Rattle.hyd_spec_certificates.specs.declared.Problem.TheVariants.{Main}
 use Rattle.hyd_spec_certificates.specs.declared.Side.TheVariants.{Upper, Lower}
 use Rattle.hyd_spec_certificates.specs.FlowIntervals.{difference, flow_box, out_box}
-use Rattle.hyd_spec_reports.specs.ReportLine.{ReportLine, JunctionLine, ReservoirLine, TankLine, LinkLine, line_text}
+use Rattle.hyd_spec_reports.specs.ReportLine.{ReportLine, TankLine, line_text}
 use Rattle.hyd_spec_certificates.specs.StatusesOfLinks.{status_of}
 use Rattle.hyd_spec_certificates.specs.declared.StatusWord.{StatusWord}
 use Rattle.hyd_bounds.specs.VectorsInOrder.{IsSpan, AreInOrder}
 use Rattle.hyd_report.specs.PrintedIntervals.{printed, quantity_in, ArePrinted}
-use Rattle.hyd_report.specs.NodeAndLinkLines.{texts, junction_between, junction_line, reservoir_line, tank_at}
-use Rattle.hyd_report.specs.NodeAndLinkLines.{tank_line, no_link, link_line}
+use Rattle.hyd_report.specs.NodeAndLinkLines.{texts, junction_at, junction_between, junction_line, tank_at}
+use Rattle.hyd_report.specs.NodeAndLinkLines.{reservoir_between, reservoir_line, tank_line, no_link, link_at, link_line}
 use Rattle.std.proofs.lemmas.List.{map-append}
 use Rattle.hyd_lemmas.proofs.ListsOptionsAndResults.{any_default, join-append}
 use Rattle.hyd_report.specs.declared.printed_intervals.Ends.{Ends}
-use Rattle.hyd_report.specs.declared.printed_intervals.Quantity.TheVariants.{Head, Pressure, Flow}
+use Rattle.hyd_report.specs.declared.printed_intervals.Quantity.TheVariants.{Head, Flow}
 
 -- ---- items
 
@@ -110,39 +110,31 @@ span_is span box is = ap (λ (z : ℤ). record { lo = z; hi = span.hi }) is.lo_i
 
 pub junction_put : (o : Option GridJunction) (project : Project) (P : List ℕ → Type 0) (j : ℕ)
     (lower upper elevation : ℤ) (flow : Span)
-    (head pressure outflow : Ends)
     → IfSome o (λ here. IsSpan flow (out_box here lower upper)) → IfSome o (λ here. elevation ≡ here.elevation)
-    → ArePrinted (printed (quantity_in project Head) (record { lo = lower; hi = upper })) head
-    → ArePrinted (printed (quantity_in project Pressure) (record {
-      lo = lower -ℤ elevation;
-      hi = upper -ℤ elevation;
-    })) pressure
-    → ArePrinted (printed (quantity_in project Flow) (record { lo = flow.lo; hi = flow.hi })) outflow
-    → ((h p o : Interval) → ArePrinted h head → ArePrinted p pressure → ArePrinted o outflow → P (line_text project
-    (JunctionLine j h p o)))
+    → P (line_text project (junction_at project j elevation (record { lo = lower; hi = upper }) (flows_of flow)))
     → IfSome o (λ here. P (line_text project (junction_between project j here lower upper)))
-junction_put None project P j lower upper elevation flow head pressure outflow box at h p o puts = tt
-junction_put (Some here) project P j lower upper elevation flow head pressure outflow box at h p o puts =
-    puts _ _ _ h
-    (subst (λ (e : ℤ). ArePrinted (printed (quantity_in project Pressure)
-    (record { lo = lower -ℤ e; hi = upper -ℤ e })) pressure) at p)
-    (subst (λ (z : Interval). ArePrinted (printed (quantity_in project Flow) z) outflow) same o)
+junction_put None project P j lower upper elevation flow box at puts = tt
+junction_put (Some here) project P j lower upper elevation flow box at puts =
+    subst (λ (e : ℤ). P (line_text project (junction_at project j e heads (out_box here lower upper)))) at
+    (subst (λ (z : Interval). P (line_text project (junction_at project j elevation heads z))) same puts)
   where
-    same : record { lo = flow.lo; hi = flow.hi } ≡ out_box here lower upper
+    heads : Interval
+    heads = record { lo = lower; hi = upper }
+
+    same : flows_of flow ≡ out_box here lower upper
     same = span_is flow (out_box here lower upper) box
 
 -- ---- reservoirs
 
-pub reservoir_put : (reservoirs : List ℤ) (project : Project) (P : List ℕ → Type 0) (r : ℕ) (height : ℤ) (head : Ends)
+pub reservoir_put : (reservoirs : List ℤ) (project : Project) (P : List ℕ → Type 0) (r : ℕ) (height : ℤ)
     → r < length reservoirs → height ≡ head_at reservoirs r
-    → ArePrinted (printed (quantity_in project Head) (record { lo = height; hi = height })) head
-    → ((h : Interval) → ArePrinted h head → P (line_text project (ReservoirLine r h)))
+    → P (line_text project (reservoir_between project r (record { lo = height; hi = height })))
     → IfSome (slice_get reservoirs r) (λ here. P (line_text project (reservoir_line project r here)))
-reservoir_put [] project P r height head within is h puts = absurd (omega arith)
-reservoir_put reservoirs project P r height head within is h puts =
+reservoir_put [] project P r height within is puts = absurd (omega arith)
+reservoir_put reservoirs project P r height within is puts =
     let at : slice_get reservoirs r ≡ Some (head_at reservoirs r) = slice_get-get_or reservoirs r (pos 0) within in
     subst (λ (o : Option ℤ). IfSome o (λ here. P (line_text project (reservoir_line project r here)))) (sym at)
-    (puts _ (subst (λ (z : ℤ). ArePrinted (printed (quantity_in project Head) (record { lo = z; hi = z })) head) is h))
+    (subst (λ (z : ℤ). P (line_text project (reservoir_line project r z))) is puts)
 
 -- ---- tanks
 
@@ -188,27 +180,25 @@ tank_read o project P k levels inflows states level inflow state in_levels in_in
 -- ---- links
 
 pub link_put : (o : Option Link) (project : Project) (grid : Grid) (below above : List ℤ) (states : List LinkState)
-    (P : List ℕ → Type 0) (l : ℕ) (flow : Span) (ends : Ends) (status : StatusWord) (place : GridLink)
+    (P : List ℕ → Type 0) (l : ℕ) (flow : Span) (status : StatusWord) (place : GridLink)
     → slice_get grid.links l ≡ Some place
     → IfSome (slice_get grid.links l) (λ g. IsSpan flow (flow_box g below above))
     → IfSome o (λ here. status ≡ status_of (is_us project) project.bends.list here.kind (state_of_link states l)
     (difference place below above))
-    → ArePrinted (printed (quantity_in project Flow) (flows_of flow)) ends
-    → ((f : Interval) → ArePrinted f ends → P (line_text project (LinkLine l f status)))
+    → P (line_text project (link_at project l (flows_of flow) status))
     → IfSome o (λ here. P (line_text project (link_line project grid below above states l here)))
-link_put None project grid below above states P l flow ends status place at box word printed_is puts = tt
-link_put (Some here) project grid below above states P l flow ends status place at box word printed_is puts =
+link_put None project grid below above states P l flow status place at box word puts = tt
+link_put (Some here) project grid below above states P l flow status place at box word puts =
     let is : slice_index_or grid.links l no_link ≡ place = get_or_from_slice_get grid.links l place no_link at in
     let boxed : IsSpan flow (flow_box place below above) = subst (λ (o : Option GridLink). IfSome o (λ g. IsSpan flow
     (flow_box g below above))) at box in
-    let text : (s : StatusWord) → s ≡ status → P (line_text project (LinkLine l (printed (quantity_in project Flow)
-    (flow_box place below above)) s)) =
-    λ s same. subst (λ (t : StatusWord). P (line_text project (LinkLine l (printed (quantity_in project Flow)
-    (flow_box place below above)) t))) (sym same)
-    (puts _ (subst (λ (z : Interval). ArePrinted (printed (quantity_in project Flow) z) ends) (span_is flow
-    (flow_box place below above) boxed) printed_is)) in
-    subst (λ (g : GridLink). P (line_text project (LinkLine l (printed (quantity_in project Flow)
-    (flow_box g below above))
+    let text : (s : StatusWord) → s ≡ status → P (line_text project (link_at project l (flow_box place below above)
+    s)) =
+    λ s same. subst (λ (t : StatusWord). P (line_text project (link_at project l (flow_box place below above) t)))
+    (sym same)
+    (subst (λ (z : Interval). P (line_text project (link_at project l z status))) (span_is flow
+    (flow_box place below above) boxed) puts) in
+    subst (λ (g : GridLink). P (line_text project (link_at project l (flow_box g below above)
     (status_of (is_us project) project.bends.list here.kind (state_of_link states l) (difference g below above)))))
     (sym is)
     (text _ (sym word))

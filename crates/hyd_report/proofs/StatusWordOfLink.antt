@@ -20,8 +20,7 @@ use Rattle.hyd_period_network.specs.declared.junctions_ends_and_settings.Setting
 use Rattle.hyd_period_network.specs.ExactLaw.{exact_law}
 use Rattle.hyd_period_network.specs.NetView.{NetView}
 use Rattle.hyd_period_network.specs.NetAsPeriodNetwork.{grid_of, state_of, states_of, own_laws}
-use Rattle.hyd_period_network.specs.NetsSetToPeriods.{IsNetOf}
-use Rattle.hyd_period_network.specs.LawsInSettings.{AreStates}
+use Rattle.hyd_period_network.specs.LawsInSettings.{AreLaws, AreStates}
 use Rattle.hyd_lemmas.proofs.ListsOptionsAndResults.{item_there}
 
 -- what a status word says of each kind, state and place of a link
@@ -33,9 +32,16 @@ IsWord net l below above status =
     → slice_get (grid_of net).links l ≡ Some place → status ≡ status_of us bends kind state
     (difference place below above)
 
+-- each link of a net has a setting and two laws, which are those of the setting
+pub record AreLinksOf (project : Project) (net : NetView) : Type 0 where
+  pub each_setting : length net.settings ≡ length project.links.list
+  pub each_own : length net.own ≡ length project.links.list
+  pub each_law : length net.laws ≡ length project.links.list
+  pub laws : AreLaws project project.links.list net.settings net.own net.laws
+
 word_here : (project : Project) (net : NetView) (l : ℕ) (below above : List ℤ) (status : StatusWord)
     (place : GridLink) (here : Link)
-    → IsNetOf project net → AreStates project (states_of net) → slice_get project.links.list l ≡ Some here
+    → AreLinksOf project net → AreStates project (states_of net) → slice_get project.links.list l ≡ Some here
     → slice_get (grid_of net).links l ≡ Some place → IsWord net l below above status
     → status ≡ status_of (is_us project) project.bends.list here.kind (state_of_link (states_of net) l)
     (difference place below above)
@@ -76,7 +82,7 @@ word_here project net l below above status place here of states at grid_at word 
 
 pub link_word : (project : Project) (net : NetView) (l : ℕ) (below above : List ℤ) (status : StatusWord)
     (place : GridLink)
-    → IsNetOf project net → AreStates project (states_of net) → l < length project.links.list
+    → AreLinksOf project net → AreStates project (states_of net) → l < length project.links.list
     → slice_get (grid_of net).links l ≡ Some place → IsWord net l below above status
     → IfSome (slice_get project.links.list l) (λ here.
     status ≡ status_of (is_us project) project.bends.list here.kind (state_of_link (states_of net) l)

@@ -11,6 +11,7 @@ use Rattle.hyd_spec.specs.declared.TankState.{TankState}
 use Rattle.hyd_spec.specs.declared.TankState.TheVariants.{Between}
 use Rattle.hyd_spec_certificates.specs.SpansAsIntervals.{levels_of, flows_of}
 use Rattle.hyd_spec_certificates.specs.declared.LevelSpan.{LevelSpan}
+use Rattle.hyd_spec_certificates.specs.declared.StatusWord.{StatusWord}
 use Rattle.hyd_num.specs.declared.spans.Span.{Span}
 use Rattle.hyd_spec_certificates.specs.Decided.{nowhere}
 use Rattle.hyd_spec_certificates.specs.Interval.{Interval, exactly, shifted}
@@ -25,6 +26,13 @@ use Rattle.hyd_report.specs.declared.printed_intervals.Quantity.TheVariants.{Hea
 abbrev pub texts : Project → List ReportLine → List ℕ
 texts project lines = joined (map (line_text project) lines)
 
+-- The line of junction number j at an elevation (head ticks) between heads, with its outflow.
+abbrev pub junction_at : Project → ℕ → ℤ → Interval → Interval → ReportLine
+junction_at project j elevation heads outflow =
+    JunctionLine j (printed (quantity_in project Head) heads)
+    (printed (quantity_in project Pressure) (record { lo = heads.lo -ℤ elevation; hi = heads.hi -ℤ elevation }))
+    (printed (quantity_in project Flow) outflow)
+
 -- The line of junction number j between two of its heads.
 abbrev pub junction_between : Project → ℕ → GridJunction → ℤ → ℤ → ReportLine
 junction_between project j here lower upper =
@@ -35,6 +43,10 @@ junction_between project j here lower upper =
 -- The line of junction number j by vectors below and above.
 abbrev pub junction_line : Project → List ℤ → List ℤ → ℕ → GridJunction → ReportLine
 junction_line project lower upper j here = junction_between project j here (head_at lower j) (head_at upper j)
+
+-- The line of reservoir number r between heads.
+abbrev pub reservoir_between : Project → ℕ → Interval → ReportLine
+reservoir_between project r heads = ReservoirLine r (printed (quantity_in project Head) heads)
 
 -- The line of reservoir number r at a head.
 abbrev pub reservoir_line : Project → ℕ → ℤ → ReportLine
@@ -57,6 +69,10 @@ tank_line project levels inflows states k tank =
 -- A link that isn't there is shut.
 abbrev pub no_link : GridLink
 no_link = record { from = 0; to = 0; law = Shut }
+
+-- The line of link number l with its flow and its status.
+abbrev pub link_at : Project → ℕ → Interval → StatusWord → ReportLine
+link_at project l flow status = LinkLine l (printed (quantity_in project Flow) flow) status
 
 -- The line of link number l by heads of all nodes below and above and by the states of links.
 abbrev pub link_line : Project → Grid → List ℤ → List ℤ → List LinkState → ℕ → Link → ReportLine

@@ -6,6 +6,7 @@ ghost use Rattle.hyd_net.specs.Sound.{IsSound};
 ghost use Rattle.hyd_spec.specs.Lists.{map_from};
 ghost use Rattle.hyd_spec_certificates.specs.PeriodNetwork.{all_heads};
 ghost use Rattle.hyd_spec_certificates.specs.Interval.{Interval};
+ghost use Rattle.hyd_spec_certificates.specs.SpansAsIntervals.{flows_of};
 ghost use Rattle.hyd_spec_certificates.specs.declared.Problem.TheVariants.{Main};
 ghost use Rattle.hyd_spec_certificates.specs.declared.Side.TheVariants.{Upper, Lower};
 ghost use Rattle.hyd_spec_reports.specs.ReportLine.{LinkLine, line_text};
@@ -14,8 +15,8 @@ ghost use Rattle.hyd_period_network.specs.NetsSetToPeriods.{IsNetOf};
 ghost use Rattle.hyd_period_network.specs.LawsInSettings.{AreStates};
 ghost use Rattle.hyd_bounds.specs.VectorsInOrder.{IsVector, AreInOrder};
 ghost use Rattle.hyd_io.specs.TextPutIn.{Puts};
-ghost use Rattle.hyd_report.specs.PrintedIntervals.{ArePrinted};
-ghost use Rattle.hyd_report.specs.NodeAndLinkLines.{texts, link_line};
+ghost use Rattle.hyd_report.specs.PrintedIntervals.{ArePrinted, IsSmall};
+ghost use Rattle.hyd_report.specs.NodeAndLinkLines.{texts, link_at, link_line};
 
 use crate::ids::link_id;
 use crate::line_pieces::put_pieces;
@@ -24,6 +25,7 @@ use crate::states::status_word;
 use hyd_bounds::{flow_box, status_of};
 use hyd_io::{Desk, OutFault, Pen};
 use hyd_net::Project;
+use hyd_num::Span;
 use hyd_period_network::Net;
 use hyd_spec_certificates::StatusWord;
 
@@ -60,6 +62,27 @@ fn put_parts<D: Desk>(
     )
 }
 
+/// Puts the line of a link by its number, its flow, in flow ticks, and its status. Its faults and its needs are those
+/// of `Pen::put`. It takes no memory.
+pub fn put_link_line<D: Desk>(
+    project: &Project,
+    link: u32,
+    flow: &Span,
+    status: StatusWord,
+    pen: &mut Pen,
+    desk: &mut D,
+) -> Result<(), OutFault>
+    requires sound { IsSound project.now }
+    requires small { IsSmall flow.now }
+    requires ready { OnCert pen.old.to (IsTrue (D.ready desk.old)) }
+    ensures { Puts D.files D.rest D.written D.printed D.target D.ready D.counts D.openings
+        (line_text project.now (link_at project.now link (flows_of flow.now) status))
+        result pen.old pen.new desk.old desk.new }
+{
+    let flow = print_flows(project, flow);
+    put_parts(project, link, &flow, status, pen, desk)
+}
+
 /// Puts the line of a link, by vectors of heads below and above.
 fn put_link<D: Desk>(
     project: &Project,
@@ -89,8 +112,7 @@ fn put_link<D: Desk>(
     let _links = net.links();
     let flow = flow_box(net, link, lower, upper);
     let status = status_of(net, link, lower, upper);
-    let flow = print_flows(project, &flow);
-    put_parts(project, link, &flow, status, pen, desk)
+    put_link_line(project, link, &flow, status, pen, desk)
 }
 
 /// Puts the lines of all links, by vectors of heads below and above.

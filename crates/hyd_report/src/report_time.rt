@@ -13,8 +13,8 @@ use crate::numbers_times_and_settings::clock;
 use hyd_io::{Desk, OutFault, Pen};
 use hyd_net::Project;
 
-/// Puts the line of a report time, in seconds.
-pub(crate) fn put_time<D: Desk>(time: u32, pen: &mut Pen, desk: &mut D) -> Result<(), OutFault>
+/// Puts the line of a report time, in seconds. Its faults and its needs are those of `Pen::put`. It takes no memory.
+pub fn put_time<D: Desk>(time: u32, pen: &mut Pen, desk: &mut D) -> Result<(), OutFault>
     requires { OnCert pen.old.to (IsTrue (D.ready desk.old)) }
     ensures { (project : Project) → Puts D.files D.rest D.written D.printed D.target D.ready D.counts D.openings
         (line_text project (TimeLine time)) result pen.old pen.new desk.old desk.new }

@@ -9,7 +9,7 @@ ghost use Rattle.hyd_spec_reports.specs.ReportLine.{ReservoirLine, line_text};
 ghost use Rattle.hyd_period_network.specs.NetAsPeriodNetwork.{grid_of};
 ghost use Rattle.hyd_io.specs.TextPutIn.{Puts};
 ghost use Rattle.hyd_report.specs.PrintedIntervals.{ArePrinted};
-ghost use Rattle.hyd_report.specs.NodeAndLinkLines.{texts, reservoir_line};
+ghost use Rattle.hyd_report.specs.NodeAndLinkLines.{texts, reservoir_between, reservoir_line};
 
 use crate::ids::reservoir_id;
 use crate::line_pieces::put_pieces;
@@ -48,6 +48,26 @@ fn put_parts<D: Desk>(
     )
 }
 
+/// Puts the line of a reservoir by its number and two of its heads, in head ticks. Its faults and its needs are those
+/// of `Pen::put`. It takes no memory.
+pub fn put_reservoir_line<D: Desk>(
+    project: &Project,
+    reservoir: u32,
+    lower: i64,
+    upper: i64,
+    pen: &mut Pen,
+    desk: &mut D,
+) -> Result<(), OutFault>
+    requires sound { IsSound project.now }
+    requires ready { OnCert pen.old.to (IsTrue (D.ready desk.old)) }
+    ensures { Puts D.files D.rest D.written D.printed D.target D.ready D.counts D.openings
+        (line_text project.now (reservoir_between project.now reservoir (record { lo = lower; hi = upper })))
+        result pen.old pen.new desk.old desk.new }
+{
+    let head = print_heads(project, lower, upper);
+    put_parts(project, reservoir, &head, pen, desk)
+}
+
 /// Puts the line of a reservoir.
 fn put_reservoir<D: Desk>(
     project: &Project,
@@ -66,8 +86,7 @@ fn put_reservoir<D: Desk>(
 {
     let _nodes = net.nodes();
     let height = net.fixed(Problem::Main, Side::Lower, net.junctions() + reservoir);
-    let head = print_heads(project, height, height);
-    put_parts(project, reservoir, &head, pen, desk)
+    put_reservoir_line(project, reservoir, height, height, pen, desk)
 }
 
 /// Puts the lines of all reservoirs.

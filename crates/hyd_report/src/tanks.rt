@@ -108,8 +108,10 @@ fn put_tank<D: Desk>(
     put_parts(project, tank, &head, &level, &inflow, *state, pen, desk)
 }
 
-/// Puts the lines of all tanks, each at its levels, with its inflow and its state.
-pub(crate) fn put_tanks<D: Desk>(
+/// Puts the lines of all tanks, each at its levels, in head ticks above its bottom, with its inflow, in flow ticks, and
+/// its state. Its faults and its needs are those of `Pen::put`: after a fault, what went out is a front of what was put
+/// in before and of these lines. It takes no memory.
+pub fn put_tanks<D: Desk>(
     project: &Project,
     levels: &[LevelSpan],
     inflows: &[Span],

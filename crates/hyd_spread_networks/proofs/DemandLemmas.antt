@@ -14,7 +14,7 @@ use Rattle.hyd_theorems_on_spread.proofs.ProductsInOrder.{products-hold}
 use Rattle.hyd_spec_spread_rows.specs.declared.Ends.{Ends}
 use Rattle.hyd_spec_spread_rows.specs.TextsOfSpreads.{factors_from}
 use Rattle.hyd_spec_spread_rows.specs.RangesOfEnds.{AreFactors}
-use Rattle.hyd_spread_networks.specs.RefusedSpreads.{IsFirstDemandOver}
+use Rattle.hyd_spec_spread_stops.specs.StopsOfSpreads.{IsFirstDemandOver}
 use Rattle.hyd_spread_networks.proofs.ListsByNumber.{got, within, got_numbered, zipped_numbered, all_numbered, read_off}
 
 -- 1 is among factors in range

@@ -1,12 +1,10 @@
--- Why a network has no nets for a spread, and why they can't be put into a period.
+-- Why a network has no nets for a spread.
 use Rattle.std.specs.Prelude.{◌≡◌, ◌⊎◌, ℕ, ◌^◌, ◌<◌, ℤ, pos, ◌≤ℤ◌, ◌<ℤ◌, Option, Some, slice_get, ⊤}
 use Rattle.hyd_num.specs.CapacityRange.{IsRefused}
-use Rattle.hyd_spec.specs.ProgramTypes.{Project, Junction, Reservoir, Capacity, Emitter, Decimal, FlowUnit}
+use Rattle.hyd_spec.specs.ProgramTypes.{Project, Reservoir, Capacity, Emitter, Decimal, FlowUnit}
 use Rattle.hyd_spec.specs.Lists.{Each}
-use Rattle.hyd_spec.specs.DemandsHeadsAndPumpLifts.{demand_of}
 use Rattle.hyd_spec_spread.specs.Spreads.{Factors, Spread}
-use Rattle.hyd_spec_spread.specs.IntervalsOfData.{KnownJunction, products, known_junctions}
-use Rattle.hyd_spec_spread_runs.specs.RunsForSpreads.{IsDemandInRange}
+use Rattle.hyd_spec_spread.specs.IntervalsOfData.{products}
 use Rattle.hyd_spread_networks.specs.NetsOfSpreads.{KnownEmitter, IsOutermost, known_emitters}
 use Rattle.hyd_spread_networks.specs.HeadsBySpreads.{HeadsStay}
 use Rattle.hyd_spread_networks.specs.declared.fault.SpreadNetsRefused.{SpreadNetsRefused}
@@ -72,16 +70,3 @@ IsRefusedFor project spread OutOfMemory = ⊤
 IsRefusedFor project spread (OfEmitter junction) =
     Each project.reservoirs.list (HeadsStay project spread) × IsFirstEmitter project spread junction
 IsRefusedFor project spread (OfHead reservoir) = IsFirstHead project spread reservoir
-
--- ---- demands of a period
-
--- The first junction of whose demand an end is out of range, and the file's demand.
-pub record IsFirstDemandOver (project : Project) (spread : Spread) (time j : ℕ) (demand : ℤ) : Type 0 where
-  pub junction : Junction
-  pub is_junction : slice_get project.junctions.list j ≡ Some junction
-  pub is_demand : demand ≡ demand_of project time junction
-  pub known : KnownJunction
-  pub is_known : slice_get (known_junctions project spread time) j ≡ Some known
-  pub out_of_range : IsDemandInRange known → ⊥
-  pub first : (earlier : ℕ) (before : KnownJunction) → earlier < j
-      → slice_get (known_junctions project spread time) earlier ≡ Some before → IsDemandInRange before

@@ -12,7 +12,7 @@ ghost use Rattle.hyd_spec_spread_rows.specs.TextsOfSpreads.{factors_from, interv
 ghost use Rattle.hyd_spread_rows.specs.SpreadsRead.{spread_of, AreInRange};
 ghost use Rattle.hyd_spec_spread_runs.specs.RunsForSpreads.{AreDemandsInRange};
 ghost use Rattle.hyd_spec_spread_rows.specs.RangesOfEnds.{AreFactors};
-ghost use Rattle.hyd_spread_networks.specs.RefusedSpreads.{IsFirstDemandOver};
+ghost use Rattle.hyd_spec_spread_stops.specs.StopsOfSpreads.{IsFirstDemandOver};
 
 use crate::ends::{factors_at, products};
 use crate::fault::DemandOver;

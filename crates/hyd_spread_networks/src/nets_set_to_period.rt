@@ -11,7 +11,7 @@ ghost use Rattle.hyd_period_network.specs.LawsInSettings.{AreStates};
 ghost use Rattle.hyd_period_network.specs.NetAsPeriodNetwork.{states_of, own_laws};
 ghost use Rattle.hyd_period_network.specs.NetsSetToPeriods.{AreLevels, AreShut, own_laws_of};
 ghost use Rattle.hyd_spread_networks.specs.NetsOfSpreads.{AreNetsOf, pair_of, net_on, IsStandingOf};
-ghost use Rattle.hyd_spread_networks.specs.RefusedSpreads.{IsFirstDemandOver};
+ghost use Rattle.hyd_spec_spread_stops.specs.StopsOfSpreads.{IsFirstDemandOver};
 
 use crate::demands::put_demands;
 use crate::fault::DemandOver;

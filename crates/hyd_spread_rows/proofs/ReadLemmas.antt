@@ -36,7 +36,7 @@ blank-said project rows tables said = record {
 
 -- ---- a line more
 
-rows-more : (before : List (List ℕ)) (line : List ℕ)
+pub rows-more : (before : List (List ℕ)) (line : List ℕ)
     → rows_of (before ++ line ∷ []) ≡ rows_of before ++ words_in (body line) ∷ []
 rows-more [] line = refl
 rows-more (x ∷ before) line = let rest = rows-more before line in λ i. words_in (body x) ∷ rest i

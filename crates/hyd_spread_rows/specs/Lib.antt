@@ -1,3 +1,4 @@
 pub mod RowsRead
 pub mod RowsSaid
 pub mod SpreadsRead
+pub mod LinesOfLevels

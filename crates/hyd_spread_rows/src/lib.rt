@@ -3,6 +3,7 @@
 
 mod fault;
 mod ids;
+mod level_lines;
 mod lines;
 mod names;
 mod numbers;
@@ -14,5 +15,6 @@ mod words;
 
 pub use fault::{SpreadFault, SpreadRefused};
 pub use hyd_spec_spread_rows::{Ends, Subject};
+pub use level_lines::level_line;
 pub use reader::read_spread;
 pub use resolved::SpreadRows;

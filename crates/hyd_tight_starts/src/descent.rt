@@ -8,6 +8,7 @@ ghost use Rattle.std.specs.Prelude.{◌≡◌, length};
 ghost use Rattle.hyd_spec_certificates.specs.declared.Problem.TheVariants.{Main};
 ghost use Rattle.hyd_period_network.specs.SoundNets.{HasProblem};
 
+use crate::branches::Branches;
 use crate::flows::over;
 use crate::leaps::Leaps;
 use crate::places::{copy, number_at, put_at};
@@ -44,6 +45,7 @@ const WORK_OF_LEAP: u64 = 8;
 pub struct Descent {
     pub(crate) steps: Steps,
     leaps: Leaps,
+    branches: Branches,
     /// How many junctions may still step.
     pub(crate) left: u64,
 }
@@ -78,6 +80,7 @@ impl Descent {
         Ok(Descent {
             steps: Steps::open(alloc, net)?,
             leaps: Leaps::open(alloc, net)?,
+            branches: Branches::open(alloc, net)?,
             left: 0,
         })
     }
@@ -88,7 +91,10 @@ impl Descent {
         let mut led = false;
         for _ in 0..LEAPS {
             self.spend(net, WORK_OF_LEAP);
-            if !self.leaps.leap(net, side, held, &self.steps.heads) {
+            if !self
+                .leaps
+                .leap(net, side, held, &self.branches, &self.steps.heads)
+            {
                 return led;
             }
             self.steps.take(&self.leaps.trial);
@@ -97,9 +103,10 @@ impl Descent {
         led
     }
 
-    // Counts all junctions as many times.
+    // Counts all junctions that don't hang as many times.
     fn spend(&mut self, net: &Net, times: u64) {
-        let spent = u64::from(net.junctions()).saturating_mul(times);
+        let stepping = net.junctions().saturating_sub(self.branches.hanging());
+        let spent = u64::from(stepping).saturating_mul(times);
         self.left = self.left.saturating_sub(spent);
     }
 
@@ -108,7 +115,10 @@ impl Descent {
         let mut times = STEPS_TO_LEAP;
         for _ in 0..self.left {
             self.leaps.begin(&self.steps.heads);
-            if self.steps.go_times(net, side, held, step, times) {
+            if self
+                .steps
+                .go_times(net, side, held, &self.branches, step, times)
+            {
                 return true;
             }
             self.spend(net, u64::from(times));
@@ -138,7 +148,9 @@ impl Descent {
 
     // Whether all lists are as long as a net needs them, which they come to be in the room that was taken.
     fn is_ready(&mut self, net: &Net) -> bool {
-        self.steps.lengthen(net).is_ok() && self.leaps.lengthen(net).is_ok()
+        self.steps.lengthen(net).is_ok()
+            && self.leaps.lengthen(net).is_ok()
+            && self.branches.lengthen(net).is_ok()
     }
 
     /// Begins at a certificate, a head for each junction, on one of many ways, and tells whether there is room for it.
@@ -167,10 +179,13 @@ impl Descent {
         if !pass_all(net, side, held, &self.steps.heads) {
             return false;
         }
-        self.steps.begin(net, side);
+        self.branches.draw(net, side, held, &mut self.steps.heads);
+        self.steps.begin(net, side, &self.branches);
         if !self.go(net, side, held) {
             return false;
         }
+        self.branches.put_heads(net, &mut self.steps.heads);
+        self.steps.put_branches(net, &self.branches);
         copy(&self.steps.heads, heads);
         self.steps.copy_order(order);
         true

@@ -4,6 +4,7 @@
 ghost use Rattle.std.specs.Prelude.{◌≡◌, ◌<◌, ◌≤◌, ◌*◌, length, unsigned_abs};
 ghost use Rattle.hyd_spec_certificates.specs.Certificate.{box_limit};
 
+use crate::branches::Branches;
 use crate::places::number_at;
 use hyd_law::{Law, OutLaw};
 use hyd_period_network::{Net, Tie};
@@ -129,18 +130,44 @@ pub(crate) fn turned(tie: Tie, junction: u32) -> Tie {
 
 /// By how much a junction passes with all nodes at given heads: less than 0 where it falls short.
 pub(crate) fn over(net: &Net, side: Side, heads: &[i64], junction: u32) -> i64 {
-    over_with(net, side, heads, junction, number_at(heads, junction))
+    over_with(net, side, None, heads, junction, number_at(heads, junction))
 }
 
-/// By how much it passes with a head in place of its own.
-pub(crate) fn over_with(net: &Net, side: Side, heads: &[i64], junction: u32, head: i64) -> i64 {
+// Whether a node hangs on another.
+fn hangs(branches: Option<&Branches>, node: u32) -> bool {
+    match branches {
+        Some(here) => here.hangs(node),
+        None => false,
+    }
+}
+
+// What those that hang on a junction add to what it passes by.
+fn load(branches: Option<&Branches>, junction: u32) -> i64 {
+    match branches {
+        Some(here) => here.load(junction),
+        None => 0,
+    }
+}
+
+/// By how much it passes with a head in place of its own. Where there are branches, those that hang on it stay in their
+/// places beside it, wherever their heads are.
+pub(crate) fn over_with(
+    net: &Net,
+    side: Side,
+    branches: Option<&Branches>,
+    heads: &[i64],
+    junction: u32,
+    head: i64,
+) -> i64 {
     if junction >= net.junctions() {
         return 0;
     }
     let _nodes = net.nodes();
-    let mut sum = own_part(net, side, junction, head);
+    let mut sum = own_part(net, side, junction, head).saturating_add(load(branches, junction));
     for tie in net.row(junction) {
-        sum = sum.saturating_add(part(net, side, *tie, head, number_at(heads, tie.other)));
+        if !hangs(branches, tie.other) {
+            sum = sum.saturating_add(part(net, side, *tie, head, number_at(heads, tie.other)));
+        }
     }
     sum.saturating_sub(net.margin(junction)).saturating_sub(1)
 }

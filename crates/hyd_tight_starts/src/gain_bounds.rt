@@ -40,7 +40,7 @@ fn lift_short(net: &Net, side: Side, held: u32, step: i64, heads: &mut [i64]) ->
     for junction in 0..net.junctions() {
         let head = number_at(heads, junction);
         let there = nearer(side, head, step.saturating_neg());
-        if junction != held && over_with(net, side, heads, junction, there) < 0 {
+        if junction != held && over_with(net, side, None, heads, junction, there) < 0 {
             none = false;
             let ticks = ticks_to_pass(net, side, heads, junction, there);
             put_at(heads, junction, nearer(side, head, ticks.saturating_neg()));

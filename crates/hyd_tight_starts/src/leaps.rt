@@ -4,6 +4,7 @@
 
 ghost use Rattle.std.specs.Prelude.{◌≡◌, length};
 
+use crate::branches::Branches;
 use crate::flows::nearer;
 use crate::places::{copy, number_at, put_at};
 use crate::raises::Trial;
@@ -96,8 +97,15 @@ impl Leaps {
     }
 
     /// Leaps from a certificate, and tells whether that led to another one, which stands in the trial then.
-    pub(crate) fn leap(&mut self, net: &Net, side: Side, held: u32, heads: &[i64]) -> bool {
+    pub(crate) fn leap(
+        &mut self,
+        net: &Net,
+        side: Side,
+        held: u32,
+        branches: &Branches,
+        heads: &[i64],
+    ) -> bool {
         self.go_way(net, side, heads);
-        self.trial.mend(net, side, held, heads) && self.aim_farther(net, side, heads)
+        self.trial.mend(net, side, held, branches, heads) && self.aim_farther(net, side, heads)
     }
 }

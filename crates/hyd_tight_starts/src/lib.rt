@@ -4,6 +4,7 @@
 //! Tested by `hyd_tests_on_library`.
 #![tactic(auto)]
 
+mod branches;
 mod descent;
 mod flows;
 mod gain_bounds;

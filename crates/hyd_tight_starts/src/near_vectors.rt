@@ -28,7 +28,7 @@ fn reach(net: &Net, side: Side, heads: &[i64], junction: u32, head: i64) -> i64 
     let mut ticks = 1i64;
     for _ in 0..DOUBLINGS {
         let there = nearer(side, head, ticks.saturating_neg());
-        if over_with(net, side, heads, junction, there) >= 0 {
+        if over_with(net, side, None, heads, junction, there) >= 0 {
             return ticks;
         }
         ticks = ticks.saturating_mul(2);
@@ -47,7 +47,7 @@ pub(crate) fn ticks_to_pass(net: &Net, side: Side, heads: &[i64], junction: u32,
         }
         let fewer = most.saturating_sub(part);
         let there = nearer(side, head, fewer.saturating_neg());
-        if over_with(net, side, heads, junction, there) >= 0 {
+        if over_with(net, side, None, heads, junction, there) >= 0 {
             most = fewer;
         }
     }

@@ -3,16 +3,13 @@
 
 ghost use Rattle.std.specs.Prelude.{◌≡◌, length};
 
-use crate::flows::{nearer, over, over_with, part, turned};
-use crate::near_vectors::ticks_to_pass;
+use crate::branches::Branches;
+use crate::flows::{nearer, over_with, part, turned};
 use crate::places::{add_at, number_at, put_at};
 use crate::responses::no_farther;
 use hyd_period_network::Net;
 use hyd_spec_certificates::{BOX_LIMIT, Side};
 use std::alloc::{AllocError as OutOfMemory, Global};
-
-/// So many raises are made at most for each junction.
-const RAISES: u32 = 4;
 
 /// So often a junction is raised no farther than it has to. From then on each raise is at least twice as long as the one
 /// before may have been, for sets of junctions that climb together.
@@ -20,6 +17,10 @@ const SHORT_RAISES: i64 = 4;
 
 /// The longest way that a raise has for that: 2 to the power of this many ticks.
 const LONGEST_POWER: i64 = 60;
+
+/// How often the way of a raise is doubled or halved until it is found within a factor of two, which does: steps come
+/// nearer again.
+const DOUBLINGS: u32 = 60;
 
 /// Heads that are tried, of nets of one size, opened once. Nothing is written there before the first ones.
 #[derive(Drop)]
@@ -30,6 +31,8 @@ pub(crate) struct Trial {
     pub(crate) over: Vec<i64>,
     /// How often each junction was raised.
     raised: Vec<i64>,
+    /// How far its last raise led.
+    reach: Vec<i64>,
     /// How many raises may still be made.
     left: u32,
 }
@@ -50,6 +53,7 @@ impl Trial {
             heads: Vec::with_capacity(alloc, net.nodes() as usize)?,
             over: Vec::with_capacity(alloc, net.junctions() as usize)?,
             raised: Vec::with_capacity(alloc, net.junctions() as usize)?,
+            reach: Vec::with_capacity(alloc, net.junctions() as usize)?,
             left: 0,
         })
     }
@@ -59,7 +63,8 @@ impl Trial {
         let junctions = net.junctions() as usize;
         self.heads.resize(net.nodes() as usize, 0i64)?;
         self.over.resize(junctions, 0i64)?;
-        self.raised.resize(junctions, 0i64)
+        self.raised.resize(junctions, 0i64)?;
+        self.reach.resize(junctions, 1i64)
     }
 
     /// Puts a head, held in the box.
@@ -67,49 +72,107 @@ impl Trial {
         put_at(&mut self.heads, junction, head.clamp(-BOX_LIMIT, BOX_LIMIT));
     }
 
-    // Notes by how much each junction passes.
-    fn note(&mut self, net: &Net, side: Side) {
+    // Notes by how much each junction passes that doesn't hang.
+    fn note(&mut self, net: &Net, side: Side, branches: &Branches) {
         for junction in 0..net.junctions() {
-            let over = over(net, side, &self.heads, junction);
+            let over = if branches.hangs(junction) {
+                0
+            } else {
+                let head = number_at(&self.heads, junction);
+                over_with(net, side, Some(branches), &self.heads, junction, head)
+            };
             put_at(&mut self.over, junction, over);
             put_at(&mut self.raised, junction, 0);
         }
     }
 
     // Takes from the junctions beside one what its way farther out costs them.
-    fn note_beside(&mut self, net: &Net, side: Side, junction: u32, from: i64, to: i64) {
+    fn note_beside(
+        &mut self,
+        net: &Net,
+        side: Side,
+        branches: &Branches,
+        junction: u32,
+        from: i64,
+        to: i64,
+    ) {
         if junction >= net.junctions() {
             return;
         }
         let _nodes = net.nodes();
         for tie in net.row(junction) {
-            let seen = turned(*tie, junction);
-            let there = number_at(&self.heads, tie.other);
-            let more = part(net, side, seen, there, to).saturating_sub(part(
-                net, side, seen, there, from,
-            ));
-            add_at(&mut self.over, tie.other, more);
+            if !branches.hangs(tie.other) {
+                let seen = turned(*tie, junction);
+                let there = number_at(&self.heads, tie.other);
+                let more = part(net, side, seen, there, to).saturating_sub(part(
+                    net, side, seen, there, from,
+                ));
+                add_at(&mut self.over, tie.other, more);
+            }
         }
+    }
+
+    // Whether a junction passes so many ticks farther out.
+    fn passes(
+        &self,
+        net: &Net,
+        side: Side,
+        branches: &Branches,
+        junction: u32,
+        ticks: i64,
+    ) -> bool {
+        let head = number_at(&self.heads, junction);
+        let there = nearer(side, head, ticks.saturating_neg());
+        over_with(net, side, Some(branches), &self.heads, junction, there) >= 0
+    }
+
+    // A way on which a junction passes, half of which is too short, sought from that of its last raise on.
+    fn way_to_pass(&self, net: &Net, side: Side, branches: &Branches, junction: u32) -> i64 {
+        let mut way = number_at(&self.reach, junction).max(1);
+        let was_enough = self.passes(net, side, branches, junction, way);
+        for _ in 0..DOUBLINGS {
+            let next = if was_enough {
+                way / 2
+            } else {
+                way.saturating_mul(2)
+            };
+            let is_enough = next > 0 && self.passes(net, side, branches, junction, next);
+            if was_enough && !is_enough {
+                break;
+            }
+            way = next;
+            if is_enough && !was_enough {
+                break;
+            }
+        }
+        way
     }
 
     // Moves a junction that falls short as far out as it has to or farther, but no farther than where it would pass
     // whatever the others did.
-    fn raise(&mut self, net: &Net, side: Side, junction: u32, most: i64) {
+    fn raise(&mut self, net: &Net, side: Side, branches: &Branches, junction: u32, most: i64) {
         let from = number_at(&self.heads, junction);
-        let ticks = ticks_to_pass(net, side, &self.heads, junction, from).max(least_raise(number_at(
-            &self.raised,
-            junction,
-        )));
+        let least = least_raise(number_at(&self.raised, junction));
+        let enough = self.way_to_pass(net, side, branches, junction);
+        put_at(&mut self.reach, junction, enough);
+        let ticks = enough.max(least);
         let to = no_farther(side, nearer(side, from, ticks.saturating_neg()), most);
         add_at(&mut self.raised, junction, 1);
-        let over = over_with(net, side, &self.heads, junction, to);
-        self.note_beside(net, side, junction, from, to);
+        let over = over_with(net, side, Some(branches), &self.heads, junction, to);
+        self.note_beside(net, side, branches, junction, from, to);
         put_at(&mut self.over, junction, over);
         put_at(&mut self.heads, junction, to);
     }
 
     // Raises the junctions that fall short when it is their turn, but a held one, and tells whether none did.
-    fn raise_all(&mut self, net: &Net, side: Side, held: u32, certificate: &[i64]) -> bool {
+    fn raise_all(
+        &mut self,
+        net: &Net,
+        side: Side,
+        held: u32,
+        branches: &Branches,
+        certificate: &[i64],
+    ) -> bool {
         let mut none = true;
         for junction in 0..net.junctions() {
             if junction != held && number_at(&self.over, junction) < 0 {
@@ -118,19 +181,32 @@ impl Trial {
                 }
                 self.left -= 1;
                 none = false;
-                self.raise(net, side, junction, number_at(certificate, junction));
+                self.raise(
+                    net,
+                    side,
+                    branches,
+                    junction,
+                    number_at(certificate, junction),
+                );
             }
         }
         none
     }
 
     /// Raises the junctions that fall short, and those that do then, no farther out than in a certificate beyond, and
-    /// tells whether none falls short any more.
-    pub(crate) fn mend(&mut self, net: &Net, side: Side, held: u32, certificate: &[i64]) -> bool {
-        self.note(net, side);
-        self.left = net.junctions().saturating_mul(RAISES);
+    /// tells whether none falls short any more after as many raises as there are junctions that don't hang.
+    pub(crate) fn mend(
+        &mut self,
+        net: &Net,
+        side: Side,
+        held: u32,
+        branches: &Branches,
+        certificate: &[i64],
+    ) -> bool {
+        self.note(net, side, branches);
+        self.left = net.junctions().saturating_sub(branches.hanging());
         for _ in 0..self.left {
-            if self.raise_all(net, side, held, certificate) {
+            if self.raise_all(net, side, held, branches, certificate) {
                 return true;
             }
             if self.left == 0 {

@@ -3,12 +3,14 @@
 
 ghost use Rattle.std.specs.Prelude.{◌≡◌, length};
 
-use crate::flows::{nearer, over, own_part, part, turned};
+use crate::branches::Branches;
+use crate::flows::{is_flat, nearer, over_with, own_part, part, turned};
 use crate::places::{add_at, copy, is_marked, mark, number_at, put_at};
 use crate::raises::Trial;
-use crate::strides::{put_rim, reach};
+use crate::strides::{over_at, put_rest, put_rim, reach};
 use hyd_period_network::Net;
 use hyd_spec_certificates::Side;
+use hyd_vector_check::is_in_box;
 use std::alloc::{AllocError as OutOfMemory, Global};
 
 /// Room for steps in nets of one size, opened once. Nothing is written there before the first steps.
@@ -28,6 +30,8 @@ pub(crate) struct Steps {
     count: u32,
     /// Which of the others pass by more or less when they all come nearer.
     rim: Vec<bool>,
+    /// What stays of what these pass by then.
+    rest: Vec<i64>,
 }
 
 impl Steps {
@@ -43,6 +47,7 @@ impl Steps {
             order: Vec::with_capacity(alloc, junctions)?,
             count: 0,
             rim: Vec::with_capacity(alloc, junctions)?,
+            rest: Vec::with_capacity(alloc, junctions)?,
         })
     }
 
@@ -55,14 +60,25 @@ impl Steps {
         self.now.resize(junctions, 0i64)?;
         self.back.resize(junctions, false)?;
         self.order.resize(junctions, 0u32)?;
-        self.rim.resize(junctions, false)
+        self.rim.resize(junctions, false)?;
+        self.rest.resize(junctions, 0i64)
     }
 
     /// Begins at the heads of a certificate.
-    pub(crate) fn begin(&mut self, net: &Net, side: Side) {
+    pub(crate) fn begin(&mut self, net: &Net, side: Side, branches: &Branches) {
         for junction in 0..net.junctions() {
-            let over = over(net, side, &self.heads, junction);
+            let head = number_at(&self.heads, junction);
+            let over = over_with(net, side, Some(branches), &self.heads, junction, head);
             put_at(&mut self.over, junction, over);
+        }
+    }
+
+    /// Puts those that hang behind the junctions that went back last.
+    pub(crate) fn put_branches(&mut self, net: &Net, branches: &Branches) {
+        for place in 0..net.junctions() {
+            if let Some(junction) = branches.outward(place) {
+                self.put_back(junction);
+            }
         }
     }
 
@@ -80,20 +96,34 @@ impl Steps {
         node >= net.junctions() || is_marked(&self.back, node)
     }
 
-    // By how much a junction passes that steps with all others but those that stay from the beginning.
-    fn over_stepped(&self, net: &Net, side: Side, junction: u32, step: i64) -> i64 {
+    // By how much a junction passes that steps with all others but those that stay from the beginning. Out of the box none
+    // passes.
+    fn over_stepped(
+        &self,
+        net: &Net,
+        side: Side,
+        branches: &Branches,
+        junction: u32,
+        step: i64,
+    ) -> i64 {
         if junction >= net.junctions() {
             return 0;
         }
         let _nodes = net.nodes();
         let head = number_at(&self.heads, junction);
         let there = nearer(side, head, step);
-        let own = own_part(net, side, junction, there).saturating_sub(own_part(
-            net, side, junction, head,
-        ));
-        let mut sum = number_at(&self.over, junction).saturating_add(own);
+        if !is_in_box(there) {
+            return -1;
+        }
+        let mut sum = number_at(&self.over, junction);
+        if !is_flat(net, junction) {
+            let own = own_part(net, side, junction, there).saturating_sub(own_part(
+                net, side, junction, head,
+            ));
+            sum = sum.saturating_add(own);
+        }
         for tie in net.row(junction) {
-            if self.stays(net, tie.other) {
+            if self.stays(net, tie.other) && !branches.hangs(tie.other) {
                 let other = number_at(&self.heads, tie.other);
                 let more = part(net, side, *tie, there, other).saturating_sub(part(
                     net, side, *tie, head, other,
@@ -113,18 +143,26 @@ impl Steps {
         self.count = self.count.saturating_add(1);
     }
 
-    // Steps with all junctions but a held one, and puts those back that fall short then.
-    fn step_all(&mut self, net: &Net, side: Side, held: u32, step: i64) {
+    // Marks those that stay whatever the others do: a held junction, and those that hang.
+    fn mark_staying(&mut self, net: &Net, held: u32, branches: &Branches) {
+        for junction in 0..net.junctions() {
+            let stays = junction == held || branches.hangs(junction);
+            mark(&mut self.back, junction, stays);
+        }
+    }
+
+    // Steps with all other junctions, and puts those back that fall short then.
+    fn step_all(&mut self, net: &Net, side: Side, held: u32, branches: &Branches, step: i64) {
         self.count = 0;
+        self.mark_staying(net, held, branches);
         for junction in 0..net.junctions() {
-            mark(&mut self.back, junction, junction == held);
+            if !is_marked(&self.back, junction) {
+                let over = self.over_stepped(net, side, branches, junction, step);
+                put_at(&mut self.now, junction, over);
+            }
         }
         for junction in 0..net.junctions() {
-            let over = self.over_stepped(net, side, junction, step);
-            put_at(&mut self.now, junction, over);
-        }
-        for junction in 0..net.junctions() {
-            if junction != held && number_at(&self.now, junction) < 0 {
+            if !is_marked(&self.back, junction) && number_at(&self.now, junction) < 0 {
                 self.put_back(junction);
             }
         }
@@ -172,9 +210,9 @@ impl Steps {
     }
 
     // Moves the junctions that don't stay so many ticks nearer.
-    fn move_rest(&mut self, net: &Net, side: Side, ticks: i64) {
+    fn move_rest(&mut self, net: &Net, side: Side, branches: &Branches, ticks: i64) {
         for junction in 0..net.junctions() {
-            if is_marked(&self.back, junction) {
+            if is_marked(&self.back, junction) && !branches.hangs(junction) {
                 self.add_beside(net, side, junction, ticks);
             }
         }
@@ -187,8 +225,8 @@ impl Steps {
     }
 
     // Moves the rest one step, by which it passes as was found.
-    fn take_step(&mut self, net: &Net, side: Side, step: i64) {
-        self.move_rest(net, side, step);
+    fn take_step(&mut self, net: &Net, side: Side, branches: &Branches, step: i64) {
+        self.move_rest(net, side, branches, step);
         for junction in 0..net.junctions() {
             if !is_marked(&self.back, junction) {
                 let over = number_at(&self.now, junction);
@@ -197,36 +235,60 @@ impl Steps {
         }
     }
 
-    // Goes on with the rest in whole steps, as far as it passes.
-    fn go_on(&mut self, net: &Net, side: Side, step: i64) {
-        put_rim(net, &self.back, &mut self.rim);
-        let ticks = reach(
+    // How far the rest goes on in whole steps, as far as it passes.
+    fn stride(&mut self, net: &Net, side: Side, branches: &Branches, step: i64) -> i64 {
+        put_rim(net, branches, &self.back, &mut self.rim);
+        put_rest(
             net,
+            branches,
             side,
             &self.heads,
             &self.over,
             &self.back,
             &self.rim,
-            step,
+            &mut self.rest,
         );
+        reach(
+            net,
+            branches,
+            side,
+            &self.heads,
+            &self.back,
+            &self.rim,
+            &self.rest,
+            step,
+        )
+    }
+
+    // Goes on with the rest in whole steps, as far as it passes.
+    fn go_on(&mut self, net: &Net, side: Side, branches: &Branches, step: i64) {
+        let ticks = self.stride(net, side, branches, step);
         if ticks == 0 {
             return;
         }
         for junction in 0..net.junctions() {
-            if is_marked(&self.rim, junction) {
-                let over = self.over_stepped(net, side, junction, ticks);
-                put_at(&mut self.now, junction, over);
+            let over = if is_marked(&self.rim, junction) {
+                over_at(
+                    net,
+                    branches,
+                    side,
+                    &self.heads,
+                    &self.back,
+                    &self.rest,
+                    junction,
+                    ticks,
+                )
             } else {
-                let over = number_at(&self.over, junction);
-                put_at(&mut self.now, junction, over);
-            }
+                number_at(&self.over, junction)
+            };
+            put_at(&mut self.now, junction, over);
         }
-        self.take_step(net, side, ticks);
+        self.take_step(net, side, branches, ticks);
     }
 
     // One step, and on; how many junctions moved.
-    fn go_once(&mut self, net: &Net, side: Side, held: u32, step: i64) -> u32 {
-        self.step_all(net, side, held, step);
+    fn go_once(&mut self, net: &Net, side: Side, held: u32, branches: &Branches, step: i64) -> u32 {
+        self.step_all(net, side, held, branches, step);
         for place in 0..net.junctions() {
             if place >= self.count {
                 break;
@@ -236,11 +298,12 @@ impl Steps {
         }
         let free = net
             .junctions()
-            .saturating_sub(u32::from(held < net.junctions()));
+            .saturating_sub(u32::from(held < net.junctions()))
+            .saturating_sub(branches.hanging());
         let moved = free.saturating_sub(self.count);
         if moved > 0 {
-            self.take_step(net, side, step);
-            self.go_on(net, side, step);
+            self.take_step(net, side, branches, step);
+            self.go_on(net, side, branches, step);
         }
         moved
     }
@@ -251,11 +314,12 @@ impl Steps {
         net: &Net,
         side: Side,
         held: u32,
+        branches: &Branches,
         step: i64,
         times: u32,
     ) -> bool {
         for _ in 0..times {
-            if self.go_once(net, side, held, step) == 0 {
+            if self.go_once(net, side, held, branches, step) == 0 {
                 return true;
             }
         }

@@ -17,21 +17,21 @@ there c =
     stands-for (grid_of c.args.net.now).links c.args.link c.law.result.now (omega (arith, each, given))
     c.law.ensures.stands
 
-pub between-requires-clause-sound : goal.between-requires-clause-sound
-between-requires-clause-sound c = (there c).stands.sound
+pub flow_between-requires-clause-sound : goal.flow_between-requires-clause-sound
+flow_between-requires-clause-sound c = (there c).stands.sound
 
-pub between-requires-clause-least : goal.between-requires-clause-least
-between-requires-clause-least c =
+pub flow_between-requires-clause-least : goal.flow_between-requires-clause-least
+flow_between-requires-clause-least c =
     let small = c.difference-least.ensures.small in
     (there c).stands.accepts _ (omega (arith, ints, small))
 
-pub between-requires-clause-greatest : goal.between-requires-clause-greatest
-between-requires-clause-greatest c =
+pub flow_between-requires-clause-greatest : goal.flow_between-requires-clause-greatest
+flow_between-requires-clause-greatest c =
     let small = c.difference-greatest.ensures.small in
     (there c).stands.accepts _ (omega (arith, ints, small))
 
-pub between-requires-clause-ordered : goal.between-requires-clause-ordered
-between-requires-clause-ordered c =
+pub flow_between-requires-clause-ordered : goal.flow_between-requires-clause-ordered
+flow_between-requires-clause-ordered c =
     let at_from = c.requires.ordered c.ends-ends.result.from in
     let at_to = c.requires.ordered c.ends-ends.result.to in
     let a = c.node_head.ensures.value in
@@ -70,15 +70,16 @@ returns-clause-flow c =
     let each = c.links-links.ensures.each in
     let given = c.requires.in_range in
     flow-box-is grid.links c.args.link c.law.result.now c.ends-ends.result below above
-    (to_z w64 (of_z w64 c.difference-least.result)) (to_z w64 (of_z w64 c.difference-greatest.result)) c.between.result
+    (to_z w64 (of_z w64 c.difference-least.result)) (to_z w64 (of_z w64 c.difference-greatest.result))
+    c.flow_between.result
     (stands-for grid.links c.args.link c.law.result.now (omega (arith, each, given)) c.law.ensures.stands)
-    c.ends-ends.ensures.grid least greatest c.between.ensures.lo c.between.ensures.hi
+    c.ends-ends.ensures.grid least greatest c.flow_between.ensures.lo c.flow_between.ensures.hi
 
 pub returns-clause-holds : goal.returns-clause-holds
 returns-clause-holds c =
     let each = c.links-links.ensures.each in
     let given = c.requires.in_range in
-    holds-flow (grid_of c.args.net.now) c.args.low.now c.args.high.now c.args.link c.between.result (omega (
+    holds-flow (grid_of c.args.net.now) c.args.low.now c.args.high.now c.args.link c.flow_between.result (omega (
       arith,
       each,
       given,

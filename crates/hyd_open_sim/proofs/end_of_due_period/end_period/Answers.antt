@@ -1,112 +1,105 @@
-use Rattle.std.proofs.Common.{◌≡◌, ap, refl, arith}
-use Rattle.std.specs.Prelude.{OnOk, OnErr, IfErr, ℕ}
+use Rattle.std.proofs.Common.{◌≡◌, ap, refl, sym, subst}
 use Rattle.hyd_spec_certificates.specs.Stops.{IsTightRow}
-use Rattle.hyd_spec_open_ends.specs.OpenStandings.{OpenRecord, OpenStanding}
-use Rattle.hyd_spec_open_refusals.specs.RefusedOpenRecords.{LeavesMatterOpen, HasLengths, HasOtherLengths}
+use Rattle.hyd_spec_open_ends.specs.OpenStandings.{OpenRecord}
 use Rattle.hyd_cert.specs.Lines.{Header}
 use Rattle.hyd_cert.specs.RecordView.{row_of}
+use Rattle.hyd_open_certificates.specs.OpenRowView.{open_record_of}
+use Rattle.hyd_open_certificates.specs.declared.open_row.OpenRow.{OpenRow}
 use Rattle.hyd_period_network.specs.NetAsPeriodNetwork.{grid_of}
-use Rattle.hyd_period_end.specs.FactsBeforeVectors.{AreBegun}
 use Rattle.hyd_period_end.specs.OpenMatters.{SharesVectors}
 use Rattle.hyd_period_end.specs.declared.undecided.Open.{Open}
+use Rattle.hyd_open_period_end.specs.LookedAt.{AreLookedAt, ForRecord}
 use Rattle.hyd_open_period_end.specs.OpenMatters.{IsOpenlyOpenAt, IsLeftOpen}
-use Rattle.hyd_open_period_end.proofs.StocksThere.{there-of}
+use Rattle.hyd_open_period_end.proofs.PeriodsLookedAt.{begun-still, looked-shared}
 use Rattle.hyd_open_sim_start.specs.StandingsOfOpenRuns.{known_for, standing_for}
-use Rattle.hyd_open_sim_start.proofs.StandingsAtStarts.{late-small}
-use Rattle.hyd_sim.proofs.MissingVectors.{if-err, on-ok-four}
-use Rattle.hyd_open_sim.proofs.EndsOfDuePeriods.{closed-over, last-decided, last-lengths, on-err, on-ok}
-use Rattle.hyd_open_sim.proofs.StandingsBehindPeriods.{begins-before}
+use Rattle.hyd_sim.proofs.MissingVectors.{if-err}
+use Rattle.hyd_open_sim.proofs.EndsOfDuePeriods.{on-err, on-ok}
 use Rattle.hyd_open_sim.proofs.end_of_due_period.end_period.Goals as goal
 
-pub end_run-requires-clause-tanks : goal.end_run-requires-clause-tanks
-end_run-requires-clause-tanks c = ap (λ (h : Header). h.tanks) c.requires.header
+pub look-requires-clause-tanks : goal.look-requires-clause-tanks
+look-requires-clause-tanks c = ap (λ (h : Header). h.tanks) c.requires.header
 
-pub finish-requires-clause-tanks : goal.finish-requires-clause-tanks
-finish-requires-clause-tanks c = ap (λ (h : Header). h.tanks) c.requires.header
+pub end_by_readings-requires-clause-begun : goal.end_by_readings-requires-clause-begun
+end_by_readings-requires-clause-begun c =
+    begun-still c.args.project.now (known_for c.args.standing.now) c.args.facts.now c.look.new.facts c.requires.begun
+    c.look.ensures.keeps
 
-pub finish-requires-clause-there : goal.finish-requires-clause-there
-finish-requires-clause-there c =
-    there-of c.args.project.now (known_for c.args.standing.now) c.args.facts.now c.requires.begun
-    c.requires.standing.firm.tidy
-
-pub finish-requires-clause-begins : goal.finish-requires-clause-begins
-finish-requires-clause-begins c = record {
-  standing = standing_for c.args.standing.now;
-  late_is = refl;
-  begun = c.requires.begun;
+pub end_by_readings-requires-clause-looked : goal.end_by_readings-requires-clause-looked
+end_by_readings-requires-clause-looked c = record {
+  grid = grid_of c.args.net.now;
+  row = row_of c.args.found.now.row;
+  looked = c.look.ensures.looked;
 }
-
-pub finish-requires-clause-late : goal.finish-requires-clause-late
-finish-requires-clause-late c =
-    late-small c.args.project.now c.args.standing.now c.requires.sound c.requires.standing
-
-pub finish-requires-clause-before_end : goal.finish-requires-clause-before_end
-finish-requires-clause-before_end c =
-    let time = c.requires.begun.time in
-    let before = begins-before c.args.project.now c.args.standing.now c.requires.standing c.if-standing-project.false in
-    omega (arith, time, before)
 
 pub returns-clause-over : goal.returns-clause-over
 returns-clause-over c =
     let project = c.args.project.now in
-    let here = c.args.standing.now in
-    on-ok-four _ _ _ _ _ c.finish.result
-    (λ closed within held have. closed-over project c.args.slack here (grid_of c.args.net.now) c.finish.new.found
-    c.finish.new.facts c.finish.new.self c.if-standing-project.false
-    (closed (standing_for here) refl c.requires.begun) within held have)
-    c.finish.ensures.closed c.finish.ensures.within_slack c.finish.ensures.held c.finish.ensures.have
+    let grid = grid_of c.args.net.now in
+    let row = row_of c.args.found.now.row in
+    let found : OpenRow = c.end_by_readings.new.found in
+    let shared : SharesVectors (row_of found.row) row =
+    subst (λ (f : OpenRow). SharesVectors (row_of f.row) row) (sym c.end_by_readings.ensures.found)
+    (record { main = refl; pinned = refl }) in
+    on-ok _ _ c.end_by_readings.result
+    (λ all. all grid (open_record_of found)
+    (looked-shared project grid c.look.new.facts c.look.new.readings row (row_of found.row) shared
+    c.look.ensures.looked) refl refl)
+    c.end_by_readings.ensures.over
 
 pub returns-clause-open : goal.returns-clause-open
 returns-clause-open c =
     let project = c.args.project.now in
     let here = c.args.standing.now in
     let grid = grid_of c.args.net.now in
-    if-err (λ (what : Open). (standing : OpenStanding) (other : OpenRecord) → standing.late ≡ here.late
-    → AreBegun project standing.known c.args.facts.now → SharesVectors other.row (row_of c.args.found.now.row)
-    → IsOpenlyOpenAt project grid standing c.args.slack other what)
-    (λ (what : Open). (other : OpenRecord) → SharesVectors other.row (row_of c.args.found.now.row)
-    → IsOpenlyOpenAt project grid (standing_for here) c.args.slack other what) c.finish.result
-    (λ what all other share. all (standing_for here) other refl c.requires.begun share) c.finish.ensures.open
+    let row = row_of c.args.found.now.row in
+    if-err (λ (what : Open). ForRecord project c.look.new.facts c.look.new.readings
+    (λ g other. IsOpenlyOpenAt project g (standing_for here) c.args.slack other what))
+    (λ (what : Open). (other : OpenRecord) → SharesVectors other.row row
+    → IsOpenlyOpenAt project grid (standing_for here) c.args.slack other what) c.end_by_readings.result
+    (λ what all other share. all grid other
+    (looked-shared project grid c.look.new.facts c.look.new.readings row other.row share c.look.ensures.looked))
+    c.end_by_readings.ensures.open
 
 pub returns-clause-stops : goal.returns-clause-stops
 returns-clause-stops c =
     let project = c.args.project.now in
     let here = c.args.standing.now in
     let grid = grid_of c.args.net.now in
-    if-err (λ (what : Open). (standing : OpenStanding) → standing.late ≡ here.late
-    → AreBegun project standing.known c.args.facts.now
-    → IsTightRow project standing.known grid (row_of c.args.found.now.row)
-    → IsLeftOpen project standing c.args.slack what)
-    (λ (what : Open). IsTightRow project (known_for here) grid (row_of c.args.found.now.row)
-    → IsLeftOpen project (standing_for here) c.args.slack what) c.finish.result
-    (λ what all tight. all (standing_for here) refl c.requires.begun tight) c.finish.ensures.stops
+    let row = row_of c.args.found.now.row in
+    if-err (λ (what : Open). ForRecord project c.look.new.facts c.look.new.readings
+    (λ g other. IsTightRow project (known_for here) g other.row
+    → IsLeftOpen project (standing_for here) c.args.slack what))
+    (λ (what : Open). IsTightRow project (known_for here) grid row
+    → IsLeftOpen project (standing_for here) c.args.slack what) c.end_by_readings.result
+    (λ what all. all grid (record { row = row; late = 0; shortest = 0 }) c.look.ensures.looked)
+    c.end_by_readings.ensures.stops
 
 pub returns-clause-matter : goal.returns-clause-matter
 returns-clause-matter c = λ wide.
-    on-err _ _ c.finish.result
-    (λ all other share. all (standing_for c.args.standing.now) other refl c.requires.begun share)
-    (c.finish.ensures.matter wide)
+    let project = c.args.project.now in
+    let grid = grid_of c.args.net.now in
+    let row = row_of c.args.found.now.row in
+    on-err _ _ c.end_by_readings.result
+    (λ all other share. all grid other
+    (looked-shared project grid c.look.new.facts c.look.new.readings row other.row share c.look.ensures.looked))
+    (c.end_by_readings.ensures.matter wide)
 
 pub returns-clause-decided : goal.returns-clause-decided
 returns-clause-decided c =
-    on-ok _ _ c.finish.result
-    (λ all other share. all (standing_for c.args.standing.now) other refl c.requires.begun share)
-    c.finish.ensures.decided
+    let project = c.args.project.now in
+    let grid = grid_of c.args.net.now in
+    let row = row_of c.args.found.now.row in
+    on-ok _ _ c.end_by_readings.result
+    (λ all other share. all grid other
+    (looked-shared project grid c.look.new.facts c.look.new.readings row other.row share c.look.ensures.looked))
+    c.end_by_readings.ensures.decided
 
 pub returns-clause-lengths : goal.returns-clause-lengths
 returns-clause-lengths c =
-    on-ok _ _ c.finish.result
-    (λ all other share apart. all (standing_for c.args.standing.now) other refl c.requires.begun share apart)
-    c.finish.ensures.lengths
-
-pub returns-then-standing-project-clause-over : goal.returns-then-standing-project-clause-over
-returns-then-standing-project-clause-over c = c.end_run.ensures.over c.args.slack
-
-pub returns-then-standing-project-clause-decided : goal.returns-then-standing-project-clause-decided
-returns-then-standing-project-clause-decided c = λ other share.
-    last-decided c.args.project.now c.args.standing.now (grid_of c.args.net.now) other c.if-standing-project.true
-
-pub returns-then-standing-project-clause-lengths : goal.returns-then-standing-project-clause-lengths
-returns-then-standing-project-clause-lengths c = λ other share.
-    last-lengths c.args.project.now c.args.standing.now (grid_of c.args.net.now) other _ _ c.if-standing-project.true
-    c.end_run.ensures.shortest c.end_run.ensures.length
+    let project = c.args.project.now in
+    let grid = grid_of c.args.net.now in
+    let row = row_of c.args.found.now.row in
+    on-ok _ _ c.end_by_readings.result
+    (λ all other share. all grid other
+    (looked-shared project grid c.look.new.facts c.look.new.readings row other.row share c.look.ensures.looked))
+    c.end_by_readings.ensures.lengths

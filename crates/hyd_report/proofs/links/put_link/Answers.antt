@@ -10,7 +10,7 @@ use Rattle.hyd_period_network.specs.NetAsPeriodNetwork.{grid_of, states_of}
 use Rattle.hyd_io.specs.TextPutIn.{Puts}
 use Rattle.hyd_lemmas.proofs.ListsOptionsAndResults.{item_there}
 use Rattle.hyd_report.proofs.LineLemmas.{link_put}
-use Rattle.hyd_report.proofs.StatusWordOfLink.{link_word}
+use Rattle.hyd_report.proofs.StatusWordOfLink.{AreLinksOf, link_word}
 use Rattle.hyd_report.proofs.links.put_link.Goals as goal
 
 pub returns : goal.returns
@@ -29,11 +29,17 @@ returns g c =
     ) in
     let place : (x : GridLink) × (slice_get (grid_of net).links c.args.link ≡ Some x) = item_there
     (grid_of net).links c.args.link within in
+    let links : AreLinksOf project net = record {
+      each_setting = c.requires.of.each_setting;
+      each_own = c.requires.of.each_own;
+      each_law = c.requires.of.each_law;
+      laws = c.requires.of.laws;
+    } in
     link_put (slice_get project.links.list c.args.link) project (grid_of net) below above (states_of net)
     (λ (text : List ℕ). Puts g.D.Desk.files g.D.Desk.rest g.D.Desk.written g.D.Desk.printed g.D.Desk.target
     g.D.Desk.ready g.D.Desk.counts g.D.Desk.openings
-    text c.put_parts.result c.args.pen.now c.put_parts.new.pen c.args.desk.now c.put_parts.new.desk)
-    c.args.link c.flow_box-flow.result _ c.status_of-status.result place.0 place.1 c.flow_box-flow.ensures.flow
-    (link_word project net c.args.link below above c.status_of-status.result place.0 c.requires.of c.requires.states
+    text c.put_link_line.result c.args.pen.now c.put_link_line.new.pen c.args.desk.now c.put_link_line.new.desk)
+    c.args.link c.flow_box-flow.result c.status_of-status.result place.0 place.1 c.flow_box-flow.ensures.flow
+    (link_word project net c.args.link below above c.status_of-status.result place.0 links c.requires.states
     c.requires.in_range place.1 c.status_of-status.ensures.word)
-    c.print_flows-flow.ensures c.put_parts.ensures
+    c.put_link_line.ensures

@@ -6,8 +6,6 @@ use Rattle.hyd_spec_certificates.specs.declared.Problem.TheVariants.{Main}
 use Rattle.hyd_spec_certificates.specs.declared.Side.TheVariants.{Lower}
 use Rattle.hyd_period_network.specs.NetAsPeriodNetwork.{grid_of}
 use Rattle.hyd_io.specs.TextPutIn.{Puts}
-use Rattle.hyd_report.specs.PrintedIntervals.{printed, quantity_in, ArePrinted}
-use Rattle.hyd_report.specs.declared.printed_intervals.Quantity.TheVariants.{Head}
 use Rattle.hyd_theorems_on_definitions.proofs.HeadLists.{heads_of, head_behind, head_before, heads_of-length}
 use Rattle.hyd_report.proofs.LineLemmas.{reservoir_put}
 use Rattle.hyd_report.proofs.reservoirs.put_reservoir.Goals as goal
@@ -23,11 +21,9 @@ returns g c =
     ∙ head_behind (heads_of net.junctions) (fixed_heads (grid_of net) Main Lower)
     (length net.junctions) c.args.reservoir (heads_of-length net.junctions)
     ∙ head_before net.reservoirs _ c.args.reservoir c.requires.in_range) in
-    let head : ArePrinted (printed (quantity_in c.args.project.now Head)
-    (record { lo = c.fixed-height.result; hi = c.fixed-height.result })) c.print_heads-head.result =
-    simp to_z-of_z at c.print_heads-head.ensures in
     reservoir_put net.reservoirs c.args.project.now
     (λ (text : List ℕ). Puts g.D.Desk.files g.D.Desk.rest g.D.Desk.written g.D.Desk.printed g.D.Desk.target
     g.D.Desk.ready g.D.Desk.counts g.D.Desk.openings
-    text c.put_parts.result c.args.pen.now c.put_parts.new.pen c.args.desk.now c.put_parts.new.desk)
-    c.args.reservoir c.fixed-height.result _ c.requires.in_range value head c.put_parts.ensures
+    text c.put_reservoir_line.result c.args.pen.now c.put_reservoir_line.new.pen c.args.desk.now
+    c.put_reservoir_line.new.desk)
+    c.args.reservoir c.fixed-height.result c.requires.in_range value (simp to_z-of_z at c.put_reservoir_line.ensures)

@@ -11,7 +11,7 @@ use Rattle.hyd_period_network.specs.NetAsPeriodNetwork.{states_of, own_laws}
 use Rattle.hyd_period_network.specs.NetsSetToPeriods.{AreShut, own_laws_of}
 use Rattle.hyd_spread_rows.specs.SpreadsRead.{spread_of}
 use Rattle.hyd_spread_networks.specs.NetsOfSpreads.{SpreadNetsView, AreNetsOf, net_on, pair_of}
-use Rattle.hyd_spread_networks.specs.RefusedSpreads.{IsFirstDemandOver}
+use Rattle.hyd_spec_spread_stops.specs.StopsOfSpreads.{IsFirstDemandOver}
 use Rattle.hyd_spread_networks.specs.declared.fault.DemandOver.{DemandOver}
 use Rattle.hyd_spread_networks.proofs.NetsOfBothSides.{both, nets_stay, pair_put}
 use Rattle.hyd_spread_networks.proofs.nets.SpreadNets.set_period.Goals as goal
@@ -60,7 +60,8 @@ set_period_with-requires-clause-each_demand c =
 
 pub set_period_with-requires-clause-in_range : goal.set_period_with-requires-clause-in_range
 set_period_with-requires-clause-in_range c =
-    subst (All IsInRange) (sym (c.deref.ensures.value ∙ with_items_is c.self.inside.least_demands c.put_demands.new.least
+    subst (All IsInRange)
+    (sym (c.deref.ensures.value ∙ with_items_is c.self.inside.least_demands c.put_demands.new.least
     (c.put_demands.auto.least ∙ c.deref_mut.ensures.len)))
     c.in_ok-put_demands.ensures.least_range
 
@@ -74,7 +75,8 @@ set_period_with-requires-clause-each_head c =
 
 pub set_period_with-requires-clause-heads : goal.set_period_with-requires-clause-heads
 set_period_with-requires-clause-heads c =
-    subst (All IsHead) (sym (c.deref-2.ensures.value ∙ with_items_is c.self.inside.greatest_heads c.put_heads.new.greatest
+    subst (All IsHead)
+    (sym (c.deref-2.ensures.value ∙ with_items_is c.self.inside.greatest_heads c.put_heads.new.greatest
     (c.put_heads.auto.greatest ∙ c.deref_mut-4.ensures.len)))
     c.put_heads.ensures.greatest_range
 
@@ -93,7 +95,8 @@ set_period_with-requires-2-clause-each_demand c =
 
 pub set_period_with-requires-2-clause-in_range : goal.set_period_with-requires-2-clause-in_range
 set_period_with-requires-2-clause-in_range c =
-    subst (All IsInRange) (sym (c.deref-3.ensures.value ∙ with_items_is c.self.inside.greatest_demands c.put_demands.new.greatest
+    subst (All IsInRange)
+    (sym (c.deref-3.ensures.value ∙ with_items_is c.self.inside.greatest_demands c.put_demands.new.greatest
     (c.put_demands.auto.greatest ∙ c.deref_mut-2.ensures.len)))
     c.in_ok-put_demands.ensures.greatest_range
 
@@ -107,7 +110,8 @@ set_period_with-requires-2-clause-each_head c =
 
 pub set_period_with-requires-2-clause-heads : goal.set_period_with-requires-2-clause-heads
 set_period_with-requires-2-clause-heads c =
-    subst (All IsHead) (sym (c.deref-4.ensures.value ∙ with_items_is c.self.inside.least_heads c.put_heads.new.least
+    subst (All IsHead)
+    (sym (c.deref-4.ensures.value ∙ with_items_is c.self.inside.least_heads c.put_heads.new.least
     (c.put_heads.auto.least ∙ c.deref_mut-3.ensures.len)))
     c.put_heads.ensures.least_range
 

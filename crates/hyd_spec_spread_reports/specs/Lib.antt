@@ -1,0 +1,3 @@
+pub mod SpreadReport
+pub mod TextsOfSpreadReports
+pub mod ClaimsWithinSpreads

@@ -1,0 +1,2 @@
+pub mod ItemsOfBothSides
+pub mod VectorsOfBothSides

@@ -1,0 +1,2 @@
+pub mod FlowsOfLinks
+pub mod NetsInPeriods

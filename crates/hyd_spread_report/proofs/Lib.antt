@@ -1,0 +1,4 @@
+pub mod LinesOfBothSides
+pub mod PartsPut
+pub mod SpreadStateLines
+pub mod SpreadReports

@@ -1,0 +1,3 @@
+pub mod PeriodsOverSpreads
+pub mod DuePeriodsOver
+pub mod StopsOverSpreads

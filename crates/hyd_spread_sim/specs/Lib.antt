@@ -1,0 +1,3 @@
+pub mod MadeOver
+pub mod PeriodAttempt
+pub mod DuePeriods

@@ -1,0 +1,4 @@
+pub mod KnownStocksOfRows
+pub mod StandingsWithin
+pub mod OpenTanksOfCode
+pub mod DemandsOver

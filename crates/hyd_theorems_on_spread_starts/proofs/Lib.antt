@@ -1,0 +1,3 @@
+pub mod LastRows
+pub mod OpenTanks
+pub mod StartsWithRows
