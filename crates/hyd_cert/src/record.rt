@@ -109,6 +109,7 @@ pub(crate) fn add_zeros(vectors: &mut List<i64>, count: u32) -> Result<(), OutOf
     ensures length { OnOk result (length vectors.new.list ≡ length vectors.old.list + count) }
     ensures zeros { All (λ h. h ≡ pos 0) vectors.old.list → All (λ h. h ≡ pos 0) vectors.new.list }
 {
+    vectors.reserve(count as usize)?;
     for _ in 0..count {
         vectors.push(0)?;
     }

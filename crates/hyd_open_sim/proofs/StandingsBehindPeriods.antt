@@ -19,7 +19,7 @@ use Rattle.hyd_open_sim_start.specs.StandingsOfOpenRuns.{IsStanding, standing_fo
 use Rattle.hyd_open_sim_start.specs.declared.standing.Standing.{Standing as Here}
 use Rattle.hyd_theorems_on_open_standings.specs.FirmStandings.{IsFirm}
 use Rattle.hyd_theorems_on_open_standings.proofs.StandingsAreFirm.{firm_next}
-use Rattle.hyd_open_sim.specs.EndedPeriods.{IsMade, last_standing, next_standing}
+use Rattle.hyd_open_sim.specs.EndedPeriods.{CanGoOn, IsMade, last_standing, next_standing}
 
 -- ---- which standing is behind a period
 
@@ -43,19 +43,13 @@ begins-before project here is other = elim (cases_lt here.time project.times.dur
   | inr more ↦ (let within = is.firm.tidy.in_time in absurd (other (omega (arith, within, more))))
 ]
 
--- ---- behind a period that was made
+-- ---- behind a period that a run can go on from
 
-module _ (project : Project) (sound : IsSound project) (here : Here) (is : IsStanding project here)
-    (unfinished : here.finished ≡ false) (net : NetView) (found : OpenRow) (facts : Facts) (close : OpenPeriodEnd)
-    (some : (slack : ℕ) × IsMade project slack here net found facts close) where
-  firm-behind : IsFirm project (next_standing project here close)
-  firm-behind =
-      firm_next project sound (grid_of net) (standing_for here) (open_record_of found) (next_standing project here close)
-      is.firm some.1.valid
-
+module _ (project : Project) (here : Here) (is : IsStanding project here) (unfinished : here.finished ≡ false)
+    (close : OpenPeriodEnd) (on : CanGoOn project here close) where
   -- it ends within the run
   pub in-time : here.time ≢ project.times.duration → here.time + close.first ≤ project.times.duration
-  in-time other = (subst (IsFirm project) (at-later project here close other) firm-behind).tidy.in_time
+  in-time other = (subst (IsFirm project) (at-later project here close other) on.firm).tidy.in_time
 
   module _ (now : Here) where
     pub same-last : here.time ≡ project.times.duration → now ≡ record here { number = here.number + 1; finished = true }
@@ -69,7 +63,7 @@ module _ (project : Project) (sound : IsSound project) (here : Here) (is : IsSta
     pub standing-last : here.time ≡ project.times.duration
         → now ≡ record here { number = here.number + 1; finished = true } → IsStanding project now
     standing-last last moved = record {
-      firm = subst (IsFirm project) (sym (same-last last moved)) firm-behind;
+      firm = subst (IsFirm project) (sym (same-last last moved)) on.firm;
       held = subst (λ (h : Here). AreKeptIn project h.stocks) (sym moved) is.held;
       room = subst (λ (h : Here). HasNextRoom project h.stocks) (sym moved) is.room;
       few = (let few = is.unfinished unfinished in let n = ap (λ (h : Here). h.number) moved in
@@ -109,12 +103,26 @@ module _ (project : Project) (sound : IsSound project) (here : Here) (is : IsSta
 
       pub standing-later : HasRoom project close → IsStanding project now
       standing-later room = record {
-        firm = subst (IsFirm project) (sym same-later) firm-behind;
-        held = subst (λ (h : Here). AreKeptIn project h.stocks) (sym moved) (some.1.over.held other);
+        firm = subst (IsFirm project) (sym same-later) on.firm;
+        held = subst (λ (h : Here). AreKeptIn project h.stocks) (sym moved) (on.held other);
         room = subst (λ (h : Here). HasNextRoom project h.stocks) (sym moved) room.next;
         few = (let few = is.unfinished unfinished in let n = ap (λ (h : Here). h.number) moved in
             let t = ap (λ (h : Here). h.time) moved in omega (arith, few, n, t));
         unfinished = λ e. (let few = is.unfinished unfinished in let n = ap (λ (h : Here). h.number) moved in
-            let t = ap (λ (h : Here). h.time) moved in let later = some.1.over.later other in
+            let t = ap (λ (h : Here). h.time) moved in let later = on.later other in
             omega (arith, few, n, t, later));
       }
+
+-- ---- behind a period that was made
+
+-- a run can go on behind it
+pub goes-on : (project : Project) → IsSound project → (here : Here) → IsStanding project here → (net : NetView)
+    (found : OpenRow) (facts : Facts) (close : OpenPeriodEnd) → (slack : ℕ)
+    → IsMade project slack here net found facts close
+    → CanGoOn project here close
+goes-on project sound here is net found facts close slack made = record {
+  firm = firm_next project sound (grid_of net) (standing_for here) (open_record_of found)
+      (next_standing project here close) is.firm made.valid;
+  held = made.over.held;
+  later = made.over.later;
+}

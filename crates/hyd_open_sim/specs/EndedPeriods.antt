@@ -19,6 +19,7 @@ use Rattle.hyd_open_period_end.specs.declared.open_period_end.OpenPeriodEnd.{Ope
 use Rattle.hyd_open_sim_start.specs.StandingsOfOpenRuns.{known_for, standing_for}
 use Rattle.hyd_open_sim_start.specs.declared.standing.Standing.{Standing as Here}
 use Rattle.hyd_theorems_on_definitions.specs.SoundLawsAndGrids.{TanksInOrder}
+use Rattle.hyd_theorems_on_open_standings.specs.FirmStandings.{IsFirm}
 
 -- where the run ends, the standing after its last period: the stocks, the states and the commands stay
 abbrev pub last_standing : Here → OpenStanding
@@ -31,6 +32,13 @@ last_standing here = record {
 abbrev pub next_standing : Project → Here → OpenPeriodEnd → OpenStanding
 next_standing project here close =
     if here.time == project.times.duration then last_standing here else standing_left (standing_for here) close
+
+-- a run can go on behind a period that leaves this: the next standing is firm, and where the run isn't over, it comes a
+-- second later or more, with stocks within the bounds of their tanks
+pub record CanGoOn (project : Project) (here : Here) (close : OpenPeriodEnd) : Type 0 where
+  pub firm : IsFirm project (next_standing project here close)
+  pub held : here.time ≢ project.times.duration → AreKeptIn project close.next
+  pub later : here.time ≢ project.times.duration → 0 < close.first
 
 -- a period is over by a record on a grid, and this is what it leaves: its record leads on, its end is open by at most
 -- the slack, the facts are its own, and where the run goes on, it ends a second after its first start or later, and the

@@ -268,6 +268,6 @@ pub(crate) fn advance<F: Finder>(
     do_period(
         project, settings, standing, net, search, found, facts, close, finder,
     )?;
-    move_on(standing, project, net, found, facts, close);
+    move_on(standing, project, close);
     Ok(())
 }

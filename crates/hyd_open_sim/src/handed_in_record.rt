@@ -204,7 +204,7 @@ fn take(
 {
     check_place(project, standing, given)?;
     check_due(project, standing, net, found, facts, close, given)?;
-    move_on(standing, project, net, found, facts, close);
+    move_on(standing, project, close);
     Ok(())
 }
 

@@ -19,6 +19,8 @@ mod run_out_of_parts;
 mod steps;
 
 pub use ends_by_readings::end_by_readings;
+pub use moving_on::move_on;
+pub use narrow_records::has_steady_levels;
 pub use open_settings::OpenSettings;
 pub use open_sim::OpenSim;
 pub use run_out_of_parts::room_for_events;

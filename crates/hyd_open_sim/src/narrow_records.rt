@@ -15,8 +15,9 @@ use hyd_open_period_end::OpenPeriodEnd;
 use hyd_open_sim_start::{Standing, are_close, are_steady};
 use hyd_spec_certificates::{Problem, Side};
 
-// Whether the levels behind a period are narrow, which is asked where its start and its end are known to the second.
-fn has_steady_levels(
+/// Whether the levels behind a period are narrow for a width in head ticks, which is asked where its start and its end
+/// are known to the second.
+pub fn has_steady_levels(
     project: &Project,
     standing: &Standing,
     close: &OpenPeriodEnd,

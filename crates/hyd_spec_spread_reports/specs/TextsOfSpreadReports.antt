@@ -2,7 +2,7 @@
 -- reads the intervals as those of the file's network alone.
 -- Source: this program's format.
 use Rattle.std.specs.Prelude.{ℕ, ◌==◌, ◌&&◌, Bool, not, List, [], ◌∷◌, ◌++◌, length, map, filter, codes}
-use Rattle.std.specs.Prelude.{is_some}
+use Rattle.std.specs.Prelude.{is_some, if◌then◌else◌}
 use Rattle.std.specs.Fmt.{decimal}
 use Rattle.std.specs.Ordering.{int_eq}
 use Rattle.hyd_spec.specs.ProgramTypes.{Project, Junction, Reservoir, Tank}
@@ -54,8 +54,18 @@ spread_line project spread =
     line (codes "SPREAD" ∷ (decimal (demands_left project spread) ∷ (decimal (emitters_left project spread)
     ∷ (decimal (heads_left project spread) ∷ (decimal (levels_left project spread) ∷ [])))))
 
+-- A spread says nothing of any node: there is none.
+abbrev pub says_nothing : Spread → Bool
+says_nothing spread =
+    (length spread.demands == 0) && ((length spread.emitters == 0)
+    && ((length spread.heads == 0) && (length spread.levels == 0)))
+
+-- The second line of a report, which only one for a spread has.
+abbrev pub second_line : Project → Spread → List ℕ
+second_line project spread = if says_nothing spread then [] else spread_line project spread
+
 -- The report of some lines and a last one: it begins with the line `HYD 1` and the line of the spread.
 abbrev pub spread_report_text : Project → Spread → List OpenLine → List ℕ → List ℕ
 spread_report_text project spread lines last =
-    line (codes "HYD" ∷ (decimal 1 ∷ [])) ++ (spread_line project spread
+    line (codes "HYD" ∷ (decimal 1 ∷ [])) ++ (second_line project spread
     ++ (joined (map (open_line_text project) lines) ++ last))

@@ -1,3 +1,6 @@
 pub mod PeriodsOverSpreads
 pub mod DuePeriodsOver
 pub mod StopsOverSpreads
+pub mod StandingsOverSpreads
+pub mod HandedInOverSpreads
+pub mod WithoutSpread

@@ -6,22 +6,26 @@ ghost use Rattle.std.specs.Prelude.{◌≡◌, true, false, IfOk, IfErr, OnOk};
 ghost use Rattle.hyd_net.specs.Sound.{IsSound};
 ghost use Rattle.hyd_spec.specs.NodeNumbers.{tank_count};
 ghost use Rattle.hyd_spec_spread.specs.Spreads.{IsSpread};
+ghost use Rattle.hyd_spec_spread_reports.specs.TextsOfSpreadReports.{says_nothing};
+ghost use Rattle.hyd_spec_spread_promises.specs.SharpOverSpreads.{AreTightOver, IsNarrowWithin};
 ghost use Rattle.hyd_spec_spread_stops.specs.StopsOfSpreads.{StopsOver};
 ghost use Rattle.hyd_cert.specs.RecordView.{row_of};
 ghost use Rattle.hyd_open_certificates.specs.OpenRowView.{open_header_of};
 ghost use Rattle.hyd_period_facts.specs.ReservedMemory.{HasRoom};
 ghost use Rattle.hyd_open_period_end.specs.EndOfOpenPeriod.{HasRoom as HasCloseRoom};
-ghost use Rattle.hyd_open_sim_start.specs.StandingsOfOpenRuns.{IsStanding, standing_for};
+ghost use Rattle.hyd_open_sim_start.specs.StandingsOfOpenRuns.{IsStanding, known_for, standing_for};
+ghost use Rattle.hyd_open_sim.specs.EndedPeriods.{next_standing};
 ghost use Rattle.hyd_open_sim.specs.RunView.{header_for};
 ghost use Rattle.hyd_sim.specs.NarrowRecordsAndStops.{SaysNone};
 ghost use Rattle.hyd_spread_networks.specs.NetsOfSpreads.{AreNetsOf, pair_of};
 ghost use Rattle.hyd_spread_start.specs.StartsOver.{IsStartedOver};
-ghost use Rattle.hyd_spread_vectors.specs.NarrowForSpreads.{IsNarrowOver};
+ghost use Rattle.hyd_spread_stops.specs.StuckOverSpreads.{NamesStuckOver};
 ghost use Rattle.hyd_spread_vectors.specs.VectorsOfBothNetworks.{KeepsSize};
 ghost use Rattle.hyd_spread_sim.specs.MadeOver.{IsMadeOver};
 ghost use Rattle.hyd_spread_sim.specs.PeriodAttempt.{AreSoughtOver};
-ghost use Rattle.hyd_spread_sim.specs.DuePeriods.{AreTightOver, GoesOnOver, IsDoneOver, IsSearchFor, fault_stop_of};
+ghost use Rattle.hyd_spread_sim.specs.DuePeriods.{GoesOnOver, IsDoneOver, IsSearchFor, fault_stop_of};
 
+use crate::narrow_periods::is_narrow;
 use crate::period_attempt::{Fault, try_period};
 use hyd_finders::Finder;
 use hyd_net::Project;
@@ -47,14 +51,14 @@ fn fault_stop(standing: &Standing, rounds: u32, fault: Fault) -> StopCause
 }
 
 // Does a period that was started, with tight vectors. Fails with the cause that stops the run there.
-fn tighten<F: Finder>(
+fn tighten<F: Finder, G: Finder>(
     project: &Project,
     slack: u32,
     rounds: u32,
     standing: &Standing,
     nets: &SpreadNets,
     above: &mut F,
-    below: &mut F,
+    below: &mut G,
     search: &mut SpreadSearch,
     found: &mut OpenRow,
     facts: &mut Facts,
@@ -70,17 +74,19 @@ fn tighten<F: Finder>(
     requires started { IsStartedOver project.now nets.now.spread (standing_for standing.now) nets.now found.old
         facts.old }
     requires close { HasCloseRoom project.now close.old }
+    requires told { says_nothing nets.now.spread ≡ true → G.told below.old ≡ F.told above.old }
     ensures made { OnOk result (IsMadeOver project.now slack standing.now nets.now found.new facts.new close.new) }
     ensures tight { OnOk result (AreTightOver project.now (pair_of nets.now) (row_of found.new.row)) }
-    ensures sought { OnOk result (AreSoughtOver true (record { above = F.told above.old; below = F.told below.old })
+    ensures sought { OnOk result (AreSoughtOver true (record { above = F.told above.old; below = G.told below.old })
         (pair_of nets.now) (tank_count project.now) rounds (row_of found.new.row)) }
     ensures stops { IfErr result (StopsOver project.now nets.now.spread (standing_for standing.now) slack rounds) }
+    ensures stuck { IfErr result (NamesStuckOver project.now nets.now.spread (known_for standing.now) rounds) }
     ensures header { open_header_of found.new ≡ open_header_of found.old }
     ensures facts { HasRoom project.now facts.new }
     ensures close { HasCloseRoom project.now close.new }
     ensures search { KeepsSize search.old search.new }
     ensures told_above { F.told above.new ≡ F.told above.old }
-    ensures told_below { F.told below.new ≡ F.told below.old }
+    ensures told_below { G.told below.new ≡ G.told below.old }
 {
     tight_over();
     match try_period(
@@ -91,16 +97,16 @@ fn tighten<F: Finder>(
     }
 }
 
-// Does a period that was started, with vectors that needn't be tight, and tells whether its record does: whether it is
-// narrow on each network, none of its vectors is lacking, and they leave no matter open. Fails with the cause that
-// stops the run where no vector is a certificate; where only rounds were spent, the tight vectors may still be reached.
-fn does<F: Finder>(
+// Does a period that was started, with vectors that needn't be tight, and tells whether its record does: whether the
+// period is narrow, none of its vectors is lacking, and they leave no matter open. Fails with the cause that stops the
+// run where no vector is a certificate; where only rounds were spent, the tight vectors may still be reached.
+fn does<F: Finder, G: Finder>(
     project: &Project,
     settings: OpenSettings,
     standing: &Standing,
     nets: &SpreadNets,
     above: &mut F,
-    below: &mut F,
+    below: &mut G,
     search: &mut SpreadSearch,
     found: &mut OpenRow,
     facts: &mut Facts,
@@ -116,17 +122,21 @@ fn does<F: Finder>(
     requires started { IsStartedOver project.now nets.now.spread (standing_for standing.now) nets.now found.old
         facts.old }
     requires close { HasCloseRoom project.now close.old }
+    requires told { says_nothing nets.now.spread ≡ true → G.told below.old ≡ F.told above.old }
     ensures made { IfOk result (λ fits. fits ≡ true
         → IsMadeOver project.now settings.slack standing.now nets.now found.new facts.new close.new) }
-    ensures narrow { IfOk result (λ fits. fits ≡ true → IsNarrowOver settings.search.width
-        (standing_for standing.now).known.levels (pair_of nets.now) (row_of found.new.row)) }
+    ensures narrow { IfOk result (λ fits. fits ≡ true → IsNarrowWithin settings.search.width nets.now.spread
+        (standing_for standing.now) (pair_of nets.now) (row_of found.new.row)
+        (next_standing project.now standing.now close.new)) }
     ensures sought { IfOk result (λ fits. fits ≡ true → AreSoughtOver false
-        (record { above = F.told above.old; below = F.told below.old }) (pair_of nets.now) (tank_count project.now)
+        (record { above = F.told above.old; below = G.told below.old }) (pair_of nets.now) (tank_count project.now)
         settings.search.rounds (row_of found.new.row)) }
     ensures stops { IfErr result (StopsOver project.now nets.now.spread (standing_for standing.now) settings.slack
         settings.search.rounds) }
+    ensures stuck { IfErr result (NamesStuckOver project.now nets.now.spread (known_for standing.now)
+        settings.search.rounds) }
     ensures certain { IfErr result SaysNone }
-    ensures goes_on { IfOk result (λ fits. GoesOnOver (record { above = F.told above.old; below = F.told below.old })
+    ensures goes_on { IfOk result (λ fits. GoesOnOver (record { above = F.told above.old; below = G.told below.old })
         (pair_of nets.now) (tank_count project.now) settings.search.rounds search.new.held (row_of found.new.row)) }
     ensures header { open_header_of found.new ≡ open_header_of found.old }
     ensures number { found.new.row.number ≡ found.old.row.number }
@@ -136,7 +146,7 @@ fn does<F: Finder>(
     ensures close { HasCloseRoom project.now close.new }
     ensures search { KeepsSize search.old search.new }
     ensures told_above { F.told above.new ≡ F.told above.old }
-    ensures told_below { F.told below.new ≡ F.told below.old }
+    ensures told_below { G.told below.new ≡ G.told below.old }
 {
     narrow_over();
     match try_period(
@@ -152,7 +162,14 @@ fn does<F: Finder>(
         facts,
         close,
     ) {
-        Ok(()) => Ok(search.is_narrow(standing.stocks.levels.as_slice(), settings.search.width)),
+        Ok(()) => Ok(is_narrow(
+            project,
+            standing,
+            nets,
+            search,
+            close,
+            settings.search.width,
+        )),
         Err(Fault::Lack(lack)) => lack_fits(standing.number, settings.search.rounds, lack),
         Err(Fault::Open(_)) => Ok(false),
     }
@@ -161,13 +178,13 @@ fn does<F: Finder>(
 // Does a period that was started: finds vectors and ends the period by them. Where these leave a matter open, the
 // record isn't narrow on a network, or rounds toward one were spent, it does so again with the tight vectors. Fails with
 // the cause that stops the run there. The states of links at the start are made in the room of those at the end.
-fn do_started<F: Finder>(
+fn do_started<F: Finder, G: Finder>(
     project: &Project,
     settings: OpenSettings,
     standing: &Standing,
     nets: &SpreadNets,
     above: &mut F,
-    below: &mut F,
+    below: &mut G,
     search: &mut SpreadSearch,
     found: &mut OpenRow,
     facts: &mut Facts,
@@ -183,16 +200,19 @@ fn do_started<F: Finder>(
     requires started { IsStartedOver project.now nets.now.spread (standing_for standing.now) nets.now found.old
         facts.old }
     requires close { HasCloseRoom project.now close.old }
-    ensures done { OnOk result (IsDoneOver (record { above = F.told above.old; below = F.told below.old }) project.now
+    requires told { says_nothing nets.now.spread ≡ true → G.told below.old ≡ F.told above.old }
+    ensures done { OnOk result (IsDoneOver (record { above = F.told above.old; below = G.told below.old }) project.now
         settings standing.now nets.now found.new facts.new close.new) }
     ensures stops { IfErr result (StopsOver project.now nets.now.spread (standing_for standing.now) settings.slack
+        settings.search.rounds) }
+    ensures stuck { IfErr result (NamesStuckOver project.now nets.now.spread (known_for standing.now)
         settings.search.rounds) }
     ensures search { KeepsSize search.old search.new }
     ensures header { open_header_of found.new ≡ open_header_of found.old }
     ensures facts { HasRoom project.now facts.new }
     ensures close { HasCloseRoom project.now close.new }
     ensures told_above { F.told above.new ≡ F.told above.old }
-    ensures told_below { F.told below.new ≡ F.told below.old }
+    ensures told_below { G.told below.new ≡ G.told below.old }
 {
     if settings.search.tight {
         return tighten(
@@ -233,13 +253,13 @@ fn do_started<F: Finder>(
 /// Does the period of a run for a spread that begins at a standing: sets the nets of both sides, finds vectors by a
 /// finder a side, the tight ones where others don't do or these are asked for, and ends the period by them. Fails with
 /// the cause that stops the run there.
-pub fn do_period<F: Finder>(
+pub fn do_period<F: Finder, G: Finder>(
     project: &Project,
     settings: OpenSettings,
     standing: &Standing,
     nets: &mut SpreadNets,
     above: &mut F,
-    below: &mut F,
+    below: &mut G,
     search: &mut SpreadSearch,
     found: &mut OpenRow,
     facts: &mut Facts,
@@ -254,9 +274,12 @@ pub fn do_period<F: Finder>(
     requires header { open_header_of found.old ≡ header_for project.now }
     requires facts { HasRoom project.now facts.old }
     requires close { HasCloseRoom project.now close.old }
-    ensures done { OnOk result (IsDoneOver (record { above = F.told above.old; below = F.told below.old }) project.now
+    requires told { says_nothing nets.old.spread ≡ true → G.told below.old ≡ F.told above.old }
+    ensures done { OnOk result (IsDoneOver (record { above = F.told above.old; below = G.told below.old }) project.now
         settings standing.now nets.new found.new facts.new close.new) }
     ensures stops { IfErr result (StopsOver project.now nets.old.spread (standing_for standing.now) settings.slack
+        settings.search.rounds) }
+    ensures stuck { IfErr result (NamesStuckOver project.now nets.old.spread (known_for standing.now)
         settings.search.rounds) }
     ensures of { AreNetsOf project.now nets.new }
     ensures spread { nets.new.spread ≡ nets.old.spread }
@@ -265,7 +288,7 @@ pub fn do_period<F: Finder>(
     ensures facts { HasRoom project.now facts.new }
     ensures close { HasCloseRoom project.now close.new }
     ensures told_above { F.told above.new ≡ F.told above.old }
-    ensures told_below { F.told below.new ≡ F.told below.old }
+    ensures told_below { G.told below.new ≡ G.told below.old }
 {
     start_period(project, standing, nets, found, facts, &mut close.commanded)?;
     do_started(

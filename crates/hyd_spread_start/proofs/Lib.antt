@@ -2,3 +2,4 @@ pub mod KnownStocksOfRows
 pub mod StandingsWithin
 pub mod OpenTanksOfCode
 pub mod DemandsOver
+pub mod StartsAlone

@@ -1,1 +1,2 @@
 pub mod StartsOver
+pub mod StartsOfRuns

@@ -15,5 +15,5 @@ mod stop_causes;
 
 pub use period_start::start_period;
 pub use run_at_start::{begin_run, first_standing, standing_within};
-pub use start_of_text::{SpreadStart, read_start};
+pub use start_of_text::{SpreadStart, read_start, start_without_spread};
 pub use stop_causes::demand_stop;

@@ -8,6 +8,7 @@ ghost use Rattle.hyd_spec_spread_stops.specs.StopsOfSpreads.{StopsOver};
 ghost use Rattle.hyd_open_certificates.specs.OpenRowView.{open_header_of};
 ghost use Rattle.hyd_period_facts.specs.ReservedMemory.{HasRoom};
 ghost use Rattle.hyd_open_sim_start.specs.StandingsOfOpenRuns.{IsStanding, standing_for};
+ghost use Rattle.hyd_sim.specs.NarrowRecordsAndStops.{SaysNone};
 ghost use Rattle.hyd_spread_networks.specs.NetsOfSpreads.{AreNetsOf};
 ghost use Rattle.hyd_spread_start.specs.StartsOver.{IsStartedOver};
 
@@ -40,6 +41,7 @@ pub fn start_period(
     ensures in_range { AreDemandsInRange project.now nets.old.spread standing.now.time → IsOk result }
     ensures stops { (slack rounds : ℕ)
         → IfErr result (StopsOver project.now nets.old.spread (standing_for standing.now) slack rounds) }
+    ensures no_vector { IfErr result (λ cause. SaysNone cause → ⊥) }
     ensures of { AreNetsOf project.now nets.new }
     ensures spread { nets.new.spread ≡ nets.old.spread }
     ensures header { open_header_of found.new ≡ open_header_of found.old }

@@ -3,15 +3,15 @@
 
 ghost use Rattle.std.specs.Prelude.{◌≡◌, IfOk, IfErr};
 ghost use Rattle.hyd_net.specs.Sound.{IsSound};
+ghost use Rattle.hyd_spec_spread.specs.Spreads.{no_spread};
 ghost use Rattle.hyd_spec_spread_rows.specs.TextsOfSpreads.{spread_in};
 ghost use Rattle.hyd_spec_spread_starts.specs.StartsOfSpreads.{IsFaultForRun, CanBegin};
-ghost use Rattle.hyd_spec_open_spreads.specs.OpenRunsForSpreads.{open_standing_within};
-ghost use Rattle.hyd_open_sim_start.specs.StandingsOfOpenRuns.{IsStanding, standing_for};
-ghost use Rattle.hyd_spread_rows.specs.SpreadsRead.{IfFault, AreInRange, spread_of};
+ghost use Rattle.hyd_spread_rows.specs.SpreadsRead.{IfFault, spread_of};
+ghost use Rattle.hyd_spread_start.specs.StartsOfRuns.{BeginsRun};
 
 use crate::run_at_start::first_standing;
-use hyd_net::Project;
-use hyd_open_sim_start::Standing;
+use hyd_net::{OutOfMemory, Project};
+use hyd_open_sim_start::{Standing, first_standing as first_alone};
 use hyd_spread_rows::{SpreadRefused, SpreadRows, read_spread};
 use std::alloc::Global;
 
@@ -34,12 +34,25 @@ pub fn read_start(
     ensures fault { IfErr result (λ refused. IfFault refused (λ f. IsFaultForRun project.now text.now f.line f.cause)) }
     ensures begins { IfOk result (λ _. CanBegin project.now text.now) }
     ensures spread { IfOk result (λ start. spread_of start.rows ≡ spread_in project.now text.now) }
-    ensures range { IfOk result (λ start. AreInRange start.rows) }
-    ensures initial { IfOk result (λ start. standing_for start.standing
-        ≡ open_standing_within project.now (spread_in project.now text.now)) }
-    ensures standing { IfOk result (λ start. IsStanding project.now start.standing) }
+    ensures run { IfOk result (BeginsRun project.now) }
 {
     let rows = read_spread(alloc, project, text)?;
     let standing = first_standing(alloc, project, &rows, text)?;
+    Ok(SpreadStart { rows, standing })
+}
+
+/// What a run without a spread begins with.
+pub fn start_without_spread(alloc: Global, project: &Project) -> Result<SpreadStart, OutOfMemory>
+    requires { IsSound project.now }
+    ensures spread { IfOk result (λ start. spread_of start.rows ≡ no_spread) }
+    ensures run { IfOk result (BeginsRun project.now) }
+{
+    let standing = first_alone(alloc, project)?;
+    let rows = SpreadRows {
+        demands: Vec::new(alloc),
+        emitters: Vec::new(alloc),
+        heads: Vec::new(alloc),
+        levels: Vec::new(alloc),
+    };
     Ok(SpreadStart { rows, standing })
 }

@@ -5,7 +5,7 @@ use Rattle.hyd_spec.specs.NodeNumbers.{junction_count, tank_count}
 use Rattle.hyd_spec_certificates.specs.declared.Problem.{Problem}
 use Rattle.hyd_spec_certificates.specs.declared.Side.{Side}
 use Rattle.hyd_spec_certificates.specs.PeriodNetwork.{Grid}
-use Rattle.hyd_spec_certificates.specs.RecordAndStanding.{vector_of}
+use Rattle.hyd_spec_certificates.specs.RecordAndStanding.{Standing, vector_of}
 use Rattle.hyd_spec_open_ends.specs.OpenStandings.{OpenStanding}
 use Rattle.hyd_spec_spread.specs.Spreads.{Spread}
 use Rattle.hyd_spec_spread.specs.IntervalsOfData.{KnownJunction, known_junction, known_junctions}
@@ -15,7 +15,7 @@ use Rattle.hyd_spec_spread_runs.specs.RunsForSpreads.{AreDemandsInRange, ArePair
 use Rattle.hyd_spec_spread_stops.specs.StopsOfSpreads.{HasEarlierOver, HasNoCertificateOver, SpendsRoundsOver, StopsOver}
 use Rattle.hyd_lemmas.proofs.ListsOptionsAndResults.{as_long}
 use Rattle.hyd_theorems_on_spread.proofs.ZippedLists.{zip-long}
-use Rattle.hyd_period_vectors.specs.SoughtVectors.{Lacks, HasNone, AreSpent}
+use Rattle.hyd_period_vectors.specs.SoughtVectors.{Lacks, HasNone, AreSpent, IsStuck}
 use Rattle.hyd_period_vectors.specs.declared.missing_vector.Lack.{Lack}
 use Rattle.hyd_period_vectors.specs.declared.missing_vector.Lack.TheVariants.{NoCertificate as LacksCertificate}
 use Rattle.hyd_period_vectors.specs.declared.missing_vector.Lack.TheVariants.{RoundsSpent as SpentRounds}
@@ -25,6 +25,7 @@ use Rattle.hyd_sim.proofs.MissingVectors.{lacks-one}
 use Rattle.hyd_sim.proofs.StopsAndTightRecords.{problem-of, problem-in}
 use Rattle.hyd_spread_vectors.specs.VectorsOfBothNetworks.{Told, Held, LacksFirstOver, told_on, held_on}
 use Rattle.hyd_spread_vectors.specs.declared.lack_on_network.SpreadLack.{SpreadLack}
+use Rattle.hyd_spread_stops.specs.StuckOverSpreads.{NamesStuckOver}
 
 module _ (project : Project) (spread : Spread) (standing : OpenStanding) (slack rounds : ℕ) (tight : Bool) (told : Told)
     (pair : Pair) (held : Held) (lack : SpreadLack) (in_range : AreDemandsInRange project spread standing.known.time)
@@ -98,3 +99,33 @@ module _ (project : Project) (spread : Spread) (standing : OpenStanding) (slack 
   pub lack-stops-over : StopsOver project spread standing slack rounds
       (stop_of standing.known.number rounds lack.lack)
   lack-stops-over = by-lack one lack.lack one.lacks
+
+-- where no vector is a certificate, it names a junction that is stuck
+pub lack-stuck-over : (project : Project) (spread : Spread) (standing : Standing) (rounds : ℕ) (tight : Bool)
+    (told : Told) (pair : Pair) (held : Held) (lack : SpreadLack) → ArePairAt project spread standing pair
+    → LacksFirstOver tight told pair (tank_count project) rounds held lack → (number : ℕ)
+    → NamesStuckOver project spread standing rounds (stop_of number rounds lack.lack)
+lack-stuck-over project spread standing rounds tight told pair held lack are first number =
+    by one.problem one.side lack.lack one.lacks
+  where
+    one : LacksOne (grid_on lack.network pair) (tank_count project) rounds lack.lack
+    one = lacks-one tight (told_on lack.network told) (grid_on lack.network pair) (tank_count project) rounds
+        (held_on lack.network held) lack.lack first.lacks
+
+    by : (problem : Problem) (side : Side) (l : Lack) → Lacks (grid_on lack.network pair) problem side rounds l
+        → NamesStuckOver project spread standing rounds (stop_of number rounds l)
+    by problem side (LacksCertificate other face junction) (p, (s, (less, (lacking, stuck)))) = record {
+      stuck = λ period q t j e.
+          let a : problem ≡ q = cc in
+          let b : side ≡ t = cc in
+          let d : junction ≡ j = cc in
+          record {
+            pair = pair;
+            are_pair = are;
+            network = lack.network;
+            stuck = subst (λ (k : ℕ). IsStuck (grid_on lack.network pair) q t rounds k) d
+                (subst (λ (f : Side). IsStuck (grid_on lack.network pair) q f rounds junction) b
+                (subst (λ (r : Problem). IsStuck (grid_on lack.network pair) r side rounds junction) a stuck));
+          };
+    }
+    by problem side (SpentRounds other face) (p, (s, over)) = record { stuck = λ period q t j e. absurd (cc) }

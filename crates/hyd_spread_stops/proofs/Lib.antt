@@ -1,1 +1,2 @@
 pub mod LackingOver
+pub mod StuckAlone

@@ -2,5 +2,7 @@
 #![tactic(auto)]
 
 mod stops;
+mod without_spread;
 
 pub use stops::{lack_fits, lack_stop};
+pub use without_spread::stuck_without_spread;

@@ -8,7 +8,8 @@ use Rattle.hyd_spec_certificates.specs.RecordAndStanding.{Record}
 use Rattle.hyd_spec_spread_runs.specs.OutermostPairs.{Pair}
 use Rattle.hyd_period_vectors.specs.SoughtVectors.{OfEach}
 use Rattle.hyd_period_vectors.proofs.SoughtVectors.{sought-certificate}
-use Rattle.hyd_spread_vectors.specs.NarrowForSpreads.{AreClose, HoldsClose, IsNarrowOver}
+use Rattle.hyd_spec_spread_promises.specs.SharpOverSpreads.{AreClose, IsNarrowOver}
+use Rattle.hyd_spread_vectors.specs.NarrowForSpreads.{HoldsClose}
 use Rattle.hyd_spread_vectors.specs.VectorsOfBothNetworks.{Told, Held, held_on, AreFoundOn, IsHeldIn}
 
 -- the same vectors, and the same width

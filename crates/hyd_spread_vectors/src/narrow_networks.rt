@@ -4,7 +4,8 @@
 ghost use Rattle.std.specs.Prelude.{◌≡◌, map, true, false};
 ghost use Rattle.hyd_spec_certificates.specs.SpansAsIntervals.{levels_of};
 ghost use Rattle.hyd_cert.specs.RecordView.{row_of};
-ghost use Rattle.hyd_spread_vectors.specs.NarrowForSpreads.{AreClose, HoldsClose};
+ghost use Rattle.hyd_spec_spread_promises.specs.SharpOverSpreads.{AreClose};
+ghost use Rattle.hyd_spread_vectors.specs.NarrowForSpreads.{HoldsClose};
 
 use crate::spread_search::SpreadSearch;
 use hyd_cert::Record;

@@ -12,12 +12,13 @@ ghost use Rattle.hyd_spec_certificates.specs.RecordAndStanding.{Record as Vector
 ghost use Rattle.hyd_spec_certificates.specs.Valid.{IsProblem};
 ghost use Rattle.hyd_spec_spread_runs.specs.OutermostPairs.{Pair, grid_on};
 ghost use Rattle.hyd_spec_spread_runs.specs.RunsForSpreads.{AreCertificatesOver};
+ghost use Rattle.hyd_spec_spread_promises.specs.SharpOverSpreads.{IsNarrowOver};
 ghost use Rattle.hyd_cert.specs.RecordView.{row_of};
 ghost use Rattle.hyd_cert.specs.declared.record.Record.{Record};
 ghost use Rattle.hyd_period_vectors.specs.SoughtVectors.{OfEach};
 ghost use Rattle.hyd_spread_vectors.specs.VectorsOfBothNetworks.{Told, Held, held_on, AreFoundOn};
 ghost use Rattle.hyd_spread_vectors.specs.VectorsOfBothNetworks.{IsHeldIn, IsSoughtOver};
-ghost use Rattle.hyd_spread_vectors.specs.NarrowForSpreads.{HoldsClose, IsNarrowOver};
+ghost use Rattle.hyd_spread_vectors.specs.NarrowForSpreads.{HoldsClose};
 
 /// A record with found vectors, each on the network of its side, has certificates for a spread of which these are the
 /// outermost networks.

@@ -126,13 +126,13 @@ module _ (project : Project) (grid : Grid) (standing : OpenStanding) (found : Op
       (subst (λ ls. position (is_open_control ls) project.controls.list ≡ Some number)
       (sym (levels-same levels next left on)) is)
 
-  closed : (next : OpenStanding) → LeadsOnOpenly project grid standing found next
+  pub closed : (next : OpenStanding) → LeadsOnOpenly project grid standing found next
       → LeavesMatterOpen project grid standing found → ⊥
   closed next (continues on) left_open = continues-closed next on left_open
   closed next (finishes on) left_open = open-not-last left_open on.is_last
 
   -- and its lengths are the decided ones
-  same-lengths : (next : OpenStanding) → LeadsOnOpenly project grid standing found next
+  pub same-lengths : (next : OpenStanding) → LeadsOnOpenly project grid standing found next
       → HasOtherLengths project grid standing found → ⊥
   same-lengths next (continues on) (at_end last other) = on.not_last last
   same-lengths next (continues on) (before_end way ends other) =

@@ -1,5 +1,5 @@
 -- Every line of the reports of a run whose ends may be open holds of every history that keeps what it reaches.
-use Rattle.std.proofs.Common.{◌≡◌, ◌≢◌, ℕ, ◌+◌, ◌<◌, ℤ, refl, sym, ap, subst, ◌∙◌, arith, List}
+use Rattle.std.proofs.Common.{◌≡◌, ℕ, ◌+◌, ◌<◌, ℤ, refl, sym, subst, arith, List}
 use Rattle.std.proofs.Common.{[], ◌∷◌, inl, inr, length}
 use Rattle.std.specs.Prelude.{⊤}
 use Rattle.std.specs.List.{AllByRecursion}
@@ -14,8 +14,6 @@ use Rattle.hyd_spec_reports.specs.PromisesOfRunsAndChecks.{accepted_line}
 use Rattle.hyd_spec_open_ends.specs.InstantsOfClock.{duration as is_duration}
 use Rattle.hyd_spec_open_ends.specs.KeptLevels.{GoesOnKeeping, KeepsWhatItReaches}
 use Rattle.hyd_spec_open_ends.specs.OpenStandings.{OpenStanding, initial_open_standing}
-use Rattle.hyd_spec_open_ends.specs.OpenEnds.{Way, EndsIn, by_rules, by_instant, by_watched, shortest_length}
-use Rattle.hyd_spec_open_ends.specs.OpenEnds.{longest_length}
 use Rattle.hyd_spec_open_ends.specs.OpenRecords.{IsValidOpenly, LeadsOnOpenly, continues, finishes}
 use Rattle.hyd_spec_open_ends.specs.OpenRuns.{OpenFound, IsOpenRunFrom, IsOpenRun, more as one_more}
 use Rattle.hyd_spec_open_ends.specs.OpenCertificateText.{IsOpenCertificateText}
@@ -28,9 +26,9 @@ use Rattle.hyd_spec_open_reports.specs.PromisesOfOpenReports.{AllLinesHold, Ever
 use Rattle.hyd_spec_open_reports.specs.PromisesOfOpenReports.{CheckTellsOpenly}
 use Rattle.hyd_theorems_on_open_ends.specs.AgreementOverStarts.{AgreesFrom, IsUnderOpenly, IsKeptOpenly}
 use Rattle.hyd_theorems_on_open_ends.proofs.AgreementOverEnds.{agrees_from_start, is_under_openly, agrees_on}
-use Rattle.hyd_theorems_on_open_ends.proofs.OneOpenEnd.{one_way}
 use Rattle.hyd_theorems_on_open_standings.specs.FirmStandings.{IsFirm}
 use Rattle.hyd_theorems_on_open_standings.proofs.StandingsAreFirm.{firm_at_start, firm_next, kept_openly}
+use Rattle.hyd_theorems_on_open_reports.proofs.StartAndEndLinesHold.{way_lengths}
 use Rattle.hyd_theorems_on_open_reports.proofs.OpenLinesHold.{lines_hold}
 
 -- the periods of a history from one on, each of which keeps what was reached before it
@@ -74,28 +72,13 @@ module _ (project : Project) (sound : IsSound project) (S : ℕ) (some : 0 < S) 
     under = is_under_openly project sound S some each.here.grid each.here.standing each.here.found each.here.next kept
         valid time levels volumes commanded agrees period begins is
 
-    not-last : (way : Way) → EndsIn project each.here.grid each.here.standing each.here.found.row way
-        → each.here.standing.known.time ≢ project.times.duration
-    not-last _ (by_rules seconds first after in_time closed) = seconds.not_last
-    not-last _ (by_instant seconds same none) = seconds.not_last
-    not-last _ (by_watched seconds before none) = seconds.not_last
-
-    lengths : LeadsOnOpenly project each.here.grid each.here.standing each.here.found each.here.next → (way : Way)
-        → EndsIn project each.here.grid each.here.standing each.here.found.row way
-        → (each.here.found.shortest ≡ shortest_length each.here.standing.late way)
-        × (each.here.found.row.length ≡ longest_length way)
-    lengths (continues c) way ends =
-        let same = one_way project each.here.grid each.here.standing each.here.found.row c.way way c.ends ends in (
-          c.shortest ∙ ap (shortest_length each.here.standing.late) same,
-          c.longest ∙ ap longest_length same,
-        )
-    lengths (finishes f) way ends = absurd (not-last way ends f.is_last)
-
     its-lines : IsOpenReport project each.here.grid each.here.standing each.here.found each.lines
         → AllByRecursion (OpenLineHolds project S commanded period) each.lines
     its-lines report =
         lines_hold project sound S commanded period each.here.grid each.here.standing each.here.found firm under
-        is.lasts agrees.commanded_are (lengths valid.leads_on) each.lines report
+        is.lasts agrees.commanded_are
+        (way_lengths project each.here.grid each.here.standing each.here.found each.here.next valid.leads_on) each.lines
+        report
 
     -- a period at the end of the run begins there in each history
     at-the-end : each.here.standing.known.time ≡ project.times.duration → period.time ≡ project.times.duration

@@ -1,5 +1,6 @@
 mod KnownLines
 mod QuietChanges
+pub mod StartAndEndLinesHold
 mod OpenLinesHold
 pub mod EveryLineHolds
 pub mod OneOpenReport

@@ -30,7 +30,8 @@ use Rattle.hyd_theorems_on_open_stops.proofs.ArrivalsDecided.{one_reached}
 
 -- ---- printed numbers
 
-one_print : (quantity : ℤ → Rational) (ticks a b : Interval) → Prints quantity ticks a → Prints quantity ticks b → a ≡ b
+pub one_print : (quantity : ℤ → Rational) (ticks a b : Interval) → Prints quantity ticks a → Prints quantity ticks b
+    → a ≡ b
 one_print quantity ticks a b x y =
     let lo = one_floor _ _ a.lo b.lo x.down y.down in
     let hi = one_ceiling _ _ a.hi b.hi x.up y.up in
@@ -38,7 +39,7 @@ one_print quantity ticks a b x y =
 
 -- ---- lines
 
-one_each : (X : Type 0) (P : ℕ → X → ReportLine → Type 0) (k : ℕ) (xs : List X) (ls ms : List ReportLine)
+pub one_each : (X : Type 0) (P : ℕ → X → ReportLine → Type 0) (k : ℕ) (xs : List X) (ls ms : List ReportLine)
     → ((j : ℕ) (x : X) (l m : ReportLine) → P j x l → P j x m → l ≡ m) → LineEach P k xs ls → LineEach P k xs ms
     → ls ≡ ms
 one_each X P k [] [] [] one a b = refl
@@ -75,7 +76,7 @@ module _ (project : Project) (grid : Grid) (standing : Standing) (row : Record) 
       x.is_line ∙ (ap (ReservoirLine r) (one_print (head_quantity (is_us project)) _ x.head y.head x.head_is
       y.head_is) ∙ sym y.is_line)
 
-  one_tank : (k : ℕ) (tank : Tank) (l m : ReportLine) → IsTankLine project grid standing row k tank l
+  pub one_tank : (k : ℕ) (tank : Tank) (l m : ReportLine) → IsTankLine project grid standing row k tank l
       → IsTankLine project grid standing row k tank m → l ≡ m
   one_tank k tank l m x y =
       let head = one_print (head_quantity (is_us project)) _ x.head y.head x.head_is y.head_is in
@@ -86,7 +87,7 @@ module _ (project : Project) (grid : Grid) (standing : Standing) (row : Record) 
       λ i. TankLine k (head i) (level i) (inflow i) (state i) in
       x.is_line ∙ (same ∙ sym y.is_line)
 
-  one_link : (k : ℕ) (link : Link) (l m : ReportLine) → IsLinkLine project grid standing row k link l
+  pub one_link : (k : ℕ) (link : Link) (l m : ReportLine) → IsLinkLine project grid standing row k link l
       → IsLinkLine project grid standing row k link m → l ≡ m
   one_link k link l m x y =
       let place : x.place ≡ y.place = (let p = x.place_is in let q = y.place_is in cc) in
@@ -130,7 +131,7 @@ module _ (project : Project) (grid : Grid) (standing : OpenStanding) (found : Op
       ++ map (λ change. line_at_end standing way (λ time. change_line time change))
       (changes_left project grid standing found.row way)
 
-  one-end-lines : (ls ms : List OpenLine) → AreOpenEndLines project grid standing found ls
+  pub one-end-lines : (ls ms : List OpenLine) → AreOpenEndLines project grid standing found ls
       → AreOpenEndLines project grid standing found ms → ls ≡ ms
   one-end-lines _ _ (at_last e) (at_last f) = refl
   one-end-lines _ _ (at_last e) (at_end way reached ends arrives) = absurd (not-last way ends e)

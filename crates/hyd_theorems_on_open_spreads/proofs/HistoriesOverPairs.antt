@@ -33,7 +33,7 @@ use Rattle.hyd_theorems_on_open_spreads.proofs.AgreementOverPairs.{is_bounded_op
 use Rattle.hyd_theorems_on_open_spreads.proofs.AgreementOverPairs.{lasts_from, lasts_to, agrees_on}
 
 -- the periods of a history from one on, each of which keeps what was reached before it
-abbrev StartsAt : Project → Spread → ℕ → ℕ → List ℤ → List ℤ → List LinkState → List Period → Type 0
+abbrev pub StartsAt : Project → Spread → ℕ → ℕ → List ℤ → List ℤ → List LinkState → List Period → Type 0
 StartsAt project spread S time levels volumes commanded [] = ⊤
 StartsAt project spread S time levels volumes commanded (period ∷ rest) =
     Begins project S time levels volumes commanded period
@@ -55,13 +55,13 @@ module _ (project : Project) (sound : IsSound project) (spread : Spread) (S : �
     abbrev own : Standing
     own = begun_at here.standing.known period.time
 
-    bounded : IsBoundedOpenly project nodes S period (spanned here.pair) here.standing
+    pub bounded : IsBoundedOpenly project nodes S period (spanned here.pair) here.standing
         (spanning here.pair here.found.row)
     bounded = is_bounded_openly project sound spread S some here.pair here.standing here.found here.next kept valid time
         levels volumes commanded agrees period begins nodes is
 
     -- a period at the end of the run begins there in each history
-    at-the-end : here.standing.known.time ≡ project.times.duration → period.time ≡ project.times.duration
+    pub at-the-end : here.standing.known.time ≡ project.times.duration → period.time ≡ project.times.duration
     at-the-end last = elim kept.quiet [
       | inl exact ↦ (let a = bounded.after in let b = bounded.by in omega (arith, exact, a, b, last))
       | inr quiet ↦ absurd (quiet.1 here.standing.known.time (omega arith) (omega arith) (is_duration last))

@@ -1,9 +1,9 @@
-mod QuietStartsWithin
-mod RulesOverPairs
-mod LengthsOverPairs
-mod WatchesWithin
-mod LevelsThatArriveWithin
-mod AgreementOverPairs
+pub mod QuietStartsWithin
+pub mod RulesOverPairs
+pub mod LengthsOverPairs
+pub mod WatchesWithin
+pub mod LevelsThatArriveWithin
+pub mod AgreementOverPairs
 pub mod HistoriesOverPairs
 pub mod SameBoxesOpenly
 pub mod OpenRunsAlone

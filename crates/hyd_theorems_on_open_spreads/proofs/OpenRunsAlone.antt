@@ -41,7 +41,7 @@ open-standing-alone project = λ i. record { known = standing-alone project i; l
 
 -- ---- demands
 
-ranges-to : (project : Project) (time from : ℕ) (js : List Junction)
+pub ranges-to : (project : Project) (time from : ℕ) (js : List Junction)
     → AllByRecursion IsDemandInRange (map_from (known_junction project no_spread time) from js)
     → AllByRecursion (λ (j : Junction). unsigned_abs (demand_of project time j) ≤ demand_limit) js
 ranges-to project time from [] all = tt
@@ -50,7 +50,7 @@ ranges-to project time from (j ∷ js) all = (
   ranges-to project time (suc from) js all.1,
 )
 
-ranges-from : (project : Project) (time from : ℕ) (js : List Junction)
+pub ranges-from : (project : Project) (time from : ℕ) (js : List Junction)
     → AllByRecursion (λ (j : Junction). unsigned_abs (demand_of project time j) ≤ demand_limit) js
     → AllByRecursion IsDemandInRange (map_from (known_junction project no_spread time) from js)
 ranges-from project time from [] all = tt

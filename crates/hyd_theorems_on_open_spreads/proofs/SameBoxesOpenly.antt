@@ -43,7 +43,7 @@ module _ (project : Project) (standing : OpenStanding) (g h : Grid) (r q : Recor
     carried-same shortest longest = λ i. map_from (λ k (tank : Tank). carried_levels_over (walls_of project tank) tank
         (stocks_of_tank standing.known k) (inflow-same k i) shortest longest) 0 project.tanks.list
 
-    below-same : (shortest longest : ℕ) → readings_below_over project g standing.known r shortest longest
+    pub below-same : (shortest longest : ℕ) → readings_below_over project g standing.known r shortest longest
         ≡ readings_below_over project h standing.known q shortest longest
     below-same shortest longest = λ i. record {
       heads = same.below i;
@@ -52,7 +52,7 @@ module _ (project : Project) (standing : OpenStanding) (g h : Grid) (r q : Recor
       links = links_at project standing.known;
     }
 
-    above-same : (shortest longest : ℕ) → readings_above_over project g standing.known r shortest longest
+    pub above-same : (shortest longest : ℕ) → readings_above_over project g standing.known r shortest longest
         ≡ readings_above_over project h standing.known q shortest longest
     above-same shortest longest = λ i. record {
       heads = same.above i;
@@ -67,7 +67,7 @@ module _ (project : Project) (standing : OpenStanding) (g h : Grid) (r q : Recor
         (below-same (seconds - standing.late) seconds i) (above-same (seconds - standing.late) seconds i))
         project.rules.list
 
-    changes-same : (seconds : ℕ)
+    pub changes-same : (seconds : ℕ)
         → open_changes project g standing r seconds ≡ open_changes project h standing q seconds
     changes-same seconds =
         λ i. rule_changes project (map is_yes (truths-same seconds i)) (links_at project standing.known)
@@ -107,14 +107,14 @@ module _ (project : Project) (standing : OpenStanding) (g h : Grid) (r q : Recor
     abbrev back : SameBoxes project h g q r
     back = turned project g h r q same
 
-    first-matter : (seconds : ℕ) → IsLeast (RulesMatterOver project g standing r) seconds
+    pub first-matter : (seconds : ℕ) → IsLeast (RulesMatterOver project g standing r) seconds
         → IsLeast (RulesMatterOver project h standing q) seconds
     first-matter seconds first = record {
       holds = matter project standing g h r q same seconds first.holds;
       least = λ k matters. first.least k (matter project standing h g q r back k matters);
     }
 
-    none-matters : (last : ℕ) → NoRuleMattersUpTo project g standing r last
+    pub none-matters : (last : ℕ) → NoRuleMattersUpTo project g standing r last
         → NoRuleMattersUpTo project h standing q last
     none-matters last none seconds matters = none seconds (matter project standing h g q r back seconds matters)
 
@@ -141,7 +141,7 @@ module _ (project : Project) (standing : OpenStanding) (g h : Grid) (r q : Recor
         from s (inr (inr some)) =
             inr (inr (some.0, some-reaches project standing.known h g q r back test s some.1))
 
-    seconds-same : (cap earliest latest : ℕ) → AreSeconds project g standing.known r cap earliest latest
+    pub seconds-same : (cap earliest latest : ℕ) → AreSeconds project g standing.known r cap earliest latest
         → AreSeconds project h standing.known q cap earliest latest
     seconds-same cap earliest latest seconds = record {
       not_last = seconds.not_last;
@@ -151,7 +151,7 @@ module _ (project : Project) (standing : OpenStanding) (g h : Grid) (r q : Recor
       in_order = seconds.in_order;
     }
 
-    way-same : (way : Way) → EndsIn project g standing r way → EndsIn project h standing q way
+    pub way-same : (way : Way) → EndsIn project g standing r way → EndsIn project h standing q way
     way-same _ (in_by_rules {cap = cap} {earliest = earliest} {latest = latest} {seconds = i} seconds first after in_time
         none_open) =
         in_by_rules (seconds-same cap earliest latest seconds) (first-matter i first) after in_time
@@ -180,7 +180,7 @@ module _ (project : Project) (standing : OpenStanding) (g h : Grid) (r q : Recor
 
 module _ (project : Project) (standing : OpenStanding) (g h : Grid) (r q : Record) (same : SameBoxes project g h r q)
   where
-    arrives-same : (way : Way) (reached : Option Watch) → Arrives project g standing.known r way reached
+    pub arrives-same : (way : Way) (reached : Option Watch) → Arrives project g standing.known r way reached
         → Arrives project h standing.known q way reached
     arrives-same _ _ none_by_rules = none_by_rules
     arrives-same _ _ none_by_instant = none_by_instant
@@ -201,7 +201,7 @@ module _ (project : Project) (standing : OpenStanding) (g h : Grid) (r q : Recor
       abbrev with-row : Record → OpenRecord
       with-row row = record { row = row; late = late; shortest = shortest }
 
-      levels-same : (reached : Option Watch) → levels_left project g standing.known (with-row r) reached
+      pub levels-same : (reached : Option Watch) → levels_left project g standing.known (with-row r) reached
           ≡ levels_left project h standing.known (with-row q) reached
       levels-same reached = λ i. map_from (λ k (tank : Tank). kept project.controls.list k
           (carried_at_end (walls_of project tank) tank (stocks_of_tank standing.known k)

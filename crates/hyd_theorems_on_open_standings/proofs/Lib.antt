@@ -1,3 +1,4 @@
 pub mod StocksInOrder
 pub mod WhatEndsLeave
+pub mod StandingsByFlows
 pub mod StandingsAreFirm

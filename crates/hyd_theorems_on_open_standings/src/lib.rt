@@ -10,11 +10,12 @@ ghost use Rattle.hyd_spec_certificates.specs.Decided.{Watch};
 ghost use Rattle.hyd_spec_open_ends.specs.OpenStandings.{OpenStanding, OpenRecord, initial_open_standing};
 ghost use Rattle.hyd_spec_open_ends.specs.OpenEnds.{Way, EndsIn, shortest_length, longest_length};
 ghost use Rattle.hyd_spec_open_ends.specs.Arrivals.{Arrives};
-ghost use Rattle.hyd_spec_open_ends.specs.OpenRecords.{carried_left, level_left, stocks_left, IsValidOpenly};
+ghost use Rattle.hyd_spec_open_ends.specs.OpenRecords.{carried_left, level_left, stocks_left};
+ghost use Rattle.hyd_spec_open_ends.specs.OpenRecords.{IsValidOpenly, LeadsOnOpenly};
 ghost use Rattle.hyd_spec_open_ends.specs.OpenRuns.{OpenFound, IsOpenRun};
 ghost use Rattle.hyd_theorems_on_definitions.specs.LyingInIntervals.{IsInside};
 ghost use Rattle.hyd_theorems_on_nesting.specs.Nesting.{IsOrdered, AreNested};
-ghost use Rattle.hyd_theorems_on_open_standings.specs.FirmStandings.{IsFirm};
+ghost use Rattle.hyd_theorems_on_open_standings.specs.FirmStandings.{IsFirm, AreFlowsInOrder};
 
 // ---- what an end leaves
 
@@ -40,11 +41,16 @@ pub fn ends()
 {}
 
 /// The first standing of a run is firm, where a record is valid at one that is, so is the next, and so is every
-/// standing that a run leaves.
+/// standing that a run leaves. So is the one that a record leads on to on any grid, where what flows into each tank by
+/// it lies between two flows in order.
 pub fn standings()
     ensures start { (project : Project) → IsSound project → IsFirm project (initial_open_standing project) }
     ensures next { (project : Project) → IsSound project → (grid : Grid) (standing : OpenStanding) (found : OpenRecord)
         (next : OpenStanding) → IsFirm project standing → IsValidOpenly project standing grid found next
+        → IsFirm project next }
+    ensures leads { (project : Project) → IsSound project → (grid : Grid) (standing : OpenStanding)
+        (found : OpenRecord) (next : OpenStanding) → IsFirm project standing
+        → AreFlowsInOrder project grid found.row → LeadsOnOpenly project grid standing found next
         → IsFirm project next }
     ensures runs { (project : Project) → IsSound project → (slack : ℕ) (founds : List OpenFound) (last : OpenStanding)
         → IsOpenRun project slack founds last → IsFirm project last }

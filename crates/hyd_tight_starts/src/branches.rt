@@ -5,8 +5,8 @@
 
 ghost use Rattle.std.specs.Prelude.{◌≡◌, length};
 
-use crate::flows::{is_flat, nearer, over_with, part, turned};
-use crate::places::{add_at, number_at, put_at};
+use crate::flows::{is_flat, nearer, over_with, own_part, part, turned};
+use crate::places::{add_at, is_marked, mark, number_at, put_at};
 use hyd_period_network::{Net, Tie};
 use hyd_spec_certificates::Side;
 use hyd_vector_check::is_in_box;
@@ -31,10 +31,20 @@ pub(crate) struct Branches {
     on: Vec<u32>,
     /// How many ticks its head lies above that node's.
     rise: Vec<i64>,
-    /// What those that hang on each node add to what it passes by.
+    /// What those that hang on each node add to what it passes by, and its own outflow, where that is the same at every
+    /// head.
     load: Vec<i64>,
-    /// How many junctions hang.
-    hanging: u32,
+    /// From which junctions the same flows out, whatever their heads.
+    flat: Vec<bool>,
+    /// The junctions that step: all but a held one and those that hang.
+    stepping: Vec<u32>,
+    /// How many these are.
+    many: u32,
+    /// Which they are.
+    steps: Vec<bool>,
+    /// Which of them pass by more or less when all step: those from which not the same flows out at every head, and those
+    /// that a link ties to a node that doesn't step.
+    anchored: Vec<bool>,
 }
 
 // The number of a node at a place, where there is one.
@@ -102,7 +112,11 @@ impl Branches {
             on: Vec::with_capacity(alloc, junctions)?,
             rise: Vec::with_capacity(alloc, junctions)?,
             load: Vec::with_capacity(alloc, junctions)?,
-            hanging: 0,
+            flat: Vec::with_capacity(alloc, junctions)?,
+            stepping: Vec::with_capacity(alloc, junctions)?,
+            many: 0,
+            steps: Vec::with_capacity(alloc, junctions)?,
+            anchored: Vec::with_capacity(alloc, junctions)?,
         })
     }
 
@@ -113,7 +127,11 @@ impl Branches {
         self.order.resize(junctions, 0u32)?;
         self.on.resize(junctions, NO_NODE)?;
         self.rise.resize(junctions, 0i64)?;
-        self.load.resize(junctions, 0i64)
+        self.load.resize(junctions, 0i64)?;
+        self.flat.resize(junctions, true)?;
+        self.stepping.resize(junctions, 0u32)?;
+        self.steps.resize(junctions, false)?;
+        self.anchored.resize(junctions, false)
     }
 
     /// Whether a node hangs on another.
@@ -121,14 +139,35 @@ impl Branches {
         node_at(&self.on, node) != NO_NODE
     }
 
-    /// What those that hang on a junction add to what it passes by.
+    /// Whether the same flows out of a junction, whatever its head.
+    pub(crate) fn is_flat(&self, junction: u32) -> bool {
+        is_marked(&self.flat, junction)
+    }
+
+    /// What those that hang on a junction add to what it passes by, and its own outflow, where that is the same at every
+    /// head.
     pub(crate) fn load(&self, junction: u32) -> i64 {
         number_at(&self.load, junction)
     }
 
-    /// How many junctions hang.
-    pub(crate) fn hanging(&self) -> u32 {
-        self.hanging
+    /// How many junctions step.
+    pub(crate) fn many(&self) -> u32 {
+        self.many
+    }
+
+    /// The junction at a place of those that step.
+    pub(crate) fn stepping(&self, place: u32) -> u32 {
+        node_at(&self.stepping, place)
+    }
+
+    /// Whether a node steps.
+    pub(crate) fn steps(&self, node: u32) -> bool {
+        is_marked(&self.steps, node)
+    }
+
+    /// Whether one that steps passes by more or less when all step.
+    pub(crate) fn is_anchored(&self, junction: u32) -> bool {
+        is_marked(&self.anchored, junction)
     }
 
     /// The junction at a place of those that hang, from the rest outward, and of others that were tried.
@@ -144,10 +183,10 @@ impl Branches {
     }
 
     // Puts a junction among those to try, where one end of a link alone ties it to the rest.
-    fn put_if_loose(&mut self, net: &Net, held: u32, junction: u32) {
+    fn put_if_loose(&mut self, held: u32, junction: u32) {
         let is_loose = node_at(&self.ends, junction) == 1
             && junction != held
-            && is_flat(net, junction);
+            && self.is_flat(junction);
         if is_loose {
             put_node(&mut self.order, self.count, junction);
             self.count = self.count.saturating_add(1);
@@ -155,14 +194,20 @@ impl Branches {
     }
 
     // Begins with no junction that hangs.
-    fn begin(&mut self, net: &Net, held: u32) {
+    fn begin(&mut self, net: &Net, side: Side, held: u32, heads: &[i64]) {
         self.count = 0;
-        self.hanging = 0;
         for junction in 0..net.junctions() {
+            let is_flat = is_flat(net, junction);
+            mark(&mut self.flat, junction, is_flat);
+            let own = if is_flat {
+                own_part(net, side, junction, number_at(heads, junction))
+            } else {
+                0
+            };
+            put_at(&mut self.load, junction, own);
             put_node(&mut self.on, junction, NO_NODE);
-            put_at(&mut self.load, junction, 0);
             put_node(&mut self.ends, junction, net.row(junction).len() as u32);
-            self.put_if_loose(net, held, junction);
+            self.put_if_loose(held, junction);
         }
     }
 
@@ -180,12 +225,11 @@ impl Branches {
     }
 
     // Hangs a junction on a node, which may be loose then.
-    fn tie_to(&mut self, net: &Net, held: u32, junction: u32, node: u32) {
+    fn tie_to(&mut self, held: u32, junction: u32, node: u32) {
         put_node(&mut self.on, junction, node);
-        self.hanging = self.hanging.saturating_add(1);
         let ends = node_at(&self.ends, node).saturating_sub(1);
         put_node(&mut self.ends, node, ends);
-        self.put_if_loose(net, held, node);
+        self.put_if_loose(held, node);
     }
 
     // Moves a junction to its tight place beside the node on which it hangs, where it has one.
@@ -207,7 +251,7 @@ impl Branches {
         let there = nearer(side, head, ticks);
         put_at(heads, junction, there);
         put_at(&mut self.rise, junction, there.saturating_sub(beside));
-        self.tie_to(net, held, junction, tie.other);
+        self.tie_to(held, junction, tie.other);
         let added = part(net, side, turned(tie, junction), beside, there);
         add_at(&mut self.load, tie.other, added);
     }
@@ -228,11 +272,45 @@ impl Branches {
         }
     }
 
+    // Lists the junctions that step.
+    fn put_stepping(&mut self, net: &Net, held: u32) {
+        self.many = 0;
+        for junction in 0..net.junctions() {
+            let steps = junction != held && !self.hangs(junction);
+            mark(&mut self.steps, junction, steps);
+            if steps {
+                put_node(&mut self.stepping, self.many, junction);
+                self.many = self.many.saturating_add(1);
+            }
+        }
+    }
+
+    // Whether a link ties a junction to a node that neither steps nor hangs.
+    fn is_tied(&self, net: &Net, junction: u32) -> bool {
+        if junction >= net.junctions() {
+            return false;
+        }
+        for tie in net.row(junction) {
+            if !self.steps(tie.other) && !self.hangs(tie.other) {
+                return true;
+            }
+        }
+        false
+    }
+
+    // Marks those that are anchored.
+    fn put_anchored(&mut self, net: &Net) {
+        for junction in 0..net.junctions() {
+            let anchored = !self.is_flat(junction) || self.is_tied(net, junction);
+            mark(&mut self.anchored, junction, anchored);
+        }
+    }
+
     /// Draws all branches of a certificate, heads of all nodes, to their tight places beside the rest, which stays.
     pub(crate) fn draw(&mut self, net: &Net, side: Side, held: u32, heads: &mut [i64])
         ensures { length heads.new ≡ length heads.old }
     {
-        self.begin(net, held);
+        self.begin(net, side, held, heads);
         for place in 0..net.junctions() {
             if place >= self.count {
                 break;
@@ -241,5 +319,7 @@ impl Branches {
             self.hang(net, side, held, junction, heads);
         }
         self.put_heads(net, heads);
+        self.put_stepping(net, held);
+        self.put_anchored(net);
     }
 }

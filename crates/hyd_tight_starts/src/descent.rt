@@ -25,7 +25,7 @@ const FIRST_POWER: u32 = 50;
 const MOST_STEPS: u64 = 4_000_000;
 
 /// So many on one of few ways: one for each side.
-pub(crate) const MOST_STEPS_OF_FEW: u64 = 32_000_000;
+pub(crate) const MOST_STEPS_OF_FEW: u64 = 128_000_000;
 
 /// After so many steps a leap is tried. Where it leads nowhere, twice as many are made before the next one, up to the
 /// most.
@@ -37,7 +37,7 @@ const MOST_STEPS_TO_LEAP: u32 = 16;
 const LEAPS: u32 = 60;
 
 /// The work of a leap, as so many steps.
-const WORK_OF_LEAP: u64 = 8;
+const WORK_OF_LEAP: u64 = 16;
 
 /// Room for the way with no junction held, opened once. Nothing is written there before the first one, so that a search
 /// that never goes it has no pages for it.
@@ -85,44 +85,43 @@ impl Descent {
         })
     }
 
-    // Leaps on and on, and tells whether any leap led to another certificate.
-    fn leap_on(&mut self, net: &Net, side: Side, held: u32) -> bool {
+    // Leaps on, as long as leaps are easy, and tells whether any led to another certificate.
+    fn leap_on(&mut self, net: &Net, side: Side) -> bool {
         self.leaps.aim(net, side, &self.steps.heads);
         let mut led = false;
         for _ in 0..LEAPS {
-            self.spend(net, WORK_OF_LEAP);
+            self.spend(WORK_OF_LEAP);
             if !self
                 .leaps
-                .leap(net, side, held, &self.branches, &self.steps.heads)
+                .leap(net, side, &self.branches, &self.steps.heads)
             {
                 return led;
             }
             self.steps.take(&self.leaps.trial);
             led = true;
+            if !self.leaps.trial.was_easy(&self.branches) {
+                return true;
+            }
         }
         led
     }
 
-    // Counts all junctions that don't hang as many times.
-    fn spend(&mut self, net: &Net, times: u64) {
-        let stepping = net.junctions().saturating_sub(self.branches.hanging());
-        let spent = u64::from(stepping).saturating_mul(times);
+    // Counts all junctions that step as many times.
+    fn spend(&mut self, times: u64) {
+        let spent = u64::from(self.branches.many()).saturating_mul(times);
         self.left = self.left.saturating_sub(spent);
     }
 
     // Goes at a step until none moves, and tells whether that came before so many junctions had stepped as were left.
-    fn go_at(&mut self, net: &Net, side: Side, held: u32, step: i64) -> bool {
+    fn go_at(&mut self, net: &Net, side: Side, step: i64) -> bool {
         let mut times = STEPS_TO_LEAP;
         for _ in 0..self.left {
             self.leaps.begin(&self.steps.heads);
-            if self
-                .steps
-                .go_times(net, side, held, &self.branches, step, times)
-            {
+            if self.steps.go_times(net, side, &self.branches, step, times) {
                 return true;
             }
-            self.spend(net, u64::from(times));
-            times = if self.leap_on(net, side, held) {
+            self.spend(u64::from(times));
+            times = if self.leap_on(net, side) {
                 STEPS_TO_LEAP
             } else {
                 times.saturating_mul(2).min(MOST_STEPS_TO_LEAP)
@@ -135,15 +134,15 @@ impl Descent {
     }
 
     // Goes at one step after another, each half of the one before.
-    fn go(&mut self, net: &Net, side: Side, held: u32) -> bool {
+    fn go(&mut self, net: &Net, side: Side) -> bool {
         let mut step = 1i64 << FIRST_POWER;
         for _ in 0..FIRST_POWER {
-            if !self.go_at(net, side, held, step) {
+            if !self.go_at(net, side, step) {
                 return false;
             }
             step /= 2;
         }
-        self.go_at(net, side, held, 1)
+        self.go_at(net, side, 1)
     }
 
     // Whether all lists are as long as a net needs them, which they come to be in the room that was taken.
@@ -181,7 +180,7 @@ impl Descent {
         }
         self.branches.draw(net, side, held, &mut self.steps.heads);
         self.steps.begin(net, side, &self.branches);
-        if !self.go(net, side, held) {
+        if !self.go(net, side) {
             return false;
         }
         self.branches.put_heads(net, &mut self.steps.heads);

@@ -141,11 +141,23 @@ fn hangs(branches: Option<&Branches>, node: u32) -> bool {
     }
 }
 
-// What those that hang on a junction add to what it passes by.
-fn load(branches: Option<&Branches>, junction: u32) -> i64 {
+// What a junction's outflow and those that hang on it add to what it passes by at a head.
+fn own_and_hanging(
+    net: &Net,
+    side: Side,
+    branches: Option<&Branches>,
+    junction: u32,
+    head: i64,
+) -> i64 {
     match branches {
-        Some(here) => here.load(junction),
-        None => 0,
+        Some(here) => {
+            if here.is_flat(junction) {
+                here.load(junction)
+            } else {
+                own_part(net, side, junction, head).saturating_add(here.load(junction))
+            }
+        }
+        None => own_part(net, side, junction, head),
     }
 }
 
@@ -163,7 +175,7 @@ pub(crate) fn over_with(
         return 0;
     }
     let _nodes = net.nodes();
-    let mut sum = own_part(net, side, junction, head).saturating_add(load(branches, junction));
+    let mut sum = own_and_hanging(net, side, branches, junction, head);
     for tie in net.row(junction) {
         if !hangs(branches, tie.other) {
             sum = sum.saturating_add(part(net, side, *tie, head, number_at(heads, tie.other)));

@@ -101,11 +101,10 @@ impl Leaps {
         &mut self,
         net: &Net,
         side: Side,
-        held: u32,
         branches: &Branches,
         heads: &[i64],
     ) -> bool {
         self.go_way(net, side, heads);
-        self.trial.mend(net, side, held, branches, heads) && self.aim_farther(net, side, heads)
+        self.trial.mend(net, side, branches, heads) && self.aim_farther(net, side, heads)
     }
 }

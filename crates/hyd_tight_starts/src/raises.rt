@@ -11,16 +11,18 @@ use hyd_period_network::Net;
 use hyd_spec_certificates::{BOX_LIMIT, Side};
 use std::alloc::{AllocError as OutOfMemory, Global};
 
-/// So often a junction is raised no farther than it has to. From then on each raise is at least twice as long as the one
+/// So often a junction is raised about as far as it has to. From then on each raise is at least twice as long as the one
 /// before may have been, for sets of junctions that climb together.
-const SHORT_RAISES: i64 = 4;
+const SHORT_RAISES: i64 = 12;
 
 /// The longest way that a raise has for that: 2 to the power of this many ticks.
 const LONGEST_POWER: i64 = 60;
 
-/// How often the way of a raise is doubled or halved until it is found within a factor of two, which does: steps come
-/// nearer again.
+/// How often the way of a raise is doubled.
 const DOUBLINGS: u32 = 60;
+
+/// So many raises are made at most for each junction that steps.
+const RAISES: u32 = 4;
 
 /// Heads that are tried, of nets of one size, opened once. Nothing is written there before the first ones.
 #[derive(Drop)]
@@ -31,7 +33,7 @@ pub(crate) struct Trial {
     pub(crate) over: Vec<i64>,
     /// How often each junction was raised.
     raised: Vec<i64>,
-    /// How far its last raise led.
+    /// How far its next raise leads at first.
     reach: Vec<i64>,
     /// How many raises may still be made.
     left: u32,
@@ -72,15 +74,12 @@ impl Trial {
         put_at(&mut self.heads, junction, head.clamp(-BOX_LIMIT, BOX_LIMIT));
     }
 
-    // Notes by how much each junction passes that doesn't hang.
+    // Notes by how much each junction passes that steps.
     fn note(&mut self, net: &Net, side: Side, branches: &Branches) {
-        for junction in 0..net.junctions() {
-            let over = if branches.hangs(junction) {
-                0
-            } else {
-                let head = number_at(&self.heads, junction);
-                over_with(net, side, Some(branches), &self.heads, junction, head)
-            };
+        for place in 0..branches.many() {
+            let junction = branches.stepping(place);
+            let head = number_at(&self.heads, junction);
+            let over = over_with(net, side, Some(branches), &self.heads, junction, head);
             put_at(&mut self.over, junction, over);
             put_at(&mut self.raised, junction, 0);
         }
@@ -101,7 +100,7 @@ impl Trial {
         }
         let _nodes = net.nodes();
         for tie in net.row(junction) {
-            if !branches.hangs(tie.other) {
+            if branches.steps(tie.other) {
                 let seen = turned(*tie, junction);
                 let there = number_at(&self.heads, tie.other);
                 let more = part(net, side, seen, there, to).saturating_sub(part(
@@ -112,70 +111,44 @@ impl Trial {
         }
     }
 
-    // Whether a junction passes so many ticks farther out.
-    fn passes(
-        &self,
-        net: &Net,
-        side: Side,
-        branches: &Branches,
-        junction: u32,
-        ticks: i64,
-    ) -> bool {
-        let head = number_at(&self.heads, junction);
-        let there = nearer(side, head, ticks.saturating_neg());
-        over_with(net, side, Some(branches), &self.heads, junction, there) >= 0
-    }
-
-    // A way on which a junction passes, half of which is too short, sought from that of its last raise on.
-    fn way_to_pass(&self, net: &Net, side: Side, branches: &Branches, junction: u32) -> i64 {
-        let mut way = number_at(&self.reach, junction).max(1);
-        let was_enough = self.passes(net, side, branches, junction, way);
-        for _ in 0..DOUBLINGS {
-            let next = if was_enough {
-                way / 2
-            } else {
-                way.saturating_mul(2)
-            };
-            let is_enough = next > 0 && self.passes(net, side, branches, junction, next);
-            if was_enough && !is_enough {
-                break;
-            }
-            way = next;
-            if is_enough && !was_enough {
-                break;
-            }
-        }
-        way
-    }
-
-    // Moves a junction that falls short as far out as it has to or farther, but no farther than where it would pass
-    // whatever the others did.
+    // Moves a junction that falls short farther out, by half of its last way where that did at once, and then by twice as
+    // much and again until it passes, which may be too far by some: steps come nearer again. It goes no farther than where
+    // it would pass whatever the others did.
     fn raise(&mut self, net: &Net, side: Side, branches: &Branches, junction: u32, most: i64) {
         let from = number_at(&self.heads, junction);
         let least = least_raise(number_at(&self.raised, junction));
-        let enough = self.way_to_pass(net, side, branches, junction);
-        put_at(&mut self.reach, junction, enough);
-        let ticks = enough.max(least);
-        let to = no_farther(side, nearer(side, from, ticks.saturating_neg()), most);
+        let mut way = number_at(&self.reach, junction).max(least);
+        let mut to = from;
+        let mut over = 0i64;
+        let mut next = way / 2;
+        for _ in 0..DOUBLINGS {
+            to = no_farther(side, nearer(side, from, way.saturating_neg()), most);
+            over = over_with(net, side, Some(branches), &self.heads, junction, to);
+            if over >= 0 || to == most {
+                break;
+            }
+            way = way.saturating_mul(2);
+            next = way;
+        }
+        put_at(&mut self.reach, junction, next);
         add_at(&mut self.raised, junction, 1);
-        let over = over_with(net, side, Some(branches), &self.heads, junction, to);
         self.note_beside(net, side, branches, junction, from, to);
         put_at(&mut self.over, junction, over);
         put_at(&mut self.heads, junction, to);
     }
 
-    // Raises the junctions that fall short when it is their turn, but a held one, and tells whether none did.
+    // Raises the junctions that fall short when it is their turn, and tells whether none did.
     fn raise_all(
         &mut self,
         net: &Net,
         side: Side,
-        held: u32,
         branches: &Branches,
         certificate: &[i64],
     ) -> bool {
         let mut none = true;
-        for junction in 0..net.junctions() {
-            if junction != held && number_at(&self.over, junction) < 0 {
+        for place in 0..branches.many() {
+            let junction = branches.stepping(place);
+            if number_at(&self.over, junction) < 0 {
                 if self.left == 0 {
                     return false;
                 }
@@ -194,19 +167,18 @@ impl Trial {
     }
 
     /// Raises the junctions that fall short, and those that do then, no farther out than in a certificate beyond, and
-    /// tells whether none falls short any more after as many raises as there are junctions that don't hang.
+    /// tells whether none falls short any more after so many raises.
     pub(crate) fn mend(
         &mut self,
         net: &Net,
         side: Side,
-        held: u32,
         branches: &Branches,
         certificate: &[i64],
     ) -> bool {
         self.note(net, side, branches);
-        self.left = net.junctions().saturating_sub(branches.hanging());
+        self.left = branches.many().saturating_mul(RAISES);
         for _ in 0..self.left {
-            if self.raise_all(net, side, held, branches, certificate) {
+            if self.raise_all(net, side, branches, certificate) {
                 return true;
             }
             if self.left == 0 {
@@ -214,5 +186,10 @@ impl Trial {
             }
         }
         false
+    }
+
+    /// Whether less than half of the raises were made that might have been: then a leap twice as far may be mended too.
+    pub(crate) fn was_easy(&self, branches: &Branches) -> bool {
+        self.left > branches.many().saturating_mul(RAISES / 2)
     }
 }

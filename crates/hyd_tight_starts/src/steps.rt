@@ -4,7 +4,7 @@
 ghost use Rattle.std.specs.Prelude.{◌≡◌, length};
 
 use crate::branches::Branches;
-use crate::flows::{is_flat, nearer, over_with, own_part, part, turned};
+use crate::flows::{nearer, over_with, own_part, part, turned};
 use crate::places::{add_at, copy, is_marked, mark, number_at, put_at};
 use crate::raises::Trial;
 use crate::strides::{over_at, put_rest, put_rim, reach};
@@ -67,6 +67,7 @@ impl Steps {
     /// Begins at the heads of a certificate.
     pub(crate) fn begin(&mut self, net: &Net, side: Side, branches: &Branches) {
         for junction in 0..net.junctions() {
+            mark(&mut self.back, junction, !branches.steps(junction));
             let head = number_at(&self.heads, junction);
             let over = over_with(net, side, Some(branches), &self.heads, junction, head);
             put_at(&mut self.over, junction, over);
@@ -116,14 +117,14 @@ impl Steps {
             return -1;
         }
         let mut sum = number_at(&self.over, junction);
-        if !is_flat(net, junction) {
+        if !branches.is_flat(junction) {
             let own = own_part(net, side, junction, there).saturating_sub(own_part(
                 net, side, junction, head,
             ));
             sum = sum.saturating_add(own);
         }
         for tie in net.row(junction) {
-            if self.stays(net, tie.other) && !branches.hangs(tie.other) {
+            if !branches.steps(tie.other) && !branches.hangs(tie.other) {
                 let other = number_at(&self.heads, tie.other);
                 let more = part(net, side, *tie, there, other).saturating_sub(part(
                     net, side, *tie, head, other,
@@ -143,26 +144,19 @@ impl Steps {
         self.count = self.count.saturating_add(1);
     }
 
-    // Marks those that stay whatever the others do: a held junction, and those that hang.
-    fn mark_staying(&mut self, net: &Net, held: u32, branches: &Branches) {
-        for junction in 0..net.junctions() {
-            let stays = junction == held || branches.hangs(junction);
-            mark(&mut self.back, junction, stays);
-        }
-    }
-
-    // Steps with all other junctions, and puts those back that fall short then.
-    fn step_all(&mut self, net: &Net, side: Side, held: u32, branches: &Branches, step: i64) {
+    // Steps with all that step, and puts those back that fall short then.
+    fn step_all(&mut self, net: &Net, side: Side, branches: &Branches, step: i64) {
         self.count = 0;
-        self.mark_staying(net, held, branches);
-        for junction in 0..net.junctions() {
-            if !is_marked(&self.back, junction) {
-                let over = self.over_stepped(net, side, branches, junction, step);
-                put_at(&mut self.now, junction, over);
-            }
-        }
-        for junction in 0..net.junctions() {
-            if !is_marked(&self.back, junction) && number_at(&self.now, junction) < 0 {
+        for place in 0..branches.many() {
+            let junction = branches.stepping(place);
+            let over = if branches.is_anchored(junction) {
+                self.over_stepped(net, side, branches, junction, step)
+            } else {
+                number_at(&self.over, junction)
+            };
+            put_at(&mut self.now, junction, over);
+            mark(&mut self.back, junction, false);
+            if over < 0 {
                 self.put_back(junction);
             }
         }
@@ -211,12 +205,12 @@ impl Steps {
 
     // Moves the junctions that don't stay so many ticks nearer.
     fn move_rest(&mut self, net: &Net, side: Side, branches: &Branches, ticks: i64) {
-        for junction in 0..net.junctions() {
-            if is_marked(&self.back, junction) && !branches.hangs(junction) {
-                self.add_beside(net, side, junction, ticks);
-            }
+        for place in 0..self.count {
+            let junction = self.order.get(place as usize).copied().unwrap_or(0);
+            self.add_beside(net, side, junction, ticks);
         }
-        for junction in 0..net.junctions() {
+        for place in 0..branches.many() {
+            let junction = branches.stepping(place);
             if !is_marked(&self.back, junction) {
                 let head = nearer(side, number_at(&self.heads, junction), ticks);
                 put_at(&mut self.heads, junction, head);
@@ -227,7 +221,8 @@ impl Steps {
     // Moves the rest one step, by which it passes as was found.
     fn take_step(&mut self, net: &Net, side: Side, branches: &Branches, step: i64) {
         self.move_rest(net, side, branches, step);
-        for junction in 0..net.junctions() {
+        for place in 0..branches.many() {
+            let junction = branches.stepping(place);
             if !is_marked(&self.back, junction) {
                 let over = number_at(&self.now, junction);
                 put_at(&mut self.over, junction, over);
@@ -238,7 +233,7 @@ impl Steps {
     // How far the rest goes on in whole steps, as far as it passes.
     fn stride(&mut self, net: &Net, side: Side, branches: &Branches, step: i64) -> i64 {
         put_rim(net, branches, &self.back, &mut self.rim);
-        put_rest(
+        let goes = put_rest(
             net,
             branches,
             side,
@@ -246,8 +241,12 @@ impl Steps {
             &self.over,
             &self.back,
             &self.rim,
+            step,
             &mut self.rest,
         );
+        if !goes {
+            return 0;
+        }
         reach(
             net,
             branches,
@@ -266,7 +265,8 @@ impl Steps {
         if ticks == 0 {
             return;
         }
-        for junction in 0..net.junctions() {
+        for place in 0..branches.many() {
+            let junction = branches.stepping(place);
             let over = if is_marked(&self.rim, junction) {
                 over_at(
                     net,
@@ -286,26 +286,22 @@ impl Steps {
         self.take_step(net, side, branches, ticks);
     }
 
-    // One step, and on; how many junctions moved.
-    fn go_once(&mut self, net: &Net, side: Side, held: u32, branches: &Branches, step: i64) -> u32 {
-        self.step_all(net, side, held, branches, step);
-        for place in 0..net.junctions() {
+    // One step, and on; whether any junction moved.
+    fn go_once(&mut self, net: &Net, side: Side, branches: &Branches, step: i64) -> bool {
+        self.step_all(net, side, branches, step);
+        for place in 0..branches.many() {
             if place >= self.count {
                 break;
             }
             let junction = self.order.get(place as usize).copied().unwrap_or(0);
             self.put_back_beside(net, side, junction, step);
         }
-        let free = net
-            .junctions()
-            .saturating_sub(u32::from(held < net.junctions()))
-            .saturating_sub(branches.hanging());
-        let moved = free.saturating_sub(self.count);
-        if moved > 0 {
-            self.take_step(net, side, branches, step);
-            self.go_on(net, side, branches, step);
+        if self.count >= branches.many() {
+            return false;
         }
-        moved
+        self.take_step(net, side, branches, step);
+        self.go_on(net, side, branches, step);
+        true
     }
 
     /// Goes so many times at a step, and tells whether none moved at last.
@@ -313,13 +309,12 @@ impl Steps {
         &mut self,
         net: &Net,
         side: Side,
-        held: u32,
         branches: &Branches,
         step: i64,
         times: u32,
     ) -> bool {
         for _ in 0..times {
-            if self.go_once(net, side, held, branches, step) == 0 {
+            if !self.go_once(net, side, branches, step) {
                 return true;
             }
         }

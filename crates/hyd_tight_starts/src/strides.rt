@@ -4,7 +4,7 @@
 ghost use Rattle.std.specs.Prelude.{◌≡◌, length};
 
 use crate::branches::Branches;
-use crate::flows::{is_flat, nearer, own_part, part};
+use crate::flows::{nearer, own_part, part};
 use crate::places::{is_marked, mark, number_at, put_at};
 use hyd_period_network::Net;
 use hyd_spec_certificates::{BOX_LIMIT, Side};
@@ -13,17 +13,15 @@ use hyd_vector_check::is_in_box;
 /// How often a way is doubled, and then halved.
 const DOUBLINGS: u32 = 60;
 
-// Whether it changes by how much a junction passes when it comes nearer with the others: a link leads to a node that
-// stays, or what leaves it beside its links depends on its head.
+// Whether it changes by how much one that steps passes when it comes nearer with the others: it is anchored, or a link
+// leads to one that stays.
 fn lies_on_rim(net: &Net, branches: &Branches, back: &[bool], junction: u32) -> bool {
-    if junction >= net.junctions() || !is_flat(net, junction) {
+    if junction >= net.junctions() || branches.is_anchored(junction) {
         return true;
     }
     let _nodes = net.nodes();
     for tie in net.row(junction) {
-        if tie.other >= net.junctions()
-            || is_marked(back, tie.other) && !branches.hangs(tie.other)
-        {
+        if is_marked(back, tie.other) && branches.steps(tie.other) {
             return true;
         }
     }
@@ -34,7 +32,8 @@ fn lies_on_rim(net: &Net, branches: &Branches, back: &[bool], junction: u32) -> 
 pub(crate) fn put_rim(net: &Net, branches: &Branches, back: &[bool], rim: &mut [bool])
     ensures { length rim.new ≡ length rim.old }
 {
-    for junction in 0..net.junctions() {
+    for place in 0..branches.many() {
+        let junction = branches.stepping(place);
         let lies = !is_marked(back, junction) && lies_on_rim(net, branches, back, junction);
         mark(rim, junction, lies);
     }
@@ -55,7 +54,7 @@ fn changing(
         return 0;
     }
     let _nodes = net.nodes();
-    let mut sum = if is_flat(net, junction) {
+    let mut sum = if branches.is_flat(junction) {
         0
     } else {
         own_part(net, side, junction, head)
@@ -70,7 +69,8 @@ fn changing(
     sum
 }
 
-/// Puts what stays of what each junction on the rim passes by.
+/// Puts what stays of what each junction on the rim passes by, and tells whether all of them pass a step nearer. It
+/// stops at the first that doesn't.
 pub(crate) fn put_rest(
     net: &Net,
     branches: &Branches,
@@ -79,21 +79,26 @@ pub(crate) fn put_rest(
     over: &[i64],
     back: &[bool],
     rim: &[bool],
+    step: i64,
     rest: &mut [i64],
-)
+) -> bool
     ensures { length rest.new ≡ length rest.old }
 {
-    for junction in 0..net.junctions() {
+    for place in 0..branches.many() {
+        let junction = branches.stepping(place);
         if is_marked(rim, junction) {
             let head = number_at(heads, junction);
-            let changing = changing(net, branches, side, heads, back, junction, head);
-            put_at(
-                rest,
-                junction,
-                number_at(over, junction).saturating_sub(changing),
-            );
+            let here = changing(net, branches, side, heads, back, junction, head);
+            let stays = number_at(over, junction).saturating_sub(here);
+            put_at(rest, junction, stays);
+            let there = nearer(side, head, step);
+            let closer = changing(net, branches, side, heads, back, junction, there);
+            if stays.saturating_add(closer) < 0 {
+                return false;
+            }
         }
     }
+    true
 }
 
 /// By how much one on the rim passes so many ticks nearer.
@@ -114,9 +119,10 @@ pub(crate) fn over_at(
 }
 
 // The most ticks with which all that don't stay keep in the box.
-fn room_in_box(net: &Net, side: Side, heads: &[i64], back: &[bool]) -> i64 {
+fn room_in_box(branches: &Branches, side: Side, heads: &[i64], back: &[bool]) -> i64 {
     let mut room = 2 * BOX_LIMIT;
-    for junction in 0..net.junctions() {
+    for place in 0..branches.many() {
+        let junction = branches.stepping(place);
         if !is_marked(back, junction) {
             let head = number_at(heads, junction);
             let own = match side {
@@ -167,28 +173,8 @@ fn own_reach(
     most
 }
 
-// Whether all on the rim pass so many ticks nearer.
-fn rim_passes(
-    net: &Net,
-    branches: &Branches,
-    side: Side,
-    heads: &[i64],
-    back: &[bool],
-    rim: &[bool],
-    rest: &[i64],
-    ticks: i64,
-) -> bool {
-    for junction in 0..net.junctions() {
-        if is_marked(rim, junction)
-            && over_at(net, branches, side, heads, back, rest, junction, ticks) < 0
-        {
-            return false;
-        }
-    }
-    true
-}
-
-/// The most ticks, in whole steps, with which the junctions that don't stay pass nearer together.
+/// The most ticks, in whole steps, with which the junctions that don't stay pass nearer together, where those on the rim
+/// pass a step nearer.
 pub(crate) fn reach(
     net: &Net,
     branches: &Branches,
@@ -199,12 +185,13 @@ pub(crate) fn reach(
     rest: &[i64],
     step: i64,
 ) -> i64 {
-    let room = room_in_box(net, side, heads, back);
-    if step < 1 || room < step || !rim_passes(net, branches, side, heads, back, rim, rest, step) {
+    let room = room_in_box(branches, side, heads, back);
+    if step < 1 || room < step {
         return 0;
     }
     let mut most = room - room % step;
-    for junction in 0..net.junctions() {
+    for place in 0..branches.many() {
+        let junction = branches.stepping(place);
         if is_marked(rim, junction)
             && over_at(net, branches, side, heads, back, rest, junction, most) < 0
         {

@@ -8,6 +8,7 @@ use Rattle.hyd_period_network.specs.NetAsPeriodNetwork.{grid_of}
 use Rattle.hyd_open_sim_start.specs.StandingsOfOpenRuns.{standing_for}
 use Rattle.hyd_open_sim.specs.EndedPeriods.{next_standing}
 use Rattle.hyd_open_sim.proofs.TakenAndRefusedRecords.{taken-of}
+use Rattle.hyd_open_sim.proofs.StandingsBehindPeriods.{goes-on}
 use Rattle.hyd_open_sim.proofs.handed_in_record.take.Goals as goal
 
 pub returns-clause-taken : goal.returns-clause-taken
@@ -15,6 +16,12 @@ returns-clause-taken c =
     taken-of c.args.project.now c.args.standing.now c.check_due.new.net c.check_due.new.found c.check_due.new.facts
     c.check_due.new.close c.move_on.new.standing c.move_on.new.close c.move_on.ensures.standing
     c.move_on.ensures.first c.move_on.ensures.late c.move_on.ensures.opened c.in_ok-check_due.ensures.made
+
+pub move_on-requires-clause-goes_on : goal.move_on-requires-clause-goes_on
+move_on-requires-clause-goes_on c =
+    let made = c.in_ok-check_due.ensures.made in
+    goes-on c.args.project.now c.requires.sound c.args.standing.now c.requires.standing c.check_due.new.net
+    c.check_due.new.found c.check_due.new.facts c.check_due.new.close made.0 made.1
 
 pub returns-clause-exactly : goal.returns-clause-exactly
 returns-clause-exactly c = λ cause is.

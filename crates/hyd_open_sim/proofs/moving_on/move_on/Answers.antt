@@ -19,34 +19,33 @@ follow-requires-clause-number c =
 
 pub follow-requires-clause-time : goal.follow-requires-clause-time
 follow-requires-clause-time c =
-    let within = in-time c.args.project.now c.requires.sound c.args.standing.now c.requires.standing
-    c.requires.unfinished c.args.net.now c.args.found.now c.args.facts.now c.args.close.now c.requires.made
-    c.if-standing-project.false in
+    let within = in-time c.args.project.now c.args.standing.now c.requires.standing c.requires.unfinished
+    c.args.close.now c.requires.goes_on c.if-standing-project.false in
     let short = c.requires.sound.times.duration in
     omega (arith, within, short)
 
 pub returns-clause-standing : goal.returns-clause-standing
 returns-clause-standing c =
-    same-later c.args.project.now c.requires.sound c.args.standing.now c.requires.standing c.requires.unfinished
-    c.args.net.now c.args.found.now c.args.facts.now c.args.close.now c.requires.made c.follow.new.self
+    same-later c.args.project.now c.args.standing.now c.requires.standing c.requires.unfinished
+    c.args.close.now c.requires.goes_on c.follow.new.self
     c.if-standing-project.false c.follow.ensures.moved
 
 pub returns-clause-is : goal.returns-clause-is
 returns-clause-is c =
-    standing-later c.args.project.now c.requires.sound c.args.standing.now c.requires.standing c.requires.unfinished
-    c.args.net.now c.args.found.now c.args.facts.now c.args.close.now c.requires.made c.follow.new.self
+    standing-later c.args.project.now c.args.standing.now c.requires.standing c.requires.unfinished
+    c.args.close.now c.requires.goes_on c.follow.new.self
     c.if-standing-project.false c.follow.ensures.moved c.requires.room
 
 pub returns-then-standing-project-clause-standing : goal.returns-then-standing-project-clause-standing
 returns-then-standing-project-clause-standing c =
-    same-last c.args.project.now c.requires.sound c.args.standing.now c.requires.standing c.requires.unfinished
-    c.args.net.now c.args.found.now c.args.facts.now c.args.close.now c.requires.made c.finish.new.self
+    same-last c.args.project.now c.args.standing.now c.requires.standing c.requires.unfinished
+    c.args.close.now c.requires.goes_on c.finish.new.self
     c.if-standing-project.true c.finish.ensures
 
 pub returns-then-standing-project-clause-is : goal.returns-then-standing-project-clause-is
 returns-then-standing-project-clause-is c =
-    standing-last c.args.project.now c.requires.sound c.args.standing.now c.requires.standing c.requires.unfinished
-    c.args.net.now c.args.found.now c.args.facts.now c.args.close.now c.requires.made c.finish.new.self
+    standing-last c.args.project.now c.args.standing.now c.requires.standing c.requires.unfinished
+    c.args.close.now c.requires.goes_on c.finish.new.self
     c.if-standing-project.true c.finish.ensures
 
 pub returns-clause-close : goal.returns-clause-close

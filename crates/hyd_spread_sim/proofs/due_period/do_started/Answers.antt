@@ -1,4 +1,4 @@
-use Rattle.std.proofs.Common.{ℤ, true, List, subst}
+use Rattle.std.proofs.Common.{ℤ, true, List, sym, subst, ◌∙◌}
 use Rattle.std.specs.Prelude.{OnOk, Option}
 use Rattle.hyd_spec.specs.NodeNumbers.{tank_count}
 use Rattle.hyd_cert.specs.RecordView.{row_of}
@@ -25,7 +25,7 @@ pub returns-then-settings-clause-done : goal.returns-then-settings-clause-done
 returns-then-settings-clause-done g c =
     let told : Told = record {
       above = g.F.Finder.told c.args.above.now;
-      below = g.F.Finder.told c.args.below.now;
+      below = g.G.Finder.told c.args.below.now;
     } in
     on-ok-both _ _ _ c.tighten.result
     (done-tight told c.args.project.now c.args.settings c.args.standing.now c.args.nets.now c.tighten.new.found
@@ -39,13 +39,13 @@ returns-clause-done g c =
     let rounds = c.args.settings.search.rounds in
     let told : Told = record {
       above = g.F.Finder.told c.args.above.now;
-      below = g.F.Finder.told c.args.below.now;
+      below = g.G.Finder.told c.args.below.now;
     } in
     on-ok-both _ _ _ c.tighten-2.result
     (done-tight told project c.args.settings c.args.standing.now c.args.nets.now found c.tighten-2.new.facts
     c.tighten-2.new.close) c.tighten-2.ensures.made
     (subst (λ (a : Option (List ℤ)). OnOk c.tighten-2.result (AreSoughtOver true
-    (record { above = a; below = g.F.Finder.told c.args.below.now }) pair (tank_count project) rounds
+    (record { above = a; below = g.G.Finder.told c.args.below.now }) pair (tank_count project) rounds
     (row_of found.row))) c.does.ensures.told_above
     (subst (λ (b : Option (List ℤ)). OnOk c.tighten-2.result (AreSoughtOver true
     (record { above = g.F.Finder.told c.does.new.above; below = b }) pair (tank_count project) rounds
@@ -55,8 +55,12 @@ pub returns-then-branch-clause-done : goal.returns-then-branch-clause-done
 returns-then-branch-clause-done g c =
     let told : Told = record {
       above = g.F.Finder.told c.args.above.now;
-      below = g.F.Finder.told c.args.below.now;
+      below = g.G.Finder.told c.args.below.now;
     } in
     done-narrow told c.args.project.now c.args.settings c.args.standing.now c.args.nets.now c.does.new.found
     c.does.new.facts c.does.new.close c.if-settings.false (c.in_ok-does.ensures.made c.if-branch.true)
     (c.in_ok-does.ensures.narrow c.if-branch.true) (c.in_ok-does.ensures.sought c.if-branch.true)
+
+pub tighten-requires-2-clause-told : goal.tighten-requires-2-clause-told
+tighten-requires-2-clause-told g c = λ none.
+    c.does.ensures.told_below ∙ (c.requires.told none ∙ sym c.does.ensures.told_above)

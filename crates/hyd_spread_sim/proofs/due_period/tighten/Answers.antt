@@ -9,9 +9,10 @@ use Rattle.hyd_cert.specs.RecordView.{row_of}
 use Rattle.hyd_cert.proofs.VectorLemmas.{problems_length}
 use Rattle.hyd_open_sim_start.specs.StandingsOfOpenRuns.{standing_for}
 use Rattle.hyd_spread_networks.specs.NetsOfSpreads.{pair_of}
+use Rattle.hyd_spread_stops.specs.StuckOverSpreads.{NamesStuckOver}
 use Rattle.hyd_spread_vectors.specs.VectorsOfBothNetworks.{Told}
 use Rattle.hyd_spread_sim.specs.PeriodAttempt.{AreSoughtOver, IsFaultOver}
-use Rattle.hyd_spread_sim.proofs.StopsOverSpreads.{fault-stops}
+use Rattle.hyd_spread_sim.proofs.StopsOverSpreads.{fault-stops, fault-stuck}
 use Rattle.hyd_spread_sim.proofs.due_period.tighten.Goals as goal
 
 pub try_period-requires-clause-search : goal.try_period-requires-clause-search
@@ -24,7 +25,7 @@ pub returns-in-Ok-clause-tight : goal.returns-in-Ok-clause-tight
 returns-in-Ok-clause-tight g c =
     let told : Told = record {
       above = g.F.Finder.told c.args.above.now;
-      below = g.F.Finder.told c.args.below.now;
+      below = g.G.Finder.told c.args.below.now;
     } in
     c.tight_over.ensures c.args.project.now told (pair_of c.args.nets.now) (tank_count c.args.project.now)
     c.try_period.new.found.row refl c.in-Ok.ensures.sought.each
@@ -33,7 +34,7 @@ pub returns-in-Ok-clause-sought : goal.returns-in-Ok-clause-sought
 returns-in-Ok-clause-sought g c =
     let told : Told = record {
       above = g.F.Finder.told c.args.above.now;
-      below = g.F.Finder.told c.args.below.now;
+      below = g.G.Finder.told c.args.below.now;
     } in
     subst (λ (n : ℕ). AreSoughtOver true told (pair_of c.args.nets.now) (tank_count c.args.project.now) n
     (row_of c.try_period.new.found.row)) c.requires.search.rounds_are c.in-Ok.ensures.sought
@@ -48,7 +49,7 @@ returns-in-Err-clause-stops g c =
     let held = c.try_period.new.search.held in
     let told : Told = record {
       above = g.F.Finder.told c.args.above.now;
-      below = g.F.Finder.told c.args.below.now;
+      below = g.G.Finder.told c.args.below.now;
     } in
     let pinned : length (row_of row).pinned ≡ tank_count project =
     problems_length row.junctions row.tanks (behind_two row.junctions row.vectors.list)
@@ -59,4 +60,23 @@ returns-in-Err-clause-stops g c =
     c.requires.started.in_range c.requires.started.are_pair pinned
     (λ sought. c.tight_over.ensures project told pair (tank_count project) row refl sought.each) c.in-Err.fault
     (subst (λ (n : ℕ). IsFaultOver true told project pair standing c.args.slack n held (row_of row) c.in-Err.fault)
+    c.requires.search.rounds_are c.in-Err.ensures.fault))
+
+pub returns-in-Err-clause-stuck : goal.returns-in-Err-clause-stuck
+returns-in-Err-clause-stuck g c =
+    let project = c.args.project.now in
+    let spread = c.args.nets.now.spread in
+    let pair = pair_of c.args.nets.now in
+    let standing = standing_for c.args.standing.now in
+    let row = row_of c.try_period.new.found.row in
+    let held = c.try_period.new.search.held in
+    let told : Told = record {
+      above = g.F.Finder.told c.args.above.now;
+      below = g.G.Finder.told c.args.below.now;
+    } in
+    subst (λ (cause : StopCause). NamesStuckOver project spread standing.known c.args.rounds cause)
+    (sym c.fault_stop.ensures)
+    (fault-stuck project spread standing c.args.slack c.args.rounds told pair held row
+    c.requires.started.are_pair c.in-Err.fault
+    (subst (λ (n : ℕ). IsFaultOver true told project pair standing c.args.slack n held row c.in-Err.fault)
     c.requires.search.rounds_are c.in-Err.ensures.fault))

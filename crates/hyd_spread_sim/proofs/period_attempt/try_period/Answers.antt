@@ -1,7 +1,9 @@
-use Rattle.std.proofs.Common.{◌≡◌, ℕ, refl, sym, ap, subst, ◌∙◌}
+use Rattle.std.proofs.Common.{◌≡◌, ℕ, true, refl, sym, ap, subst, ◌∙◌}
 use Rattle.hyd_spec.specs.NodeNumbers.{tank_count}
 use Rattle.hyd_spec_certificates.specs.declared.Side.{Side}
 use Rattle.hyd_spec_certificates.specs.declared.Side.TheVariants.{Upper, Lower}
+use Rattle.hyd_spec_spread.specs.Spreads.{Spread}
+use Rattle.hyd_spec_spread_reports.specs.TextsOfSpreadReports.{says_nothing}
 use Rattle.hyd_spec_spread_runs.specs.OutermostPairs.{Pair}
 use Rattle.hyd_spec_spread_runs.specs.RunsForSpreads.{AreCertificatesOver}
 use Rattle.hyd_cert.specs.Lines.{Header}
@@ -63,7 +65,7 @@ end_period-requires-clause-certificates g c =
     let row = c.find.new.row in
     let told : Told = record {
       above = g.F.Finder.told c.args.above.now;
-      below = g.F.Finder.told c.args.below.now;
+      below = g.G.Finder.told c.args.below.now;
     } in
     c.certificates_over.ensures project c.args.tight told (pair_on nets) (tank_count project) row refl
     (ap (λ (h : Header). h.tanks) c.find.ensures.stays.header ∙ ap (λ (h : Header). h.tanks) c.requires.header)
@@ -84,7 +86,7 @@ returns-in-Ok-clause-made g c =
     let stays = c.find.ensures.stays in
     let told : Told = record {
       above = g.F.Finder.told c.args.above.now;
-      below = g.F.Finder.told c.args.below.now;
+      below = g.G.Finder.told c.args.below.now;
     } in
     let certificates : AreCertificatesOver project (pair_on nets) (row_of row) =
     c.certificates_over.ensures project c.args.tight told (pair_on nets) (tank_count project) row refl
@@ -108,7 +110,7 @@ returns-in-Ok-clause-sought g c =
     let rounds = c.args.search.now.rounds in
     let told : Told = record {
       above = g.F.Finder.told c.args.above.now;
-      below = g.F.Finder.told c.args.below.now;
+      below = g.G.Finder.told c.args.below.now;
     } in
     sought-again row c.end_period.new.found.row (ap (λ (f : OpenRow). f.row) c.end_period.ensures.found) c.args.tight
     told (pair_on nets) (tank_count project) rounds
@@ -122,7 +124,7 @@ returns-in-Ok-clause-held g c =
     let nets = c.args.nets.now in
     let told : Told = record {
       above = g.F.Finder.told c.args.above.now;
-      below = g.F.Finder.told c.args.below.now;
+      below = g.G.Finder.told c.args.below.now;
     } in
     each-over nets c.on-upper.result.now c.on-lower.result.now c.on-upper.ensures c.on-lower.ensures
     (λ (p : Pair) (n : ℕ). (network : Side) → AreFoundOn c.args.tight told p n c.args.search.now.rounds network
@@ -141,7 +143,7 @@ returns-in-Err-clause-fault g c =
     let nets = c.args.nets.now in
     let told : Told = record {
       above = g.F.Finder.told c.args.above.now;
-      below = g.F.Finder.told c.args.below.now;
+      below = g.G.Finder.told c.args.below.now;
     } in
     each-over nets c.on-upper.result.now c.on-lower.result.now c.on-upper.ensures c.on-lower.ensures
     (λ (p : Pair) (n : ℕ). LacksFirstOver c.args.tight told p n c.args.search.now.rounds c.find.new.self.held
@@ -156,7 +158,7 @@ returns-in-Err-end_period-clause-fault g c =
     let same = ap (λ (f : OpenRow). f.row) c.end_period.ensures.found in
     let told : Told = record {
       above = g.F.Finder.told c.args.above.now;
-      below = g.F.Finder.told c.args.below.now;
+      below = g.G.Finder.told c.args.below.now;
     } in (
       sought-again row c.end_period.new.found.row same c.args.tight told (pair_on nets) (tank_count project) rounds
           (each-over nets c.on-upper.result.now c.on-lower.result.now c.on-upper.ensures c.on-lower.ensures
@@ -167,3 +169,20 @@ returns-in-Err-end_period-clause-fault g c =
           let own = subst (λ (r : Row). SharesVectors other.row (row_of r)) same share in
           c.in-Err-end_period.ensures.open other (record { main = own.main; pinned = own.pinned }),
     )
+
+pub find-requires-clause-alike : goal.find-requires-clause-alike
+find-requires-clause-alike g c = λ same.
+    let project = c.args.project.now in
+    let nets = c.args.nets.now in
+    let none : says_nothing nets.spread ≡ true =
+    subst (λ (s : Spread). says_nothing s ≡ true) c.spread.ensures (sym c.says_nothing-alike.ensures ∙ same) in
+    let one = c.alike_without_spread.ensures project c.requires.sound nets.spread none
+    (known_for c.args.standing.now) (pair_on nets) c.requires.started.are_pair in (
+      ap grid_of c.on-lower.ensures ∙ (one ∙ sym (ap grid_of c.on-upper.ensures)),
+      c.requires.told none,
+    )
+
+pub returns-in-Ok-clause-alike : goal.returns-in-Ok-clause-alike
+returns-in-Ok-clause-alike g c = λ none.
+    c.in_default.ensures.alike (c.says_nothing-alike.ensures
+    ∙ subst (λ (s : Spread). says_nothing s ≡ true) (sym c.spread.ensures) none)

@@ -7,6 +7,7 @@ use Rattle.hyd_spec_spread_stops.specs.StopsOfSpreads.{StopsOver}
 use Rattle.hyd_period_network.specs.NetsSetToPeriods.{AreLevels}
 use Rattle.hyd_period_network.specs.LawsInSettings.{AreStates}
 use Rattle.hyd_open_sim_start.specs.StandingsOfOpenRuns.{known_for, standing_for}
+use Rattle.hyd_sim.specs.NarrowRecordsAndStops.{SaysNone}
 use Rattle.hyd_sim.proofs.LevelsInOrderAtStart.{levels-there}
 use Rattle.hyd_spread_networks.specs.NetsOfSpreads.{pair_of}
 use Rattle.hyd_spread_start.proofs.DemandsOver.{no-demand-over, pair-order}
@@ -56,3 +57,6 @@ pub returns-in-Err-clause-stops : goal.returns-in-Err-clause-stops
 returns-in-Err-clause-stops c = λ slack rounds.
     subst (λ (cause : StopCause). StopsOver c.args.project.now c.args.nets.now.spread (standing_for c.args.standing.now)
     slack rounds cause) (sym c.demand_stop.ensures) (record { period_is = refl; holds = c.in-Err.ensures.refused })
+
+pub returns-in-Err-clause-no_vector : goal.returns-in-Err-clause-no_vector
+returns-in-Err-clause-no_vector c = λ says. subst SaysNone c.demand_stop.ensures says

@@ -1,0 +1,3 @@
+pub mod SharpOverSpreads
+pub mod PromisesOfSpreadRuns
+pub mod PromisesOfSpreadChecks

@@ -1,0 +1,2 @@
+pub mod OneOutermostGrid
+pub mod OneSpreadRefusal

@@ -1,0 +1,2 @@
+pub mod FlowsOverPairs
+pub mod FirmOverSpreads
