@@ -7,7 +7,7 @@ use hyd_cert_check::{CheckEnd, CheckFault};
 use hyd_command_answers::{Status, fault_status};
 
 /// The status of a check that came to its end.
-pub(crate) fn status_of_end(end: CheckEnd) -> Status
+pub fn status_of_end(end: CheckEnd) -> Status
     ensures { result ≡ status_of_check end }
 {
     match end {
@@ -17,7 +17,7 @@ pub(crate) fn status_of_end(end: CheckEnd) -> Status
 }
 
 /// The status of a check that was broken off.
-pub(crate) fn status_of_fault(fault: CheckFault) -> Status
+pub fn status_of_fault(fault: CheckFault) -> Status
     ensures { result ≡ status_of_break fault }
 {
     match fault {

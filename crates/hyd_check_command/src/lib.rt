@@ -10,3 +10,5 @@ mod room;
 mod whole_check;
 
 pub use command::check_files;
+pub use ends::{status_of_end, status_of_fault};
+pub use whole_check::{NO_OPEN_SEARCH, check_network};

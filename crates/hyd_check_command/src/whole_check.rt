@@ -45,7 +45,7 @@ const NO_SEARCH: Settings = Settings {
 };
 
 /// Nor does one with open ends; and it takes each as long as its certificate says, so it needs no slack.
-const NO_OPEN_SEARCH: OpenSettings = OpenSettings {
+pub const NO_OPEN_SEARCH: OpenSettings = OpenSettings {
     search: NO_SEARCH,
     slack: 0,
 };
@@ -237,12 +237,7 @@ fn check_in_room<D: Desk>(alloc: Global, sim: Sim, cert: &str, desk: &mut D) -> 
 }
 
 /// Opens a run of a network, and checks CERT against it. All memory is taken before CERT is opened, whatever its version.
-pub(crate) fn check_network<D: Desk>(
-    alloc: Global,
-    project: Project,
-    cert: &str,
-    desk: &mut D,
-) -> Status
+pub fn check_network<D: Desk>(alloc: Global, project: Project, cert: &str, desk: &mut D) -> Status
     requires sound { IsSound project }
     requires opens { IsTrue (D.may_open cert.now) }
     ensures cause { HasCause result (D.counts desk.old) (D.counts desk.new) }

@@ -5,8 +5,9 @@ use Rattle.std.proofs.lemmas.Bool.{false≢true}
 use Rattle.std.proofs.lemmas.Option.{same_Some}
 use Rattle.std.proofs.lemmas.Slice.Eq.{bytes_eq-Decides}
 use Rattle.hyd_command_words.specs.OptionsAndNames.{Word, Said, said}
-use Rattle.hyd_command_words.specs.CommandGrammar.{RunOrder, GenOrder, TwoFiles, run, check, gen, order_of, Order}
-use Rattle.hyd_command_words.specs.CommandGrammar.{FireOrder, ClosuresOrder, fire, closures}
+use Rattle.hyd_command_words.specs.CommandGrammar.{RunOrder, GenOrder, TwoFiles, gen, order_of, Order}
+use Rattle.hyd_command_words.specs.CommandGrammar.{run_over, check_over, is_apart, run_with, check_with, spread_of}
+use Rattle.hyd_command_words.specs.CommandGrammar.{fire, closures}
 use Rattle.hyd_command_words.specs.CommandGrammar.{WitnessOrder, MeetOrder, witness, meet}
 use Rattle.hyd_command_words.specs.CommandGrammar.{fire_command, witness_command, witness_order, meet_command}
 use Rattle.hyd_command_words.specs.CommandGrammar.{meet_order}
@@ -15,7 +16,8 @@ use Rattle.hyd_command_words.specs.CommandGrammar.{rounds_of}
 use Rattle.hyd_command_words.specs.CommandGrammar.{run_order, run_command, check_command, gen_command, gen_order}
 use Rattle.hyd_command_words.specs.CommandGrammar.{differing}
 use Rattle.hyd_command_words.specs.CommandGrammar.{two_files, seed_of, junctions_of, has_names_alone}
-use Rattle.std.specs.Prelude.{codes}
+use Rattle.hyd_command_words.specs.CommandGrammar.{has_spread_at_most}
+use Rattle.std.specs.Prelude.{codes, ◌&&◌, ◌==◌, length}
 
 -- ---- names that differ
 
@@ -50,15 +52,37 @@ gen_apart (a ∷ (b ∷ (c ∷ (d ∷ [])))) order e =
     files_apart (seed_of a) (junctions_of b) (differing c d) order (differing_apart c d) e
 gen_apart (a ∷ (b ∷ (c ∷ (d ∷ (f ∷ more))))) order e = absurd (cc)
 
-not_run : (found : Option RunOrder) (order : GenOrder) → option_map run found ≡ Some (gen order) → ⊥
-not_run None order e = cc
-not_run (Some found) order e = cc
+-- an order of another kind, where a test holds
+not_tested : (b : Bool) (one : Order) (order : GenOrder) → (one ≡ gen order → ⊥)
+    → (if b then Some one else None) ≡ Some (gen order) → ⊥
+not_tested true one order other e = other (same_Some _ _ e)
+not_tested false one order other e = cc
 
-not_check : (b : Bool) (found : Option TwoFiles) (order : GenOrder)
-    → (if b then option_map check found else None) ≡ Some (gen order) → ⊥
-not_check true None order e = cc
-not_check true (Some found) order e = cc
-not_check false found order e = cc
+not_run_with : (file : Option Word) (found : RunOrder) (order : GenOrder) → run_with file found ≡ Some (gen order) → ⊥
+not_run_with None found order e = cc
+not_run_with (Some file) found order e =
+    not_tested (is_apart file found.files && (length found.flows == 0))
+    (run_over (record { run = found; spread = file })) order (λ h. cc) e
+
+not_run : (spread : Option (Option Word)) (found : Option RunOrder) (order : GenOrder)
+    → option_and_then (λ one. option_and_then (λ file. run_with file one) spread) found ≡ Some (gen order) → ⊥
+not_run spread None order e = cc
+not_run None (Some found) order e = cc
+not_run (Some file) (Some found) order e = not_run_with file found order e
+
+not_check_with : (file : Option Word) (found : TwoFiles) (order : GenOrder)
+    → check_with file found ≡ Some (gen order) → ⊥
+not_check_with None found order e = cc
+not_check_with (Some file) found order e =
+    not_tested (is_apart file found) (check_over (record { files = found; spread = file })) order (λ h. cc) e
+
+not_check : (b : Bool) (spread : Option (Option Word)) (found : Option TwoFiles) (order : GenOrder)
+    → (if b then option_and_then (λ files. option_and_then (λ file. check_with file files) spread) found else None)
+    ≡ Some (gen order) → ⊥
+not_check false spread found order e = cc
+not_check true spread None order e = cc
+not_check true None (Some found) order e = cc
+not_check true (Some file) (Some found) order e = not_check_with file found order e
 
 same_gen : (found : Option GenOrder) (order : GenOrder) → option_map gen found ≡ Some (gen order) → found ≡ Some order
 same_gen None order e = absurd (cc)
@@ -107,8 +131,9 @@ by_name : (is_run is_check is_gen_word is_fire is_closures is_witness is_meet : 
     else (if is_closures then closures_command s else (if is_witness then witness_command s
     else (if is_meet then meet_command s else None))))))) ≡ Some (gen order)
     → order.files.net ≢ order.files.cert
-by_name true b c d f w g s order e = absurd (not_run (run_order s) order e)
-by_name false true c d f w g s order e = absurd (not_check (has_names_alone s) (two_files s.names) order e)
+by_name true b c d f w g s order e = absurd (not_run (spread_of s.spread_values) (run_order s) order e)
+by_name false true c d f w g s order e =
+    absurd (not_check (has_spread_at_most s) (spread_of s.spread_values) (two_files s.names) order e)
 by_name false false true d f w g s order e =
     gen_apart s.names order (is_gen (has_names_alone s) (gen_order s.names) order e)
 by_name false false false true f w g s order e = absurd (not_fire s order e)

@@ -4,3 +4,5 @@ pub mod GenLemmas
 pub mod TaskWithoutMemory
 pub mod OrdersWithoutMemory
 pub mod RunWordsLemmas
+pub mod SpreadRunLemmas
+pub mod SpreadOrderLemmas

@@ -3,17 +3,22 @@ use Rattle.std.proofs.Common.{◌≡◌, ℕ, zero, suc, Bool, List, [], ◌∷�
 use Rattle.hyd_io.specs.declared.desk.Openings.{Openings}
 use Rattle.hyd_command_words.specs.CommandGrammar.{TwoFiles, FireOrder, ClosuresOrder, WitnessOrder, MeetOrder}
 use Rattle.hyd_command_words.specs.CommandGrammar.{Order, RunOrder, GenOrder, run, check, gen, fire, closures, witness}
-use Rattle.hyd_command_words.specs.CommandGrammar.{meet}
+use Rattle.hyd_command_words.specs.CommandGrammar.{meet, SpreadRunOrder, SpreadCheckOrder, run_over, check_over}
 use Rattle.hyd_command_answers.specs.DeskContents.{Seen, IsUntouched}
-use Rattle.hyd_command_answers.specs.declared.status.Status.TheVariants.{OutOfMemory}
+use Rattle.hyd_command_answers.specs.declared.status.Status.TheVariants.{OutOfMemory, InputRefused}
 use Rattle.hyd_target_commands.specs.CommandsOnTargets.{DoesFire, DoesClosures}
 use Rattle.hyd_witness_commands.specs.CommandMeet.{DoesMeet}
 use Rattle.hyd_written_witnesses.specs.CommandWitness.{DoesWitness}
+use Rattle.hyd_spread_command.specs.SpreadOrders.{DoesSpreadCheck}
 use Rattle.hyd_cli.specs.Commands.{AnswersPlainOrder, AnswersOrder, DoesRun, DoesCheck, DoesGen, DoesOrder}
+use Rattle.hyd_cli.specs.SpreadRuns.{DoesSpreadRun}
 use Rattle.hyd_check_command.proofs.CheckLemmas.{prints_nothing}
 
 untouched : (same : Seen) → IsUntouched same same
 untouched same = record { files = refl; written = refl; printed = refl }
+
+not_refused : OutOfMemory ≡ InputRefused → ⊥
+not_refused is = cc
 
 plain_nothing : (text : List ℕ) (order : RunOrder) (slack : ℕ) (same : Seen)
     → AnswersPlainOrder text order slack OutOfMemory same same
@@ -96,6 +101,27 @@ meets_nothing order same openings = record {
   once = inl refl;
 }
 
+runs_over_nothing : (order : SpreadRunOrder) (same : Seen) (openings : Openings)
+    → DoesSpreadRun order OutOfMemory same same openings openings
+runs_over_nothing order same openings = record {
+  refused = λ net line why told fault. untouched same;
+  runs = λ net text told none told_too. untouched same;
+  refuses_spread = λ net told none is. absurd (not_refused is);
+  holds = tt;
+  others = λ other apart. refl;
+  once = inl (inl refl);
+}
+
+checks_over_nothing : (order : SpreadCheckOrder) (same : Seen) (openings : Openings)
+    → DoesSpreadCheck order OutOfMemory same same openings openings
+checks_over_nothing order same openings = record {
+  refused = λ net line why told fault. untouched same;
+  checks = λ net text told none told_spread. untouched same;
+  refuses_spread = λ net told none is. absurd (not_refused is);
+  only_prints = prints_nothing same;
+  once = inl (inl refl);
+}
+
 pub orders_nothing : (order : Option Order) (same : Seen) (openings : Openings) (writable : Bool)
     → DoesOrder order OutOfMemory same same openings openings writable
 orders_nothing None same openings writable = (untouched same, refl)
@@ -106,3 +132,5 @@ orders_nothing (Some (fire order)) same openings writable = fires_nothing order 
 orders_nothing (Some (closures order)) same openings writable = closes_nothing order same openings
 orders_nothing (Some (witness order)) same openings writable = searches_nothing order same openings
 orders_nothing (Some (meet order)) same openings writable = meets_nothing order same openings
+orders_nothing (Some (run_over order)) same openings writable = runs_over_nothing order same openings
+orders_nothing (Some (check_over order)) same openings writable = checks_over_nothing order same openings

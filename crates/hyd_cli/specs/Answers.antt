@@ -2,7 +2,8 @@
 -- refused, and what is left whatever the text was.
 -- Source: this program's.
 use Rattle.std.specs.Prelude.{ℕ, List, [], ◌∷◌, Option, Some, None, IsTrue, Bool, ⊤}
-use Rattle.hyd_command_words.specs.CommandGrammar.{Order, run, check, gen, fire, closures, witness, meet}
+use Rattle.hyd_command_words.specs.CommandGrammar.{Order, run, check, gen, fire, closures, witness, meet, run_over}
+use Rattle.hyd_command_words.specs.CommandGrammar.{check_over}
 use Rattle.hyd_cli.specs.WordsAndUsageLine.{usage_line}
 use Rattle.hyd_command_answers.specs.declared.status.Status.{Status}
 use Rattle.hyd_command_answers.specs.declared.status.Status.TheVariants.{OutOfMemory, Usage, ReadFault, WriteFault}
@@ -13,12 +14,14 @@ use Rattle.hyd_target_commands.specs.CommandsOnTargets.{LeavesNet}
 use Rattle.hyd_open_command.specs.PassedOn.{LeavesNaming}
 use Rattle.hyd_check_command.specs.CheckAnswers.{LeavesCheck}
 use Rattle.hyd_written_witnesses.specs.CommandWitness.{LeavesSearch}
+use Rattle.hyd_spread_command.specs.SpreadAnswers.{LeavesOver}
+use Rattle.hyd_spread_command.specs.SpreadChecks.{LeavesCheckOver}
 
 -- ---- names
 
 -- What a command asks of the desk: `run` opens NET and creates CERT, `check` opens both, `gen` creates both, `fire` and
--- `closures` open NET, `witness` opens NET and CERT and creates OUT, and `meet` opens NET and FILE. Words that aren't a
--- command ask for nothing.
+-- `closures` open NET, `witness` opens NET and CERT and creates OUT, and `meet` opens NET and FILE; for a spread its
+-- file is opened too. Words that aren't a command ask for nothing.
 abbrev pub MayUse : (may_open may_create : List ℕ → Bool) → Option Order → Type 0
 MayUse may_open may_create None = ⊤
 MayUse may_open may_create (Some (run order)) = IsTrue (may_open order.files.net) × IsTrue (may_create order.files.cert)
@@ -30,6 +33,10 @@ MayUse may_open may_create (Some (closures order)) = IsTrue (may_open order.net)
 MayUse may_open may_create (Some (witness order)) =
     IsTrue (may_open order.files.net) × IsTrue (may_open order.files.cert) × IsTrue (may_create order.out)
 MayUse may_open may_create (Some (meet order)) = IsTrue (may_open order.net) × IsTrue (may_open order.witness)
+MayUse may_open may_create (Some (run_over order)) = IsTrue (may_open order.run.files.net)
+    × IsTrue (may_open order.spread) × IsTrue (may_create order.run.files.cert)
+MayUse may_open may_create (Some (check_over order)) = IsTrue (may_open order.files.net)
+    × IsTrue (may_open order.spread) × IsTrue (may_open order.files.cert)
 
 -- ---- words that aren't a command
 
@@ -68,3 +75,5 @@ Leaves (Some (fire order)) status before now = LeavesNet status before now
 Leaves (Some (closures order)) status before now = LeavesNet status before now
 Leaves (Some (witness order)) status before now = LeavesSearch status before now
 Leaves (Some (meet order)) status before now = LeavesNet status before now
+Leaves (Some (run_over order)) status before now = LeavesOver status before now
+Leaves (Some (check_over order)) status before now = LeavesCheckOver status before now

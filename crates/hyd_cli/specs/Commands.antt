@@ -7,7 +7,7 @@ use Rattle.hyd_io.specs.DeskBytes.{IsTold}
 use Rattle.hyd_net.specs.declared.refusal_cause.Cause.{Cause}
 use Rattle.hyd_spec_input.specs.Faults.{IsFault, HasNoFault}
 use Rattle.hyd_command_words.specs.CommandGrammar.{RunOrder, GenOrder, TwoFiles, Order, run, check, gen, fire, closures}
-use Rattle.hyd_command_words.specs.CommandGrammar.{witness, meet}
+use Rattle.hyd_command_words.specs.CommandGrammar.{witness, meet, run_over, check_over}
 use Rattle.hyd_command_answers.specs.DeskContents.{Seen, OnlyPrintedSome, ChangesOnly}
 use Rattle.hyd_command_answers.specs.FaultsAndRefusals.{AnswersRefused}
 use Rattle.hyd_command_answers.specs.OpeningsOfRuns.{OpensOnce}
@@ -22,7 +22,9 @@ use Rattle.hyd_check_command.specs.OpenCheckAnswers.{AnswersOpenCheck}
 use Rattle.hyd_target_commands.specs.CommandsOnTargets.{DoesFire, DoesClosures}
 use Rattle.hyd_witness_commands.specs.CommandMeet.{DoesMeet}
 use Rattle.hyd_written_witnesses.specs.CommandWitness.{DoesWitness}
+use Rattle.hyd_spread_command.specs.SpreadOrders.{DoesSpreadCheck}
 use Rattle.hyd_cli.specs.Answers.{AnswersUsage}
+use Rattle.hyd_cli.specs.SpreadRuns.{DoesSpreadRun}
 use Rattle.hyd_cli.specs.GenAnswers.{text_of, AnswersGen, ChangesBoth, CreatesBoth, KeepsCert, KeepsNet}
 use Rattle.hyd_command_answers.specs.declared.status.Status.{Status}
 use Rattle.hyd_command_answers.specs.declared.status.Status.TheVariants.{InputRefused}
@@ -96,3 +98,7 @@ DoesOrder (Some (closures order)) status before now opened opens writable =
 DoesOrder (Some (witness order)) status before now opened opens writable =
     DoesWitness order status before now opened opens
 DoesOrder (Some (meet order)) status before now opened opens writable = DoesMeet order status before now opened opens
+DoesOrder (Some (run_over order)) status before now opened opens writable =
+    DoesSpreadRun order status before now opened opens
+DoesOrder (Some (check_over order)) status before now opened opens writable =
+    DoesSpreadCheck order status before now opened opens

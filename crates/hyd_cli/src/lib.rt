@@ -6,6 +6,7 @@
 
 mod command_gen;
 mod command_run;
+mod command_spread;
 mod help;
 mod program;
 mod run_settings;

@@ -11,12 +11,14 @@ ghost use Rattle.hyd_command_answers.specs.declared.status.Status.TheVariants.{U
 
 use crate::command_gen::generate_network;
 use crate::command_run::run_words;
+use crate::command_spread::run_for_spread;
 use crate::help::read_command;
 use crate::usage::print_usage;
 use hyd_check_command::check_files;
 use hyd_command_answers::{Status, fault_status};
 use hyd_command_words::Command;
 use hyd_io::Desk;
+use hyd_spread_command::check_for_spread;
 use hyd_target_commands::{close_pipes, find_bracket};
 use hyd_witness_commands::meet_file;
 use hyd_written_witnesses::write_witness;
@@ -24,13 +26,17 @@ use std::alloc::Global;
 
 /// Runs the command of the words after the program's name.
 ///
-/// - `run NET CERT [--sweeps N] [--width W] [--tight] [--flows IDS] [--slack N]` reads the network of NET, writes its certificate to
-///   CERT and prints its report. With `--flows` CERT has behind each record two vectors for each link of these names, and
-///   the report a FLOW line for each, behind the lines of a period that begins at a report time. With `--slack` above 0
-///   ends of periods may be open by at most so many seconds, and what is said holds of each history that keeps what it reaches.
-/// - `check NET CERT` reads both, and prints the report of the certificate as far as it is right. Where CERT begins with a
-///   header line of version 4, ends of periods may be open by as many seconds as it says, and what is said holds of each
-///   history that keeps what it reaches.
+/// - `run NET CERT [--sweeps N] [--width W] [--tight] [--flows IDS] [--slack N]` reads the network of NET, writes its
+///   certificate to CERT and prints its report. With `--flows` CERT has behind each record two vectors for each link of
+///   these names, and the report a FLOW line for each, behind the lines of a period that begins at a report time. With
+///   `--slack` above 0 ends of periods may be open by at most so many seconds, and what is said holds of each history
+///   that keeps what it reaches.
+/// - `check NET CERT` reads both, and prints the report of the certificate as far as it is right. Where CERT begins
+///   with a header line of version 4, ends of periods may be open by as many seconds as it says, and what is said holds
+///   of each history that keeps what it reaches.
+/// - `run` and `check` with `--spread FILE` read FILE too: demands, emitters, heads of reservoirs and levels of tanks
+///   are known within limits only, which its rows give. What is said holds of each history of each network within them.
+///   Where FILE has no rows, they do what they do without it.
 /// - `gen SEED JUNCTIONS NET CERT` makes a network, writes it to NET, runs it as `run` does, and prints a summary.
 /// - `fire NET J P [--sweeps N]` reads the network of NET, and prints how much may be drawn at junction J with the
 ///   pressure P there.
@@ -41,19 +47,19 @@ use std::alloc::Global;
 /// - `meet NET FILE` reads both, and prints whether each period of the witness in FILE is met, or the first that isn't.
 ///
 /// Each file is opened or created once at most, but for CERT and OUT of `witness`, which opens the one and creates the
-/// other up to three times in turn. What is created, CERT of a check and of `witness`, and FILE, wait until all memory is
-/// taken that the command needs. `gen` replaces NET before CERT is created, and leaves CERT as it was unless NET holds the
-/// whole text.
+/// other up to three times in turn. What is created, CERT of a check and of `witness`, and FILE of `meet`, wait until
+/// all memory is taken that the command needs. `gen` replaces NET before CERT is created, and leaves CERT as it was
+/// unless NET holds the whole text.
 ///
 /// - `Usage`: the words aren't a command.
-/// - `InputRefused`: the text of the network has a fault (one of more than 64 MiB among them), J is no junction of it, or
-///   a name of `--flows` is no link between two junctions.
+/// - `InputRefused`: the text of the network has a fault (one of more than 64 MiB among them), or that of the spread, J
+///   is no junction of it, or a name of `--flows` is no link between two junctions.
 /// - `Done`: the run finished, the certificate was accepted, the lines of `fire` or `closures` were printed, a witness
 ///   was found, or all periods of one are met.
 /// - `Undecided`, `RoundsSpent`, `Demand`: how a run was stopped; `Demand` of `fire` and `closures` too; `Undecided` of
 ///   `witness` where no period was found for a record, and of `meet` where a period isn't met.
-/// - `CertificateRefused`: the certificate's lines, a record, the part behind one or its END line aren't right, or a line
-///   of a witness.
+/// - `CertificateRefused`: the certificate's lines, a record, the part behind one or its END line aren't right, or a
+///   line of a witness.
 /// - `OutOfMemory`: nothing was created, written or printed.
 /// - `ReadFault`, `WriteFault`, `Stalled`: a call on the desk failed or took nothing. Nothing more was called then.
 pub fn tool<D: Desk>(alloc: Global, words: &[String], desk: &mut D) -> Status
@@ -93,6 +99,8 @@ fn carry_out<D: Desk>(alloc: Global, found: Option<Command<'_>>, desk: &mut D) -
         Some(Command::Closures(words)) => close_pipes(alloc, &words, desk),
         Some(Command::Witness(words)) => write_witness(alloc, &words, desk),
         Some(Command::Meet(words)) => meet_file(alloc, &words, desk),
+        Some(Command::RunOver(words)) => run_for_spread(alloc, &words, desk),
+        Some(Command::CheckOver(words)) => check_for_spread(alloc, &words, desk),
         None => refuse_words(desk),
     }
 }

@@ -8,6 +8,6 @@ mod network_file;
 mod refused_text;
 mod status;
 
-pub use network_file::{Unread, network_told, read_network};
+pub use network_file::{Unread, network_told, read_network, read_text};
 pub use refused_text::{print_refusal, refuse_text};
 pub use status::{Status, fault_status};

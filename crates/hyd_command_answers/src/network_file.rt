@@ -1,6 +1,6 @@
 //! The reading of NET.
 
-ghost use Rattle.std.specs.Prelude.{◌≡◌, ◌⊎◌, ◌<◌, List, ℕ, IsTrue, IfOk, IfErr, IfSome, IfNone, OnOk, length};
+ghost use Rattle.std.specs.Prelude.{◌≡◌, ◌⊎◌, ◌<◌, ◌≤◌, List, ℕ, IsTrue, IfOk, IfErr, IfSome, IfNone, OnOk, length};
 ghost use Rattle.hyd_io.specs.DeskBytes.{IsTold};
 ghost use Rattle.hyd_io.specs.DeskCounts.{with_opened};
 ghost use Rattle.hyd_spec_lines.specs.Lines.{items_of, rows_in};
@@ -28,14 +28,19 @@ pub enum Unread {
     Ended(Status),
 }
 
-/// Opens and reads the whole of NET, at most 64 MiB; there is no text where it is longer. Answers a status where a read
-/// failed or memory ran out.
-fn read_text<D: Desk>(alloc: Global, net: &str, desk: &mut D) -> Result<Option<Vec<u8>>, Status>
-    requires { IsTrue (D.may_open net.now) }
-    ensures text { (text : List ℕ) → IsTold (D.files desk.old) net.now text
+/// Opens and reads the whole of a file, at most 64 MiB; there is no text where it is longer. Answers a status where a
+/// read failed or memory ran out.
+pub fn read_text<D: Desk>(
+    alloc: Global,
+    file: &str,
+    desk: &mut D,
+) -> Result<Option<Vec<u8>>, Status>
+    requires { IsTrue (D.may_open file.now) }
+    ensures text { (text : List ℕ) → IsTold (D.files desk.old) file.now text
         → IfOk result (λ got. IfSome got (λ bytes. bytes.items ≡ text)) }
-    ensures long { (text : List ℕ) → IsTold (D.files desk.old) net.now text
+    ensures long { (text : List ℕ) → IsTold (D.files desk.old) file.now text
         → IfOk result (λ got. IfNone got (LONGEST_TEXT < length text)) }
+    ensures short { IfOk result (λ got. IfSome got (λ bytes. length bytes.items ≤ LONGEST_TEXT)) }
     ensures cause { IfErr result (λ status. HasCause status (D.counts desk.old) (D.counts desk.new)) }
     ensures steady { OnOk result (D.counts desk.new ≡ D.counts desk.old) }
     ensures why { IfErr result (λ status. (status ≡ ReadFault) ⊎ (status ≡ OutOfMemory)) }
@@ -43,7 +48,7 @@ fn read_text<D: Desk>(alloc: Global, net: &str, desk: &mut D) -> Result<Option<V
         (seen D.files D.written D.printed desk.old) (seen D.files D.written D.printed desk.new) }
     ensures opened { D.openings desk.new ≡ with_opened (D.openings desk.old) }
 {
-    if desk.open(net).is_err() {
+    if desk.open(file).is_err() {
         return Err(Status::ReadFault);
     }
     match read_all(alloc, desk, LONGEST_TEXT) {

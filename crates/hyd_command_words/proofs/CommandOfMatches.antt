@@ -4,8 +4,9 @@ use Rattle.std.proofs.Common.{None, arith, refl, sym, ap, subst, String, string_
 use Rattle.std.specs.List.{list_all}
 use Rattle.std.proofs.lemmas.Str.{IsUtf8-string_bytes}
 use Rattle.clap.specs.Kinds.{Kinds, or_else}
-use Rattle.clap.specs.Faults.{defaults_fault, fault_of, given_default_fault, settle_fault, walk_fault}
-use Rattle.clap.specs.Simple.{built, matches_of}
+use Rattle.clap.specs.Faults.{defaults_fault, fault_of, given_default_fault, is_simple_and_free, settle_fault}
+use Rattle.clap.specs.Faults.{walk_fault}
+use Rattle.clap.specs.Simple.{App, HasMatchesOf, built, matches_of}
 use Rattle.clap.proofs.FaultLemmas.{leaf_fault}
 use Rattle.clap.proofs.SimpleLemmas.{is_nil}
 use Rattle.clap.proofs.WalkLemmas.{both}
@@ -24,6 +25,16 @@ use Rattle.hyd_command_words.proofs.DashBehindFlows.{dash_is_wrong}
 use Rattle.hyd_command_words.proofs.WalkGivesCommands.{AreTexts, simulated}
 
 -- ---- clap's faults and matches at these words
+
+-- what the command of clap finds is what it should
+pub found_is : (a : App) (words : List Word) (m : ArgMatches) → a ≡ words_command → HasMatchesOf a words m
+    → (is_simple_and_free a ≡ true → fault_of a words ≡ [])
+    → (fault_of words_command words ≡ []) × (rows_of (found_of m) ≡ matches_of words_command words)
+found_is a words m is matches kinds =
+    let faultless : is_simple_and_free words_command ≡ true → fault_of words_command words ≡ [] =
+    subst (λ (b : App). is_simple_and_free b ≡ true → fault_of b words ≡ []) is kinds in
+    let found : HasMatchesOf words_command words m = subst (λ (b : App). HasMatchesOf b words m) is matches in
+    (faultless refl, (found refl).0)
 
 same_both : {X : Type 0} (b : Bool) (x : X) → cond b x x ≡ x
 same_both true x = refl

@@ -5,8 +5,8 @@ use Rattle.std.proofs.Common.{map, length, get_or, arith, drop-cons, String, str
 use Rattle.std.specs.List.{list_any, starts_with}
 use lib.Pointwise.{bytes_decides}
 use Rattle.hyd_lemmas.proofs.BooleanTests.{or-false, or-right}
-use Rattle.hyd_command_words.specs.OptionsAndNames.{Word, Part, Kind, sweeps, width, slack, flows, tight, name, wrong}
-use Rattle.hyd_command_words.specs.OptionsAndNames.{says}
+use Rattle.hyd_command_words.specs.OptionsAndNames.{Word, Part, Kind, sweeps, width, slack, flows, spread}
+use Rattle.hyd_command_words.specs.OptionsAndNames.{tight, name, wrong, says}
 use Rattle.hyd_command_words.specs.OptionsAndNames.{ends, is_name, is_wrong, kind_of, option_kind}
 use Rattle.hyd_command_words.specs.OptionsAndNames.{with_value, parts_from, parts_waiting}
 use Rattle.hyd_command_words.specs.ClapParser.{has_dash_behind_flows}
@@ -112,11 +112,13 @@ module _ (rest : List Word) where
       (either (bytes_eq word (codes "--width")) _ _ (some width)
       (either (bytes_eq word (codes "--slack")) _ _ (some slack)
       (either (bytes_eq word (codes "--flows")) _ _ (some flows)
+      (either (bytes_eq word (codes "--spread")) _ _ (some spread)
       (either (starts_with nat_eq word (codes "--sweeps=")) _ _ (says_wrong none (sweeps (drop 9 word)))
       (either (starts_with nat_eq word (codes "--width=")) _ _ (says_wrong none (width (drop 8 word)))
       (either (starts_with nat_eq word (codes "--slack=")) _ _ (says_wrong none (slack (drop 8 word)))
       (either (starts_with nat_eq word (codes "--flows=")) _ _ (says_wrong none (flows (drop 8 word)))
-      (says_wrong none wrong)))))))))))
+      (either (starts_with nat_eq word (codes "--spread=")) _ _ (says_wrong none (spread (drop 9 word)))
+      (says_wrong none wrong)))))))))))))
 
   flows_wrong : HasWrong rest (Some flows) → HasWrong (codes "--flows" ∷ rest) None
   unfolding kind_of

@@ -8,7 +8,7 @@ use Rattle.std.specs.Char.{encode_utf8}
 use Rattle.std.specs.Str.{chars}
 use Rattle.std.proofs.lemmas.Str.{encodes-chars}
 use Rattle.clap.specs.Lexer.{long_of, short_of, has_byte, name_and_value}
-use Rattle.hyd_command_words.specs.OptionsAndNames.{Word, Kind, sweeps, width, slack, flows, tight, name, wrong}
+use Rattle.hyd_command_words.specs.OptionsAndNames.{Word, Kind, sweeps, width, slack, flows, spread, tight, name, wrong}
 use Rattle.hyd_command_words.specs.OptionsAndNames.{says, wants}
 use Rattle.hyd_command_words.specs.OptionsAndNames.{begins_with_dash, kind_of, option_kind, ends}
 use lib.Pointwise.{bytes_decides}
@@ -103,20 +103,21 @@ abbrev valued_kind : Word → Word → Kind
 valued_kind n v = cond (bytes_eq (codes "sweeps") n) (says (sweeps v))
     (cond (bytes_eq (codes "width") n) (says (width v))
     (cond (bytes_eq (codes "slack") n) (says (slack v))
-    (cond (bytes_eq (codes "flows") n) (says (flows v)) (says wrong))))
+    (cond (bytes_eq (codes "flows") n) (says (flows v))
+    (cond (bytes_eq (codes "spread") n) (says (spread v)) (says wrong)))))
 
 -- what an option is, by its name and the value behind `=`
-abbrev pub kind_by : (is_tight is_sweeps is_width is_slack is_flows : Bool) → Option Word → Kind
-kind_by is_tight is_sweeps is_width is_slack is_flows None = cond is_tight (says tight)
+abbrev pub kind_by : (is_tight is_sweeps is_width is_slack is_flows is_spread : Bool) → Option Word → Kind
+kind_by is_tight is_sweeps is_width is_slack is_flows is_spread None = cond is_tight (says tight)
     (cond is_sweeps (wants sweeps) (cond is_width (wants width) (cond is_slack (wants slack)
-    (cond is_flows (wants flows) (says wrong)))))
-kind_by is_tight is_sweeps is_width is_slack is_flows (Some v) = cond is_tight (says wrong)
+    (cond is_flows (wants flows) (cond is_spread (wants spread) (says wrong))))))
+kind_by is_tight is_sweeps is_width is_slack is_flows is_spread (Some v) = cond is_tight (says wrong)
     (cond is_sweeps (says (sweeps v)) (cond is_width (says (width v)) (cond is_slack (says (slack v))
-    (cond is_flows (says (flows v)) (says wrong)))))
+    (cond is_flows (says (flows v)) (cond is_spread (says (spread v)) (says wrong))))))
 
 abbrev pub named_kind : Word → Option Word → Kind
 named_kind n v = kind_by (bytes_eq (codes "tight") n) (bytes_eq (codes "sweeps") n) (bytes_eq (codes "width") n)
-    (bytes_eq (codes "slack") n) (bytes_eq (codes "flows") n) v
+    (bytes_eq (codes "slack") n) (bytes_eq (codes "flows") n) (bytes_eq (codes "spread") n) v
 
 kind_alone : (t : Word) → has_byte 61 t ≡ false → option_kind (45 ∷ 45 ∷ t) ≡ named_kind t None
 kind_alone t e = λ i. cond (same_swapped t (codes "tight") i) (says tight)
@@ -124,10 +125,12 @@ kind_alone t e = λ i. cond (same_swapped t (codes "tight") i) (says tight)
     (cond (same_swapped t (codes "width") i) (wants width)
     (cond (same_swapped t (codes "slack") i) (wants slack)
     (cond (same_swapped t (codes "flows") i) (wants flows)
+    (cond (same_swapped t (codes "spread") i) (wants spread)
     (cond (no_key t (codes "sweeps") e i) (says (sweeps (drop 7 t)))
     (cond (no_key t (codes "width") e i) (says (width (drop 6 t)))
     (cond (no_key t (codes "slack") e i) (says (slack (drop 6 t)))
-    (cond (no_key t (codes "flows") e i) (says (flows (drop 6 t))) (says wrong)))))))))
+    (cond (no_key t (codes "flows") e i) (says (flows (drop 6 t)))
+    (cond (no_key t (codes "spread") e i) (says (spread (drop 7 t))) (says wrong)))))))))))
 
 sweeps_at : (n u : Word) (other : Kind) (b : Bool) → bytes_eq (codes "sweeps") n ≡ b
     → cond b (says (sweeps (drop 7 (n ++ 61 ∷ u)))) other ≡ cond b (says (sweeps u)) other
@@ -153,6 +156,12 @@ flows_at n u other true e =
     ap (λ (m : Word). says (flows (drop 6 (m ++ 61 ∷ u)))) (sym ((bytes_decides (codes "flows") n).0 e))
 flows_at n u other false e = refl
 
+spread_at : (n u : Word) (other : Kind) (b : Bool) → bytes_eq (codes "spread") n ≡ b
+    → cond b (says (spread (drop 7 (n ++ 61 ∷ u)))) other ≡ cond b (says (spread u)) other
+spread_at n u other true e =
+    ap (λ (m : Word). says (spread (drop 7 (m ++ 61 ∷ u)))) (sym ((bytes_decides (codes "spread") n).0 e))
+spread_at n u other false e = refl
+
 kind_with_value : (n u : Word) → has_byte 61 n ≡ false → option_kind (45 ∷ 45 ∷ (n ++ 61 ∷ u)) ≡ named_kind n (Some u)
 kind_with_value n u e =
     (λ i. cond (not_key n u (codes "tight") refl i) (says tight)
@@ -160,17 +169,22 @@ kind_with_value n u e =
     (cond (not_key n u (codes "width") refl i) (wants width)
     (cond (not_key n u (codes "slack") refl i) (wants slack)
     (cond (not_key n u (codes "flows") refl i) (wants flows)
+    (cond (not_key n u (codes "spread") refl i) (wants spread)
     (cond (key_then_equals n u (codes "sweeps") e refl i) (says (sweeps (drop 7 (n ++ 61 ∷ u))))
     (cond (key_then_equals n u (codes "width") e refl i) (says (width (drop 6 (n ++ 61 ∷ u))))
     (cond (key_then_equals n u (codes "slack") e refl i) (says (slack (drop 6 (n ++ 61 ∷ u))))
-    (cond (key_then_equals n u (codes "flows") e refl i) (says (flows (drop 6 (n ++ 61 ∷ u)))) (says wrong))))))))))
+    (cond (key_then_equals n u (codes "flows") e refl i) (says (flows (drop 6 (n ++ 61 ∷ u))))
+    (cond (key_then_equals n u (codes "spread") e refl i) (says (spread (drop 7 (n ++ 61 ∷ u))))
+    (says wrong))))))))))))
     ∙ sweeps_at n u _ (bytes_eq (codes "sweeps") n) refl
     ∙ ap (λ (k : Kind). cond (bytes_eq (codes "sweeps") n) (says (sweeps u)) k)
     (width_at n u _ (bytes_eq (codes "width") n) refl
     ∙ ap (λ (k : Kind). cond (bytes_eq (codes "width") n) (says (width u)) k)
     (slack_at n u _ (bytes_eq (codes "slack") n) refl
     ∙ ap (λ (k : Kind). cond (bytes_eq (codes "slack") n) (says (slack u)) k)
-    (flows_at n u (says wrong) (bytes_eq (codes "flows") n) refl)))
+    (flows_at n u _ (bytes_eq (codes "flows") n) refl
+    ∙ ap (λ (k : Kind). cond (bytes_eq (codes "flows") n) (says (flows u)) k)
+    (spread_at n u (says wrong) (bytes_eq (codes "spread") n) refl))))
     ∙ no_value (bytes_eq (codes "tight") n) refl
   where
     no_value : (b : Bool) → bytes_eq (codes "tight") n ≡ b → valued_kind n u ≡ cond b (says wrong) (valued_kind n u)
@@ -256,10 +270,13 @@ one_dash x xs e u =
     (cond (e i && bytes_eq xs (codes "width")) (wants width)
     (cond (e i && bytes_eq xs (codes "slack")) (wants slack)
     (cond (e i && bytes_eq xs (codes "flows")) (wants flows)
+    (cond (e i && bytes_eq xs (codes "spread")) (wants spread)
     (cond (swapped i && starts_with nat_eq xs (codes "sweeps=")) (says (sweeps (drop 9 word)))
     (cond (swapped i && starts_with nat_eq xs (codes "width=")) (says (width (drop 8 word)))
     (cond (swapped i && starts_with nat_eq xs (codes "slack=")) (says (slack (drop 8 word)))
-    (cond (swapped i && starts_with nat_eq xs (codes "flows=")) (says (flows (drop 8 word))) (says wrong)))))))))) in
+    (cond (swapped i && starts_with nat_eq xs (codes "flows=")) (says (flows (drop 8 word)))
+    (cond (swapped i && starts_with nat_eq xs (codes "spread=")) (says (spread (drop 9 word)))
+    (says wrong)))))))))))) in
     (x, xs, letter.0, (ap (λ (b : Bool). b && bytes_eq xs []) e, rw e refl, rw e refl, letter.1, kind, refl))
 
 -- an option without a value is its whole word

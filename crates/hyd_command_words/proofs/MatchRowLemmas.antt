@@ -11,7 +11,7 @@ use Rattle.clap.specs.declared.parser.matches.ValueSource.{ValueSource}
 use Rattle.clap.specs.declared.parser.matches.ValueSource.TheVariants.{CommandLine}
 use Rattle.clap.specs.declared.builder.value_parser.Reading.TheVariants.{AsWritten}
 use Rattle.hyd_command_words.proofs.SaidLemmas.{joined}
-use Rattle.hyd_command_words.specs.OptionsAndNames.{Word, said_by, sweeps, width, slack, flows, tight, name}
+use Rattle.hyd_command_words.specs.OptionsAndNames.{Word, said_by, sweeps, width, slack, flows, spread, tight, name}
 use Rattle.hyd_command_words.specs.ClapParser.{all_values, words_command, said_of}
 use lib.Pointwise.{bytes_decides}
 
@@ -74,6 +74,7 @@ sweeps_used v rows = λ i. record {
   width_values = kept (codes "sweeps") AsWritten CommandLine (v ∷ []) rows (codes "width") refl i;
   slack_values = kept (codes "sweeps") AsWritten CommandLine (v ∷ []) rows (codes "slack") refl i;
   flows_values = kept (codes "sweeps") AsWritten CommandLine (v ∷ []) rows (codes "flows") refl i;
+  spread_values = kept (codes "sweeps") AsWritten CommandLine (v ∷ []) rows (codes "spread") refl i;
   tight_count = count_kept (codes "sweeps") AsWritten CommandLine (v ∷ []) rows refl i;
   names = kept (codes "sweeps") AsWritten CommandLine (v ∷ []) rows (codes "names") refl i;
   has_wrong = false;
@@ -86,6 +87,7 @@ width_used v rows = λ i. record {
   width_values = same_id (codes "width") AsWritten CommandLine (v ∷ []) rows i;
   slack_values = kept (codes "width") AsWritten CommandLine (v ∷ []) rows (codes "slack") refl i;
   flows_values = kept (codes "width") AsWritten CommandLine (v ∷ []) rows (codes "flows") refl i;
+  spread_values = kept (codes "width") AsWritten CommandLine (v ∷ []) rows (codes "spread") refl i;
   tight_count = count_kept (codes "width") AsWritten CommandLine (v ∷ []) rows refl i;
   names = kept (codes "width") AsWritten CommandLine (v ∷ []) rows (codes "names") refl i;
   has_wrong = false;
@@ -98,6 +100,7 @@ slack_used v rows = λ i. record {
   width_values = kept (codes "slack") AsWritten CommandLine (v ∷ []) rows (codes "width") refl i;
   slack_values = same_id (codes "slack") AsWritten CommandLine (v ∷ []) rows i;
   flows_values = kept (codes "slack") AsWritten CommandLine (v ∷ []) rows (codes "flows") refl i;
+  spread_values = kept (codes "slack") AsWritten CommandLine (v ∷ []) rows (codes "spread") refl i;
   tight_count = count_kept (codes "slack") AsWritten CommandLine (v ∷ []) rows refl i;
   names = kept (codes "slack") AsWritten CommandLine (v ∷ []) rows (codes "names") refl i;
   has_wrong = false;
@@ -110,8 +113,22 @@ flows_used v rows = λ i. record {
   width_values = kept (codes "flows") AsWritten CommandLine (v ∷ []) rows (codes "width") refl i;
   slack_values = kept (codes "flows") AsWritten CommandLine (v ∷ []) rows (codes "slack") refl i;
   flows_values = same_id (codes "flows") AsWritten CommandLine (v ∷ []) rows i;
+  spread_values = kept (codes "flows") AsWritten CommandLine (v ∷ []) rows (codes "spread") refl i;
   tight_count = count_kept (codes "flows") AsWritten CommandLine (v ∷ []) rows refl i;
   names = kept (codes "flows") AsWritten CommandLine (v ∷ []) rows (codes "names") refl i;
+  has_wrong = false;
+}
+
+pub spread_used : (v : Word) (rows : List Row)
+    → said_of (used_by (codes "spread") (v ∷ []) rows) ≡ joined (said_of rows) (said_by (spread v ∷ []))
+spread_used v rows = λ i. record {
+  sweeps_values = kept (codes "spread") AsWritten CommandLine (v ∷ []) rows (codes "sweeps") refl i;
+  width_values = kept (codes "spread") AsWritten CommandLine (v ∷ []) rows (codes "width") refl i;
+  slack_values = kept (codes "spread") AsWritten CommandLine (v ∷ []) rows (codes "slack") refl i;
+  flows_values = kept (codes "spread") AsWritten CommandLine (v ∷ []) rows (codes "flows") refl i;
+  spread_values = same_id (codes "spread") AsWritten CommandLine (v ∷ []) rows i;
+  tight_count = count_kept (codes "spread") AsWritten CommandLine (v ∷ []) rows refl i;
+  names = kept (codes "spread") AsWritten CommandLine (v ∷ []) rows (codes "names") refl i;
   has_wrong = false;
 }
 
@@ -122,6 +139,7 @@ name_used v rows = λ i. record {
   width_values = kept (codes "names") AsWritten CommandLine (v ∷ []) rows (codes "width") refl i;
   slack_values = kept (codes "names") AsWritten CommandLine (v ∷ []) rows (codes "slack") refl i;
   flows_values = kept (codes "names") AsWritten CommandLine (v ∷ []) rows (codes "flows") refl i;
+  spread_values = kept (codes "names") AsWritten CommandLine (v ∷ []) rows (codes "spread") refl i;
   tight_count = count_kept (codes "names") AsWritten CommandLine (v ∷ []) rows refl i;
   names = same_id (codes "names") AsWritten CommandLine (v ∷ []) rows i;
   has_wrong = false;
@@ -138,6 +156,7 @@ tight_used rows = λ i. record {
   width_values = kept (codes "tight") AsWritten CommandLine ([] ∷ []) rows (codes "width") refl i;
   slack_values = kept (codes "tight") AsWritten CommandLine ([] ∷ []) rows (codes "slack") refl i;
   flows_values = kept (codes "tight") AsWritten CommandLine ([] ∷ []) rows (codes "flows") refl i;
+  spread_values = kept (codes "tight") AsWritten CommandLine ([] ∷ []) rows (codes "spread") refl i;
   tight_count = (ap (λ (xs : List Text). length xs) (same_id (codes "tight") AsWritten CommandLine ([] ∷ []) rows)
       ∙ one_more (all_values (codes "tight") rows) []) i;
   names = kept (codes "tight") AsWritten CommandLine ([] ∷ []) rows (codes "names") refl i;

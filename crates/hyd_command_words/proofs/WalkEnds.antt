@@ -118,6 +118,7 @@ nothing_more rows =
       width_values = sym (append-nil s.width_values) i;
       slack_values = sym (append-nil s.slack_values) i;
       flows_values = sym (append-nil s.flows_values) i;
+      spread_values = sym (append-nil s.spread_values) i;
       tight_count = count i;
       names = sym (append-nil s.names) i;
       has_wrong = false;

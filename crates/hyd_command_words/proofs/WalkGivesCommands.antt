@@ -1,5 +1,5 @@
 -- clap's walk over words gives the commands of what they say.
-use Rattle.std.proofs.Common.{◌≡◌, ◌⊎◌, ◌∙◌, ℕ, ◌==◌, not, ◌&&◌, ◌||◌, Bool, true, false, cond, List, [], ◌∷◌, ◌++◌}
+use Rattle.std.proofs.Common.{◌≡◌, ◌⊎◌, ◌∙◌, ◌==◌, not, ◌&&◌, ◌||◌, Bool, true, false, cond, List, [], ◌∷◌, ◌++◌}
 use Rattle.std.proofs.Common.{length, Option, Some, None, IsUtf8, arith, refl, sym, ap, subst, inl, inr, codes}
 use Rattle.std.proofs.Common.{bytes_eq, option_map, option_and_then, ne_eqb, true≢false}
 use lib.Pointwise.{bytes_decides}
@@ -9,18 +9,20 @@ use Rattle.hyd_command_words.specs.ClapParser.{said_of, has_dash_behind_flows}
 use Rattle.clap.specs.Walk.{Held, Row, Rule, Step, Text, Waiting, Walk, after_flag, after_step, arg_by_id, idle}
 use Rattle.clap.specs.Walk.{long_met, next, option, plain_word, positional, settled_rows}
 use Rattle.hyd_num.specs.Numeral.{is_numeral}
-use Rattle.hyd_command_words.specs.OptionsAndNames.{Word, Part, Kind, Said, sweeps, width, slack, flows, tight, name, wrong}
+use Rattle.hyd_command_words.specs.OptionsAndNames.{Word, Part, Kind, Said, sweeps, width, slack, flows, spread}
+use Rattle.hyd_command_words.specs.OptionsAndNames.{tight, name, wrong}
 use Rattle.hyd_command_words.specs.OptionsAndNames.{says}
 use Rattle.hyd_command_words.specs.OptionsAndNames.{begins_with_dash}
 use Rattle.hyd_command_words.specs.OptionsAndNames.{kind_of, parts_from, parts_waiting, said, said_by}
 use Rattle.hyd_command_words.specs.CommandGrammar.{RunOrder, has_names_alone, is_sound, number_within, width_in_ticks}
 use Rattle.hyd_command_words.specs.CommandGrammar.{once, default_rounds, default_width, default_slack, slack_of}
-use Rattle.hyd_command_words.specs.CommandGrammar.{rounds_of}
-use Rattle.hyd_command_words.specs.CommandGrammar.{width_of, run, run_command, fire_command, closures_command}
-use Rattle.hyd_command_words.specs.CommandGrammar.{has_rounds_at_most}
+use Rattle.hyd_command_words.specs.CommandGrammar.{rounds_of, spread_of, file_name, two_files}
+use Rattle.hyd_command_words.specs.CommandGrammar.{width_of, run_order, run_with, run_command, check_command}
+use Rattle.hyd_command_words.specs.CommandGrammar.{fire_command, closures_command}
+use Rattle.hyd_command_words.specs.CommandGrammar.{has_rounds_at_most, has_spread_at_most}
 use Rattle.hyd_command_words.proofs.SaidLemmas.{joined}
-use Rattle.hyd_command_words.proofs.MatchRowLemmas.{rules, used_by, sweeps_used, width_used, slack_used, flows_used, name_used}
-use Rattle.hyd_command_words.proofs.MatchRowLemmas.{tight_used}
+use Rattle.hyd_command_words.proofs.MatchRowLemmas.{rules, used_by, sweeps_used, width_used, slack_used, flows_used}
+use Rattle.hyd_command_words.proofs.MatchRowLemmas.{spread_used, name_used, tight_used}
 use Rattle.hyd_command_words.proofs.DashBehindFlows.{behind_word, without_flows}
 use Rattle.hyd_command_words.proofs.KindsOfWords.{Lexed, closing, plain, short, long, IsPlain, IsLong, and_false}
 use Rattle.hyd_command_words.proofs.KindsOfWords.{kind_by}
@@ -42,24 +44,28 @@ pub data Valued : Type 0 where
   of_width : Valued
   of_slack : Valued
   of_flows : Valued
+  of_spread : Valued
 
 abbrev pub id_of : Valued → Text
 id_of of_sweeps = codes "sweeps"
 id_of of_width = codes "width"
 id_of of_slack = codes "slack"
 id_of of_flows = codes "flows"
+id_of of_spread = codes "spread"
 
 abbrev pub make_of : Valued → Word → Part
 make_of of_sweeps value = sweeps value
 make_of of_width value = width value
 make_of of_slack value = slack value
 make_of of_flows value = flows value
+make_of of_spread value = spread value
 
 abbrev pub is_flows : Valued → Bool
 is_flows of_sweeps = false
 is_flows of_width = false
 is_flows of_slack = false
 is_flows of_flows = true
+is_flows of_spread = false
 
 abbrev pub unvalued : Valued → Pending
 unvalued o = Some (id_of o, [])
@@ -82,20 +88,23 @@ unvalued_faults of_sweeps rows = tt
 unvalued_faults of_width rows = tt
 unvalued_faults of_slack rows = tt
 unvalued_faults of_flows rows = tt
+unvalued_faults of_spread rows = tt
 
 -- ---- an option by its name
 
-abbrev pub pick : (is_tight is_sweeps is_width is_slack is_flows : Bool) → Option Rule
-pick is_tight is_sweeps is_width is_slack is_flows = cond (is_tight || false) (arg_by_id rules (codes "tight"))
+abbrev pub pick : (is_tight is_sweeps is_width is_slack is_flows is_spread : Bool) → Option Rule
+pick is_tight is_sweeps is_width is_slack is_flows is_spread =
+    cond (is_tight || false) (arg_by_id rules (codes "tight"))
     (cond (is_sweeps || false) (arg_by_id rules (codes "sweeps"))
     (cond (is_width || false) (arg_by_id rules (codes "width"))
     (cond (is_slack || false) (arg_by_id rules (codes "slack"))
-    (cond (is_flows || false) (arg_by_id rules (codes "flows")) None))))
+    (cond (is_flows || false) (arg_by_id rules (codes "flows"))
+    (cond (is_spread || false) (arg_by_id rules (codes "spread")) None)))))
 
 -- the option of this name
 abbrev pub picked : Word → Option Rule
 picked n = pick (bytes_eq (codes "tight") n) (bytes_eq (codes "sweeps") n) (bytes_eq (codes "width") n)
-    (bytes_eq (codes "slack") n) (bytes_eq (codes "flows") n)
+    (bytes_eq (codes "slack") n) (bytes_eq (codes "flows") n) (bytes_eq (codes "spread") n)
 
 module _ (rows : List Row) (p : Pending) (waiting : Waiting) (word : Word) where
   abbrev met_by : Option Rule → Option Word → Held × Step
@@ -115,81 +124,93 @@ module _ (rows : List Row) (p : Pending) (waiting : Waiting) (word : Word) where
   long_step k = step_from rows p waiting word _ _ (long_met_is rows p waiting word k)
 
   -- where no option waits
-  free_long : (a b c d g : Bool) (v : Option Word) (rest : List Word) → IsWhole rows p → Free rest → Waits rest
+  free_long : (a b c d g h : Bool) (v : Option Word) (rest : List Word) → IsWhole rows p → Free rest → Waits rest
       → has_dash_behind_flows false rest ≡ false → (g ≡ true → v ≡ None → has_dash_behind_flows true rest ≡ false)
-      → turn (at false rows p waiting) word ≡ turn_by (pick a b c d g) v
-      → step (at false rows p waiting) word ≡ step_by (pick a b c d g) v
+      → turn (at false rows p waiting) word ≡ turn_by (pick a b c d g h) v
+      → step (at false rows p waiting) word ≡ step_by (pick a b c d g h) v
       → Comes (at false rows p waiting) (word ∷ rest)
-      (joined (seen rows p) (said_by (parts_from (kind_by a b c d g v) rest (parts_waiting rest))))
-  free_long true b c d g None rest whole f q after here t s =
+      (joined (seen rows p) (said_by (parts_from (kind_by a b c d g h v) rest (parts_waiting rest))))
+  free_long true b c d g h None rest whole f q after here t s =
       go_on _ (at false (used_by (codes "tight") [] (settled_rows rules p rows)) None idle) word rest
       (joined (seen rows p) (said_by (tight ∷ parts_waiting rest None)))
       (t ∙ (λ i. or_else (or_else (whole i) []) [])) s
       (next_part _ rest (seen rows p) _ tight (parts_waiting rest None) (tight_used (settled_rows rules p rows))
       (f (used_by (codes "tight") [] (settled_rows rules p rows)) None idle (λ w h. refl) refl))
-  free_long true b c d g (Some v) rest whole f q after here t s =
+  free_long true b c d g h (Some v) rest whole f q after here t s =
       wrong_here _ word rest (seen rows p) (parts_waiting rest None) (subst IsFault (sym t) tt) refl
-  free_long false true c d g None rest whole f q after here t s =
+  free_long false true c d g h None rest whole f q after here t s =
       go_on _ (at false (settled_rows rules p rows) (unvalued of_sweeps) (option (codes "sweeps"))) word rest
       (joined (seen rows p) (said_by (parts_waiting rest (Some (make_of of_sweeps)))))
       (t ∙ (λ i. or_else (whole i) [])) s (q of_sweeps after (settled_rows rules p rows))
-  free_long false true c d g (Some v) rest whole f q after here t s =
+  free_long false true c d g h (Some v) rest whole f q after here t s =
       go_on _ (at false (used_by (codes "sweeps") (v ∷ []) (settled_rows rules p rows)) None idle) word rest
       (joined (seen rows p) (said_by (sweeps v ∷ parts_waiting rest None)))
       (t ∙ (λ i. or_else (or_else (whole i) []) [])) s
       (next_part _ rest (seen rows p) _ (sweeps v) (parts_waiting rest None) (sweeps_used v (settled_rows rules p rows))
       (f (used_by (codes "sweeps") (v ∷ []) (settled_rows rules p rows)) None idle (λ w h. refl) refl))
-  free_long false false true d g None rest whole f q after here t s =
+  free_long false false true d g h None rest whole f q after here t s =
       go_on _ (at false (settled_rows rules p rows) (unvalued of_width) (option (codes "width"))) word rest
       (joined (seen rows p) (said_by (parts_waiting rest (Some (make_of of_width)))))
       (t ∙ (λ i. or_else (whole i) [])) s (q of_width after (settled_rows rules p rows))
-  free_long false false true d g (Some v) rest whole f q after here t s =
+  free_long false false true d g h (Some v) rest whole f q after here t s =
       go_on _ (at false (used_by (codes "width") (v ∷ []) (settled_rows rules p rows)) None idle) word rest
       (joined (seen rows p) (said_by (width v ∷ parts_waiting rest None)))
       (t ∙ (λ i. or_else (or_else (whole i) []) [])) s
       (next_part _ rest (seen rows p) _ (width v) (parts_waiting rest None) (width_used v (settled_rows rules p rows))
       (f (used_by (codes "width") (v ∷ []) (settled_rows rules p rows)) None idle (λ w h. refl) refl))
-  free_long false false false true g None rest whole f q after here t s =
+  free_long false false false true g h None rest whole f q after here t s =
       go_on _ (at false (settled_rows rules p rows) (unvalued of_slack) (option (codes "slack"))) word rest
       (joined (seen rows p) (said_by (parts_waiting rest (Some (make_of of_slack)))))
       (t ∙ (λ i. or_else (whole i) [])) s (q of_slack after (settled_rows rules p rows))
-  free_long false false false true g (Some v) rest whole f q after here t s =
+  free_long false false false true g h (Some v) rest whole f q after here t s =
       go_on _ (at false (used_by (codes "slack") (v ∷ []) (settled_rows rules p rows)) None idle) word rest
       (joined (seen rows p) (said_by (slack v ∷ parts_waiting rest None)))
       (t ∙ (λ i. or_else (or_else (whole i) []) [])) s
       (next_part _ rest (seen rows p) _ (slack v) (parts_waiting rest None) (slack_used v (settled_rows rules p rows))
       (f (used_by (codes "slack") (v ∷ []) (settled_rows rules p rows)) None idle (λ w h. refl) refl))
-  free_long false false false false true None rest whole f q after here t s =
+  free_long false false false false true h None rest whole f q after here t s =
       go_on _ (at false (settled_rows rules p rows) (unvalued of_flows) (option (codes "flows"))) word rest
       (joined (seen rows p) (said_by (parts_waiting rest (Some (make_of of_flows)))))
       (t ∙ (λ i. or_else (whole i) [])) s (q of_flows (here refl refl) (settled_rows rules p rows))
-  free_long false false false false true (Some v) rest whole f q after here t s =
+  free_long false false false false true h (Some v) rest whole f q after here t s =
       go_on _ (at false (used_by (codes "flows") (v ∷ []) (settled_rows rules p rows)) None idle) word rest
       (joined (seen rows p) (said_by (flows v ∷ parts_waiting rest None)))
       (t ∙ (λ i. or_else (or_else (whole i) []) [])) s
       (next_part _ rest (seen rows p) _ (flows v) (parts_waiting rest None) (flows_used v (settled_rows rules p rows))
       (f (used_by (codes "flows") (v ∷ []) (settled_rows rules p rows)) None idle (λ w h. refl) refl))
-  free_long false false false false false None rest whole f q after here t s =
+  free_long false false false false false true None rest whole f q after here t s =
+      go_on _ (at false (settled_rows rules p rows) (unvalued of_spread) (option (codes "spread"))) word rest
+      (joined (seen rows p) (said_by (parts_waiting rest (Some (make_of of_spread)))))
+      (t ∙ (λ i. or_else (whole i) [])) s (q of_spread after (settled_rows rules p rows))
+  free_long false false false false false true (Some v) rest whole f q after here t s =
+      go_on _ (at false (used_by (codes "spread") (v ∷ []) (settled_rows rules p rows)) None idle) word rest
+      (joined (seen rows p) (said_by (spread v ∷ parts_waiting rest None)))
+      (t ∙ (λ i. or_else (or_else (whole i) []) [])) s
+      (next_part _ rest (seen rows p) _ (spread v) (parts_waiting rest None) (spread_used v (settled_rows rules p rows))
+      (f (used_by (codes "spread") (v ∷ []) (settled_rows rules p rows)) None idle (λ w h. refl) refl))
+  free_long false false false false false false None rest whole f q after here t s =
       wrong_here _ word rest (seen rows p) (parts_waiting rest None) (subst IsFault (sym t) tt) refl
-  free_long false false false false false (Some v) rest whole f q after here t s =
+  free_long false false false false false false (Some v) rest whole f q after here t s =
       wrong_here _ word rest (seen rows p) (parts_waiting rest None) (subst IsFault (sym t) tt) refl
 
 -- where an option waits
-pub waits_long : (a b c d g : Bool) (v : Option Word) (o : Valued) (rows : List Row)
-    → IsFault (long_fault rules false (pick a b c d g) v (held rows (unvalued o)))
-waits_long true b c d g None o rows = first_faults _ _ (unvalued_faults o rows)
-waits_long true b c d g (Some v) o rows = tt
-waits_long false true c d g None o rows = unvalued_faults o rows
-waits_long false true c d g (Some v) o rows = first_faults _ _ (unvalued_faults o rows)
-waits_long false false true d g None o rows = unvalued_faults o rows
-waits_long false false true d g (Some v) o rows = first_faults _ _ (unvalued_faults o rows)
-waits_long false false false true g None o rows = unvalued_faults o rows
-waits_long false false false true g (Some v) o rows = first_faults _ _ (unvalued_faults o rows)
-waits_long false false false false true None o rows = unvalued_faults o rows
-waits_long false false false false true (Some v) o rows = first_faults _ _ (unvalued_faults o rows)
-waits_long false false false false false v o rows = tt
+pub waits_long : (a b c d g h : Bool) (v : Option Word) (o : Valued) (rows : List Row)
+    → IsFault (long_fault rules false (pick a b c d g h) v (held rows (unvalued o)))
+waits_long true b c d g h None o rows = first_faults _ _ (unvalued_faults o rows)
+waits_long true b c d g h (Some v) o rows = tt
+waits_long false true c d g h None o rows = unvalued_faults o rows
+waits_long false true c d g h (Some v) o rows = first_faults _ _ (unvalued_faults o rows)
+waits_long false false true d g h None o rows = unvalued_faults o rows
+waits_long false false true d g h (Some v) o rows = first_faults _ _ (unvalued_faults o rows)
+waits_long false false false true g h None o rows = unvalued_faults o rows
+waits_long false false false true g h (Some v) o rows = first_faults _ _ (unvalued_faults o rows)
+waits_long false false false false true h None o rows = unvalued_faults o rows
+waits_long false false false false true h (Some v) o rows = first_faults _ _ (unvalued_faults o rows)
+waits_long false false false false false true None o rows = unvalued_faults o rows
+waits_long false false false false false true (Some v) o rows = first_faults _ _ (unvalued_faults o rows)
+waits_long false false false false false false v o rows = tt
 
--- ---- `-` as a value, which is no number
+-- ---- `-` as a value, which is no number, and no name of a file
 
 abbrev pub dash : Word
 dash = codes "-"
@@ -204,6 +225,9 @@ pub dash_no_width : width_in_ticks dash ≡ None
 unfolding is_numeral
 dash_no_width = refl
 
+pub dash_no_spread : option_map Some (file_name dash) ≡ None
+dash_no_spread = refl
+
 pub once_never : {X : Type 0} (default : X) (read : Word → Option X) (v : Word) (xs ys : List Word) → read v ≡ None
     → once default read ((xs ++ v ∷ []) ++ ys) ≡ None
 once_never default read v [] [] e = e
@@ -215,42 +239,49 @@ pub stands : (xs ys : List Word) (v : Word) → (length ((xs ++ v ∷ []) ++ ys)
 stands [] ys v = ne_eqb _ _ (λ e. omega (arith, e))
 stands (x ∷ xs) ys v = ne_eqb _ _ (λ e. omega (arith, e))
 
-pub no_run : {X : Type 0} (b : Bool) (o : Option X) (f : X → Option RunOrder) → o ≡ None
-    → option_map run (cond b (option_and_then f o) None) ≡ None
-no_run {X = X} true o f e = ap (λ (p : Option X). option_map run (option_and_then f p)) e
-no_run false o f e = refl
+pub no_value : {X Y : Type 0} (b : Bool) (o : Option X) (f : X → Option Y) → o ≡ None
+    → cond b (option_and_then f o) None ≡ None
+no_value {X = X} true o f e = ap (λ (p : Option X). option_and_then f p) e
+no_value false o f e = refl
 
-pub no_run_within : {X Y : Type 0} (b : Bool) (o : Option Y) (x : Option X) (f : Y → X → Option RunOrder) → x ≡ None
-    → option_map run (cond b (option_and_then (λ y. option_and_then (f y) x) o) None) ≡ None
-no_run_within false o x f e = refl
-no_run_within true None x f e = refl
-no_run_within {X = X} true (Some y) x f e = ap (λ (p : Option X). option_map run (option_and_then (f y) p)) e
+pub no_value_within : {X Y Z : Type 0} (b : Bool) (o : Option Y) (x : Option X) (f : Y → X → Option Z) → x ≡ None
+    → cond b (option_and_then (λ y. option_and_then (f y) x) o) None ≡ None
+no_value_within false o x f e = refl
+no_value_within true None x f e = refl
+no_value_within {X = X} true (Some y) x f e = ap (λ (p : Option X). option_and_then (f y) p) e
 
-pub no_run_behind : {X Y Z : Type 0} (b : Bool) (o : Option Z) (p : Option Y) (x : Option X)
-    (f : Z → Y → X → Option RunOrder) → x ≡ None → option_map run (cond b
-    (option_and_then (λ z. option_and_then (λ y. option_and_then (f z y) x) p) o) None) ≡ None
-no_run_behind false o p x f e = refl
-no_run_behind true None p x f e = refl
-no_run_behind true (Some z) p x f e = no_run_within true p x (f z) e
+pub no_value_behind : {W X Y Z : Type 0} (b : Bool) (o : Option Z) (p : Option Y) (x : Option X)
+    (f : Z → Y → X → Option W) → x ≡ None
+    → cond b (option_and_then (λ z. option_and_then (λ y. option_and_then (f z y) x) p) o) None ≡ None
+no_value_behind false o p x f e = refl
+no_value_behind true None p x f e = refl
+no_value_behind true (Some z) p x f e = no_value_within true p x (f z) e
+
+pub no_run : (s : Said) → run_order s ≡ None → run_command s ≡ None
+no_run s e = ap (λ (o : Option RunOrder). option_and_then
+    (λ order. option_and_then (λ file. run_with file order) (spread_of s.spread_values)) o) e
 
 -- neither what a wrong value is for, nor where no value is taken
-pub no_order_by : (s : Said) → run_command s ≡ None → has_names_alone s ≡ false → fire_command s ≡ None
-    → closures_command s ≡ None → IsNoOrder s
-no_order_by s e h fire closures = fits_none s e (rw h refl) (rw h refl) fire closures (rw h refl) (rw h refl)
+pub no_order_by : (s : Said) → run_command s ≡ None → check_command s ≡ None → has_names_alone s ≡ false
+    → fire_command s ≡ None → closures_command s ≡ None → IsNoOrder s
+no_order_by s e check h fire closures =
+    fits_none s e check (rw h refl) fire closures (rw h refl) (rw h refl)
 
-pub no_rounds : {X : Type 0} (b : Bool) (o : Option ℕ) (f : ℕ → Option X) → o ≡ None
-    → cond b (option_and_then f o) None ≡ None
-no_rounds {X = X} true o f e = ap (λ (p : Option ℕ). option_and_then f p) e
-no_rounds false o f e = refl
+-- an option that `check` doesn't take
+pub no_order_past : (s : Said) → run_order s ≡ None → has_spread_at_most s ≡ false → fire_command s ≡ None
+    → closures_command s ≡ None → IsNoOrder s
+no_order_past s e more fire closures = no_order_by s (no_run s e) (rw more refl)
+    (ap (λ (b : Bool). b && (length s.spread_values == 0)) more) fire closures
 
 -- an option that `run` alone takes
-pub no_order_with : (s : Said) → run_command s ≡ None
+pub no_order_with : (s : Said) → run_order s ≡ None
     → ((length s.width_values == 0) && ((length s.slack_values == 0) && (length s.flows_values == 0))) ≡ false
     → IsNoOrder s
 no_order_with s e stays =
     let more_options : has_rounds_at_most s ≡ false =
-    and_false (not s.has_wrong) _ (and_false (s.tight_count == 0) _ stays) in
-    no_order_by s e (and_false (not s.has_wrong) _ (and_false (s.tight_count == 0) _
+    and_false (not s.has_wrong) _ (and_false (s.tight_count == 0) _ (and_false (length s.spread_values == 0) _ stays))
+    in
+    no_order_past s e (and_false (not s.has_wrong) _ (and_false (s.tight_count == 0) _
     (and_false (length s.sweeps_values == 0) _ stays))) (rw more_options refl) (rw more_options refl)
 
 pub dash_never : (o : Valued) → (is_flows o ≡ true → ⊥) → (s : Said)
@@ -259,13 +290,13 @@ dash_never of_sweeps other s more =
     let all = joined (joined s (said_by (sweeps dash ∷ []))) more in
     let none : rounds_of all.sweeps_values ≡ None =
     once_never default_rounds (number_within 6 0 100000) dash s.sweeps_values more.sweeps_values dash_no_rounds in
-    no_order_by all (no_run (is_sound all) (rounds_of all.sweeps_values) _ none)
+    no_order_past all (no_value (is_sound all) (rounds_of all.sweeps_values) _ none)
     (and_false (not all.has_wrong) _ (and_false (all.tight_count == 0) _
     (ap (λ (b : Bool). b && ((length all.width_values == 0)
     && ((length all.slack_values == 0) && (length all.flows_values == 0))))
     (stands s.sweeps_values more.sweeps_values dash))))
-    (no_rounds (has_rounds_at_most all) (rounds_of all.sweeps_values) _ none)
-    (no_rounds (has_rounds_at_most all) (rounds_of all.sweeps_values) _ none)
+    (no_value (has_rounds_at_most all) (rounds_of all.sweeps_values) _ none)
+    (no_value (has_rounds_at_most all) (rounds_of all.sweeps_values) _ none)
 dash_never of_width other s more =
     let all = joined (joined s (said_by (width dash ∷ []))) more in
     let none : width_of all.width_values ≡ None =
@@ -275,7 +306,7 @@ dash_never of_width other s more =
     ap (λ (b : Bool). b && ((length all.slack_values == 0) && (length all.flows_values == 0)))
     (stands s.width_values more.width_values dash) in
     no_order_with all
-    (no_run_within (is_sound all) (rounds_of all.sweeps_values) (width_of all.width_values) _ none) stays
+    (no_value_within (is_sound all) (rounds_of all.sweeps_values) (width_of all.width_values) _ none) stays
 dash_never of_slack other s more =
     let all = joined (joined s (said_by (slack dash ∷ []))) more in
     let none : slack_of all.slack_values ≡ None =
@@ -284,9 +315,21 @@ dash_never of_slack other s more =
     ≡ false =
     and_false (length all.width_values == 0) _
     (ap (λ (b : Bool). b && (length all.flows_values == 0)) (stands s.slack_values more.slack_values dash)) in
-    no_order_with all (no_run_behind (is_sound all) (rounds_of all.sweeps_values) (width_of all.width_values)
+    no_order_with all (no_value_behind (is_sound all) (rounds_of all.sweeps_values) (width_of all.width_values)
     (slack_of all.slack_values) _ none) stays
 dash_never of_flows other s more = absurd (other refl)
+dash_never of_spread other s more =
+    let all = joined (joined s (said_by (spread dash ∷ []))) more in
+    let none : spread_of all.spread_values ≡ None =
+    once_never None (λ word. option_map Some (file_name word)) dash s.spread_values more.spread_values dash_no_spread in
+    let stays : (length all.spread_values == 0) ≡ false = stands s.spread_values more.spread_values dash in
+    let more_options : has_rounds_at_most all ≡ false =
+    and_false (not all.has_wrong) _ (and_false (all.tight_count == 0) _
+    (ap (λ (b : Bool). b && ((length all.width_values == 0)
+    && ((length all.slack_values == 0) && (length all.flows_values == 0)))) stays)) in
+    no_order_by all (no_value_within true (run_order all) (spread_of all.spread_values) _ none)
+    (no_value_within (has_spread_at_most all) (two_files all.names) (spread_of all.spread_values) _ none)
+    (and_false (has_spread_at_most all) _ stays) (rw more_options refl) (rw more_options refl)
 
 pub same_orders : (w : Walk) (words : List Word) (a b : Said) → IsNoOrder a → IsNoOrder b → Comes w words a
     → Comes w words b
@@ -345,7 +388,8 @@ module _ (rest : List Word) (f : Goes rest) (q : Waits rest) where
   free_step word (long k) d rows p waiting free whole =
       by_kind (at false rows p waiting) word rest (seen rows p) (named_kind k.0 k.1) k.2.2
       (free_long rows p waiting word (bytes_eq (codes "tight") k.0) (bytes_eq (codes "sweeps") k.0)
-      (bytes_eq (codes "width") k.0) (bytes_eq (codes "slack") k.0) (bytes_eq (codes "flows") k.0) k.1 rest whole (f (goes false word k.2.0 d)) q
+      (bytes_eq (codes "width") k.0) (bytes_eq (codes "slack") k.0) (bytes_eq (codes "flows") k.0)
+      (bytes_eq (codes "spread") k.0) k.1 rest whole (f (goes false word k.2.0 d)) q
       (goes false word k.2.0 d) (flows_go word k d) (long_turn rows p waiting word k)
       (long_step rows p waiting word k))
 
@@ -357,12 +401,14 @@ module _ (rest : List Word) (f : Goes rest) (q : Waits rest) where
   valued_met of_width rows word = refl
   valued_met of_slack rows word = refl
   valued_met of_flows rows word = refl
+  valued_met of_spread rows word = refl
 
   valued_whole : (o : Valued) (rows : List Row) (word : Word) → IsWhole rows (Some (id_of o, word ∷ []))
   valued_whole of_sweeps rows word = refl
   valued_whole of_width rows word = refl
   valued_whole of_slack rows word = refl
   valued_whole of_flows rows word = refl
+  valued_whole of_spread rows word = refl
 
   valued_used : (o : Valued) (rows : List Row) (word : Word)
       → seen rows (Some (id_of o, word ∷ [])) ≡ joined (said_of rows) (said_by (make_of o word ∷ []))
@@ -370,6 +416,7 @@ module _ (rest : List Word) (f : Goes rest) (q : Waits rest) where
   valued_used of_width rows word = width_used word rows
   valued_used of_slack rows word = slack_used word rows
   valued_used of_flows rows word = flows_used word rows
+  valued_used of_spread rows word = spread_used word rows
 
   valued_on : (o : Valued) (rows : List Row) (word : Word) → Free rest → IsPlain word
       → Comes (at false rows (unvalued o) (option (id_of o))) (word ∷ rest)
@@ -440,7 +487,7 @@ module _ (rest : List Word) (f : Goes rest) (q : Waits rest) where
       (wrong_here (at false rows (unvalued o) (option (id_of o))) word rest (said_of rows) (parts_waiting rest None)
       (subst IsFault (sym (long_turn rows (unvalued o) (option (id_of o)) word k)) (first_faults _ _
       (waits_long (bytes_eq (codes "tight") k.0) (bytes_eq (codes "sweeps") k.0) (bytes_eq (codes "width") k.0)
-      (bytes_eq (codes "slack") k.0) (bytes_eq (codes "flows") k.0) k.1 o rows))) refl)
+      (bytes_eq (codes "slack") k.0) (bytes_eq (codes "flows") k.0) (bytes_eq (codes "spread") k.0) k.1 o rows))) refl)
 
 -- ---- all the words
 

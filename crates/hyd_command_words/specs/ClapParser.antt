@@ -37,7 +37,8 @@ with_sharpness =
     with_rule (with_rule (with_rule bare tight_rule) (valued_rule (codes "sweeps"))) (valued_rule (codes "width"))
 
 abbrev pub with_options : App
-with_options = with_rule (with_rule with_sharpness (valued_rule (codes "slack"))) (valued_rule (codes "flows"))
+with_options = with_rule (with_rule (with_rule with_sharpness (valued_rule (codes "slack")))
+    (valued_rule (codes "flows"))) (valued_rule (codes "spread"))
 
 abbrev pub words_command : App
 words_command = with_rule with_options names_rule
@@ -53,6 +54,7 @@ said_of rows = record {
   width_values = all_values (codes "width") rows;
   slack_values = all_values (codes "slack") rows;
   flows_values = all_values (codes "flows") rows;
+  spread_values = all_values (codes "spread") rows;
   tight_count = length (all_values (codes "tight") rows);
   names = all_values (codes "names") rows;
   has_wrong = false;

@@ -5,7 +5,7 @@ use Rattle.std.specs.Prelude.{option_map, option_and_then, bytes_eq, codes, if�
 use Rattle.std.specs.List.{list_all}
 use Rattle.hyd_num.specs.Numeral.{is_digit, is_numeral, nano_of, number}
 use Rattle.hyd_command_words.specs.NamesOfLinks.{names_of_ids}
-use Rattle.hyd_command_words.specs.OptionsAndNames.{Word, Said, said}
+use Rattle.hyd_command_words.specs.OptionsAndNames.{Word, Said, said, begins_with_dash}
 
 -- the two files of a command: NET, the network, and CERT, its certificate
 pub record TwoFiles : Type 0 where
@@ -21,6 +21,16 @@ pub record RunOrder : Type 0 where
   pub tight : Bool
   pub slack : ℕ
   pub flows : List Word
+
+-- `run` for a spread: what is asked of the run, which names no links, and FILE, that of the spread
+pub record SpreadRunOrder : Type 0 where
+  pub run : RunOrder
+  pub spread : Word
+
+-- `check` for a spread: its files, and FILE, that of the spread
+pub record SpreadCheckOrder : Type 0 where
+  pub files : TwoFiles
+  pub spread : Word
 
 -- `gen`: its seed, the number of junctions, and its files
 pub record GenOrder : Type 0 where
@@ -55,7 +65,9 @@ pub record MeetOrder : Type 0 where
 -- a command with its options and names
 pub data Order : Type 0 where
   run : RunOrder → Order
+  run_over : SpreadRunOrder → Order
   check : TwoFiles → Order
+  check_over : SpreadCheckOrder → Order
   gen : GenOrder → Order
   fire : FireOrder → Order
   closures : ClosuresOrder → Order
@@ -129,6 +141,14 @@ pressure_of word =
 
 -- ---- names
 
+-- FILE: a name that doesn't begin with `-`
+abbrev pub file_name : Word → Option Word
+file_name word = if begins_with_dash word then None else Some word
+
+-- FILE of `--spread`, where it is given
+abbrev pub spread_of : List Word → Option (Option Word)
+spread_of values = once None (λ word. option_map Some (file_name word)) values
+
 -- NET and CERT, which differ
 abbrev pub differing : Word → Word → Option TwoFiles
 differing net cert = if bytes_eq net cert then None else Some (record { net = net; cert = cert })
@@ -137,6 +157,10 @@ differing net cert = if bytes_eq net cert then None else Some (record { net = ne
 abbrev pub two_files : List Word → Option TwoFiles
 two_files (net ∷ cert ∷ []) = differing net cert
 two_files names = None
+
+-- a file is neither of the two
+abbrev pub is_apart : Word → TwoFiles → Bool
+is_apart file files = not (bytes_eq files.net file || bytes_eq files.cert file)
 
 -- SEED, JUNCTIONS, NET and CERT
 abbrev pub gen_of : (seed junctions net cert : Word) → Option GenOrder
@@ -187,23 +211,28 @@ meet_order names = None
 abbrev pub is_sound : Said → Bool
 is_sound s = not s.has_wrong && nat_le s.tight_count 1
 
--- nothing is wrong, and no option stands
-abbrev pub has_names_alone : Said → Bool
-has_names_alone s =
+-- nothing is wrong, and no option but `--spread` stands
+abbrev pub has_spread_at_most : Said → Bool
+has_spread_at_most s =
     not s.has_wrong && (s.tight_count == 0 && (length s.sweeps_values == 0
     && (length s.width_values == 0 && (length s.slack_values == 0 && length s.flows_values == 0))))
+
+-- nothing is wrong, and no option stands
+abbrev pub has_names_alone : Said → Bool
+has_names_alone s = has_spread_at_most s && (length s.spread_values == 0)
 
 -- nothing is wrong, and no option but `--sweeps` stands
 abbrev pub has_rounds_at_most : Said → Bool
 has_rounds_at_most s =
-    not s.has_wrong && (s.tight_count == 0
-    && (length s.width_values == 0 && (length s.slack_values == 0 && length s.flows_values == 0)))
+    not s.has_wrong && (s.tight_count == 0 && (length s.spread_values == 0
+    && (length s.width_values == 0 && (length s.slack_values == 0 && length s.flows_values == 0))))
 
 -- flows of links are asked for only where no end may be open
 abbrev pub go_together : ℕ → List Word → Bool
 go_together slack links = (slack == 0) || (length links == 0)
 
--- `run NET CERT`, with `--sweeps N`, `--width W`, `--tight`, `--slack N` and `--flows IDS` once each at most
+-- what is asked of a run: NET and CERT, with `--sweeps N`, `--width W`, `--tight`, `--slack N` and `--flows IDS` once
+-- each at most
 abbrev pub run_order : Said → Option RunOrder
 run_order s =
     if is_sound s
@@ -219,12 +248,32 @@ run_order s =
     (rounds_of s.sweeps_values)
     else None
 
-abbrev pub run_command : Said → Option Order
-run_command s = option_map run (run_order s)
+-- a run, and where FILE is given, one for its spread: FILE is neither of the two files, and no flows of links are asked
+-- for
+abbrev pub run_with : Option Word → RunOrder → Option Order
+run_with None order = Some (run order)
+run_with (Some file) order =
+    if is_apart file order.files && (length order.flows == 0)
+    then Some (run_over (record { run = order; spread = file })) else None
 
--- `check NET CERT`
+-- `run NET CERT`, with `--spread FILE` once at most, and what else is asked of the run
+abbrev pub run_command : Said → Option Order
+run_command s =
+    option_and_then (λ order. option_and_then (λ file. run_with file order) (spread_of s.spread_values)) (run_order s)
+
+-- a check, and where FILE is given, one for its spread: FILE is neither of the two files
+abbrev pub check_with : Option Word → TwoFiles → Option Order
+check_with None files = Some (check files)
+check_with (Some file) files =
+    if is_apart file files then Some (check_over (record { files = files; spread = file })) else None
+
+-- `check NET CERT`, with `--spread FILE` once at most
 abbrev pub check_command : Said → Option Order
-check_command s = if has_names_alone s then option_map check (two_files s.names) else None
+check_command s =
+    if has_spread_at_most s
+    then option_and_then (λ files. option_and_then (λ file. check_with file files) (spread_of s.spread_values))
+    (two_files s.names)
+    else None
 
 -- `gen SEED JUNCTIONS NET CERT`
 abbrev pub gen_command : Said → Option Order

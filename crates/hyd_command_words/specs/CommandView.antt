@@ -7,11 +7,14 @@ use Rattle.hyd_command_words.specs.declared.said_words.Said.{Said as Read}
 use Rattle.hyd_command_words.specs.CommandGrammar.{Order, RunOrder, GenOrder, TwoFiles, run, check, gen}
 use Rattle.hyd_command_words.specs.CommandGrammar.{FireOrder, ClosuresOrder, fire, closures}
 use Rattle.hyd_command_words.specs.CommandGrammar.{WitnessOrder, MeetOrder, witness, meet}
+use Rattle.hyd_command_words.specs.CommandGrammar.{SpreadRunOrder, SpreadCheckOrder, run_over, check_over}
 use Rattle.hyd_command_words.specs.declared.command.Command.{Command}
 use Rattle.hyd_command_words.specs.declared.command.Command.TheVariants as command
 use Rattle.hyd_command_words.specs.declared.command.Files.{Files}
 use Rattle.hyd_command_words.specs.declared.command.LinkNames.{LinkNames}
 use Rattle.hyd_command_words.specs.declared.command.RunWords.{RunWords}
+use Rattle.hyd_command_words.specs.declared.command.SpreadRunWords.{SpreadRunWords}
+use Rattle.hyd_command_words.specs.declared.command.SpreadCheckWords.{SpreadCheckWords}
 use Rattle.hyd_command_words.specs.declared.command.GenWords.{GenWords}
 use Rattle.hyd_command_words.specs.declared.command.FireWords.{FireWords}
 use Rattle.hyd_command_words.specs.declared.command.ClosuresWords.{ClosuresWords}
@@ -35,6 +38,12 @@ run_seen r = record {
   flows = names_seen r.flows;
 }
 
+abbrev pub spread_run_seen : SpreadRunWords → SpreadRunOrder
+spread_run_seen s = record { run = run_seen s.run; spread = s.spread.now }
+
+abbrev pub spread_check_seen : SpreadCheckWords → SpreadCheckOrder
+spread_check_seen s = record { files = files_seen s.files; spread = s.spread.now }
+
 abbrev pub gen_seen : GenWords → GenOrder
 gen_seen g = record { seed = g.seed; junctions = g.junctions; files = files_seen g.files }
 
@@ -54,7 +63,9 @@ meet_seen m = record { net = m.net.now; witness = m.witness.now }
 -- a command with its options and names
 abbrev pub order_seen : Command → Order
 order_seen (command.Run r) = run (run_seen r)
+order_seen (command.RunOver s) = run_over (spread_run_seen s)
 order_seen (command.Check f) = check (files_seen f)
+order_seen (command.CheckOver s) = check_over (spread_check_seen s)
 order_seen (command.Gen g) = gen (gen_seen g)
 order_seen (command.Fire f) = fire (fire_seen f)
 order_seen (command.Closures c) = closures (closures_seen c)
@@ -72,6 +83,7 @@ said_seen s = record {
   width_values = texts_seen s.width_values.now;
   slack_values = texts_seen s.slack_values.now;
   flows_values = texts_seen s.flows_values.now;
+  spread_values = texts_seen s.spread_values.now;
   tight_count = s.tight_count;
   names = texts_seen s.names.now;
   has_wrong = false;

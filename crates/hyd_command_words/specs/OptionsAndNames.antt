@@ -18,6 +18,8 @@ pub data Part : Type 0 where
   slack : Word → Part
   -- `--flows` with a value
   flows : Word → Part
+  -- `--spread` with a value
+  spread : Word → Part
   -- `--tight`
   tight : Part
   -- a word by its position
@@ -48,7 +50,8 @@ option_with_value word =
     else (if starts_with nat_eq word (codes "--width=") then says (width (drop 8 word))
     else (if starts_with nat_eq word (codes "--slack=") then says (slack (drop 8 word))
     else (if starts_with nat_eq word (codes "--flows=") then says (flows (drop 8 word))
-    else says wrong)))
+    else (if starts_with nat_eq word (codes "--spread=") then says (spread (drop 9 word))
+    else says wrong))))
 
 -- an option alone, before its value where it has one, or with its value
 abbrev pub option_kind : Word → Kind
@@ -58,7 +61,8 @@ option_kind word =
     else (if bytes_eq word (codes "--width") then wants width
     else (if bytes_eq word (codes "--slack") then wants slack
     else (if bytes_eq word (codes "--flows") then wants flows
-    else option_with_value word))))
+    else (if bytes_eq word (codes "--spread") then wants spread
+    else option_with_value word)))))
 
 unfoldable pub kind_of : Word → Kind
 kind_of word =
@@ -104,6 +108,10 @@ abbrev pub flows_value : Part → Option Word
 flows_value (flows value) = Some value
 flows_value _ = None
 
+abbrev pub spread_value : Part → Option Word
+spread_value (spread value) = Some value
+spread_value _ = None
+
 abbrev pub named : Part → Option Word
 named (name word) = Some word
 named _ = None
@@ -122,6 +130,7 @@ pub record Said : Type 0 where
   pub width_values : List Word
   pub slack_values : List Word
   pub flows_values : List Word
+  pub spread_values : List Word
   pub tight_count : ℕ
   pub names : List Word
   pub has_wrong : Bool
@@ -133,6 +142,7 @@ said_by said = record {
   width_values = filter_map width_value said;
   slack_values = filter_map slack_value said;
   flows_values = filter_map flows_value said;
+  spread_values = filter_map spread_value said;
   tight_count = length (filter is_tight said);
   names = filter_map named said;
   has_wrong = list_any is_wrong said;

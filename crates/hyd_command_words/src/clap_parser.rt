@@ -42,7 +42,8 @@ fn with_options<'a>(alloc: Global) -> Result<Command<'a>, AllocError>
 {
     let command = with_sharpness(alloc)?;
     let command = command.arg(valued(alloc, "slack"))?;
-    command.arg(valued(alloc, "flows"))
+    let command = command.arg(valued(alloc, "flows"))?;
+    command.arg(valued(alloc, "spread"))
 }
 
 // The options on how sharp vectors are.

@@ -1,6 +1,6 @@
 //! The commands, as their words give them.
 
-ghost use Rattle.std.specs.Prelude.{◌≤◌, ◌≢◌, ◌^◌, length, option_map, unsigned_abs, AllPairs};
+ghost use Rattle.std.specs.Prelude.{◌≡◌, ◌≤◌, ◌≢◌, ◌^◌, [], length, option_map, unsigned_abs, AllPairs};
 ghost use Rattle.hyd_command_words.specs.NamesOfLinks.{names_given};
 
 use hyd_num::Decimal;
@@ -40,6 +40,26 @@ pub struct RunWords<'a> {
     pub slack: u32,
     /// The names of links that `--flows` gives.
     pub flows: LinkNames<'a>,
+}
+
+/// What `run NET CERT --spread FILE` asks for, with the options that `run` has besides, but for `--flows`.
+#[derive(Clone, Copy)]
+pub struct SpreadRunWords<'a> {
+    /// What is asked of the run. It names no links.
+    pub run: RunWords<'a>,
+    /// FILE: the spread, which is read. Its name is neither that of the network nor that of the certificate, and
+    /// doesn't begin with `-`.
+    pub spread: &'a str,
+    pub ghost without_flows: { names_given (option_map (λ text. text.now) run.flows.ids) ≡ [] },
+}
+
+/// What `check NET CERT --spread FILE` asks for.
+#[derive(Clone, Copy)]
+pub struct SpreadCheckWords<'a> {
+    /// The network and the certificate, which are both read.
+    pub files: Files<'a>,
+    /// FILE: the spread, which is read. Its name is neither of the other two, and doesn't begin with `-`.
+    pub spread: &'a str,
 }
 
 /// What `gen SEED JUNCTIONS NET CERT` asks for.
@@ -103,8 +123,12 @@ pub struct MeetWords<'a> {
 pub enum Command<'a> {
     /// `run NET CERT [--sweeps N] [--width W] [--tight] [--flows IDS] [--slack N]`.
     Run(RunWords<'a>),
+    /// `run NET CERT --spread FILE [--sweeps N] [--width W] [--tight] [--slack N]`.
+    RunOver(SpreadRunWords<'a>),
     /// `check NET CERT`: both files are read.
     Check(Files<'a>),
+    /// `check NET CERT --spread FILE`: all three are read.
+    CheckOver(SpreadCheckWords<'a>),
     /// `gen SEED JUNCTIONS NET CERT`.
     Gen(GenWords<'a>),
     /// `fire NET J P [--sweeps N]`.

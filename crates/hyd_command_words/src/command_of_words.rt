@@ -15,10 +15,10 @@ use std::alloc::{AllocError, Global};
 /// names in it are the words' own.
 ///
 /// The first word is the command's, in lower case. Of the others, from left to right, `--sweeps`,
-/// `--width`, `--slack` and `--flows` take the next word as value, which doesn't begin with `-`, or have it behind `=` in the
-/// same word. Behind a word `--` every word stands by its position, and before it each word that
+/// `--width`, `--slack`, `--flows` and `--spread` take the next word as value, which doesn't begin with `-`, or have it
+/// behind `=` in the same word. Behind a word `--` every word stands by its position, and before it each word that
 /// doesn't begin with `-` or is `-` alone. Each option stands once at most: `--sweeps` for `run`, `fire` and
-/// `closures`, the others for `run` alone.
+/// `closures`, `--spread` for `run` and `check`, the others for `run` alone.
 ///
 /// The error: memory ran out.
 pub fn read_words(alloc: Global, words: &[String]) -> Result<Option<Command<'_>>, AllocError>
@@ -37,7 +37,7 @@ pub fn read_words(alloc: Global, words: &[String]) -> Result<Option<Command<'_>>
 }
 
 // Whether `-` stands right behind `--flows`, before a word `--`. clap takes it for the option's value; for the other
-// options it is no value in any case, since it is no number.
+// options it is no value in any case, since it is no number, and no name of a file for `--spread`.
 fn has_dash_behind_flows(words: &[String]) -> bool
     ensures { result ≡ has_dash_behind_flows false (map string_bytes words.now) }
 {

@@ -37,6 +37,7 @@ fn has_more_than_rounds(said: Said<'_, '_>) -> bool
     ensures { result ≡ not (orders.has_rounds_at_most (said_seen said.entry)) }
 {
     said.tight_count > 0
+        || said.spread_values.len() > 0
         || said.width_values.len() > 0
         || said.slack_values.len() > 0
         || said.flows_values.len() > 0

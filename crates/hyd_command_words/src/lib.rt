@@ -12,10 +12,11 @@ mod named_commands;
 mod names_of_links;
 mod numbers;
 mod said_words;
+mod spread_file;
 
 pub use command::{
     ClosuresWords, Command, Files, FireWords, GenWords, LinkNames, MeetWords, RunWords,
-    WitnessWords,
+    SpreadCheckWords, SpreadRunWords, WitnessWords,
 };
 pub use command_of_words::read_words;
 pub use names_of_links::MOST_NAMES;

@@ -3,13 +3,14 @@
 ghost use Rattle.std.specs.Prelude.{◌≡◌, ◌-◌, option_map, not, ◌==◌, ◌||◌};
 ghost use Rattle.hyd_command_words.specs.CommandGrammar as orders;
 ghost use Rattle.hyd_command_words.specs.CommandView.{said_seen, texts_seen, order_seen, gen_seen};
-ghost use Rattle.hyd_command_words.specs.CommandView.{files_seen, names_seen, witness_seen, meet_seen};
+ghost use Rattle.hyd_command_words.specs.CommandView.{files_seen, names_seen, run_seen, witness_seen, meet_seen};
 
 use crate::command::{Command, Files, GenWords, LinkNames, MeetWords, RunWords, WitnessWords};
 use crate::commands_on_targets::{closures_command, fire_command};
 use crate::names_of_links::flows_of;
 use crate::numbers::{number_within, rounds_of, slack_of, width_of};
 use crate::said_words::Said;
+use crate::spread_file::{check_with, run_with, spread_of};
 
 /// The command of this name, if what is said behind it fits.
 pub(crate) fn order_named<'a>(name: &str, said: Said<'_, 'a>) -> Option<Command<'a>>
@@ -42,6 +43,15 @@ pub(crate) fn order_named<'a>(name: &str, said: Said<'_, 'a>) -> Option<Command<
 fn run_command<'a>(said: Said<'_, 'a>) -> Option<Command<'a>>
     ensures { option_map order_seen result ≡ orders.run_command (said_seen said.entry) }
 {
+    let run = run_words(said)?;
+    let spread = spread_of(said.spread_values)?;
+    run_with(spread, run)
+}
+
+// What is asked of a run, whether or not for a spread.
+fn run_words<'a>(said: Said<'_, 'a>) -> Option<RunWords<'a>>
+    ensures { option_map run_seen result ≡ orders.run_order (said_seen said.entry) }
+{
     if said.tight_count > 1 {
         return None;
     }
@@ -53,14 +63,14 @@ fn run_command<'a>(said: Said<'_, 'a>) -> Option<Command<'a>>
         return None;
     }
     let files = two_files(said.names)?;
-    Some(Command::Run(RunWords {
+    Some(RunWords {
         files,
         rounds,
         width,
         tight: said.tight_count == 1,
         slack,
         flows,
-    }))
+    })
 }
 
 // Whether flows of links are asked for only where no end may be open.
@@ -73,11 +83,12 @@ fn go_together(slack: u32, flows: &LinkNames<'_>) -> bool
 fn check_command<'a>(said: Said<'_, 'a>) -> Option<Command<'a>>
     ensures { option_map order_seen result ≡ orders.check_command (said_seen said.entry) }
 {
-    if has_options(said) {
+    if has_more_than_spread(said) {
         return None;
     }
     let files = two_files(said.names)?;
-    Some(Command::Check(files))
+    let spread = spread_of(said.spread_values)?;
+    check_with(spread, files)
 }
 
 fn gen_command<'a>(said: Said<'_, 'a>) -> Option<Command<'a>>
@@ -113,6 +124,13 @@ fn meet_command<'a>(said: Said<'_, 'a>) -> Option<Command<'a>>
 // Whether an option stands.
 fn has_options(said: Said<'_, '_>) -> bool
     ensures { result ≡ not (orders.has_names_alone (said_seen said.entry)) }
+{
+    has_more_than_spread(said) || said.spread_values.len() > 0
+}
+
+// Whether an option besides `--spread` stands.
+fn has_more_than_spread(said: Said<'_, '_>) -> bool
+    ensures { result ≡ not (orders.has_spread_at_most (said_seen said.entry)) }
 {
     said.tight_count > 0
         || said.sweeps_values.len() > 0

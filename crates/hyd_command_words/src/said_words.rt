@@ -15,6 +15,7 @@ pub(crate) struct Said<'m, 'a> {
     pub(crate) width_values: &'m [&'a str],
     pub(crate) slack_values: &'m [&'a str],
     pub(crate) flows_values: &'m [&'a str],
+    pub(crate) spread_values: &'m [&'a str],
     pub(crate) tight_count: usize,
     pub(crate) names: &'m [&'a str],
 }
@@ -28,6 +29,7 @@ pub(crate) fn said_by<'m, 'a>(matches: &'m ArgMatches<'a>) -> Said<'m, 'a>
         width_values: values(matches, "width"),
         slack_values: values(matches, "slack"),
         flows_values: values(matches, "flows"),
+        spread_values: values(matches, "spread"),
         tight_count: values(matches, "tight").len(),
         names: values(matches, "names"),
     }

@@ -4,9 +4,10 @@ pub(crate) const HELP: &str = "simulates pressurised water networks from EPANET 
 and proves the intervals that it prints.
 
   hyd run NET CERT [--sweeps N] [--width W] [--tight] [--flows IDS] [--slack N]
+          [--spread FILE]
       runs the network in NET, writes the certificate CERT, prints the report
       hyd run examples/net1.inp net1.cert
-  hyd check NET CERT
+  hyd check NET CERT [--spread FILE]
       checks a certificate, whoever wrote it, and prints the same report
       hyd check examples/net1.inp net1.cert
   hyd gen SEED JUNCTIONS NET CERT
@@ -31,55 +32,63 @@ and proves the intervals that it prints.
 N of --sweeps is 200 where it isn't given, W is 0.01 metres, N of --slack 0.
 hyd help COMMAND explains the words of a command.
 
-Status 0: done. 2: the words aren't a command. 5: NET is refused.
-6: something can't be decided, a period of FILE isn't met, or no witness was
-found. 7: rounds are spent. 8: a demand is out of range. 9: CERT or FILE isn't
-right. 1: memory ran out. 3: a file couldn't be read. 4: one couldn't be
-written. 10: a write took nothing.
+Status 0: done. 2: the words aren't a command. 5: NET, or FILE of --spread, is
+refused. 6: something can't be decided, a period of FILE isn't met, or no
+witness was found. 7: rounds are spent. 8: a demand is out of range. 9: CERT or
+FILE isn't right. 1: memory ran out. 3: a file couldn't be read. 4: one couldn't
+be written. 10: a write took nothing.
 
 README.md: how to read a report. docs/ANSWERS.md: each line and status.
 docs/REFUSALS.md: what NET may have. docs/CERTIFICATES.md: what CERT is worth.
-docs/WITNESSES.md: what OUT and FILE are worth.";
+docs/WITNESSES.md: what OUT and FILE of meet are worth.
+docs/SPREADS.md: what FILE of --spread has.";
 
 pub(crate) const HELP_OF_RUN: &str =
     "run NET CERT [--sweeps N] [--width W] [--tight] [--flows IDS] [--slack N]
+    [--spread FILE]
 
 Runs the network, writes the certificate, prints the report.
 
-  NET          the network: an EPANET input file with Hazen-Williams or Chezy-Manning losses
-               (docs/REFUSALS.md)
-  CERT         the certificate. A file that is there is overwritten where it is
-               empty or a certificate
-  --sweeps N   at most N rounds for each vector where the gradient method finds
-               none: 0 to 100000, else 200
-  --width W    how wide intervals of heads may become, in metres: above 0 to
-               1000, else 0.01
-  --tight      the tightest certificate on the grid of 10^-13 metres
-  --flows IDS  up to 16 links between junctions, parted by commas without
-               spaces: tighter intervals of their flows, in FLOW lines
-  --slack N    goes on where a period may end in any of up to N seconds more,
-               which an event of a tank leaves open: 0 to 86400, else 0. Runs
-               of weeks take 3600 (docs/LONG_RUNS.md). Not with --flows
+  NET            the network: an EPANET input file with Hazen-Williams or
+                 Chezy-Manning losses (docs/REFUSALS.md)
+  CERT           the certificate. A file that is there is overwritten where it
+                 is empty or a certificate
+  --sweeps N     at most N rounds for each vector where the gradient method
+                 finds none: 0 to 100000, else 200
+  --width W      how wide intervals of heads may become, in metres: above 0 to
+                 1000, else 0.01
+  --tight        the tightest certificate on the grid of 10^-13 metres
+  --flows IDS    up to 16 links between junctions, parted by commas without
+                 spaces: tighter intervals of their flows, in FLOW lines
+  --slack N      goes on where a period may end in any of up to N seconds more,
+                 which an event of a tank leaves open: 0 to 86400, else 0. Runs
+                 of weeks take 3600 (docs/LONG_RUNS.md). Not with --flows
+  --spread FILE  demands, emitters, heads of reservoirs and levels of tanks are
+                 known within limits only, which the rows of FILE give
+                 (docs/SPREADS.md): what is printed holds of every network and
+                 every history within them. Not with --flows
 
   hyd run examples/net1.inp net1.cert
 
-Status 0: done. 5: NET is refused, or a name of --flows, and CERT stays as it
-was. 6, 7, 8: the run stopped, and what is printed above the last line holds.
+Status 0: done. 5: NET, FILE or a name of --flows is refused, and CERT stays as
+it was. 6, 7, 8: the run stopped, and what is printed above the last line holds.
 1, 3, 4, 10: memory or files. docs/ANSWERS.md: each line of the report.";
 
-pub(crate) const HELP_OF_CHECK: &str = "check NET CERT
+pub(crate) const HELP_OF_CHECK: &str = "check NET CERT [--spread FILE]
 
 Checks a certificate record by record, and prints the report of all records
 that are right. It writes nothing.
 
-  NET   the network
-  CERT  the certificate, whoever wrote it
+  NET            the network
+  CERT           the certificate, whoever wrote it
+  --spread FILE  CERT is to be that of a run for the limits that the rows of
+                 FILE give (docs/SPREADS.md)
 
   hyd check examples/net1.inp net1.cert
 
 Status 0: all records are right, up to the duration (DONE) or as far as they go
-(PARTIAL). 9: one isn't, and the last line says which. 5: NET is refused.
-1, 3, 4, 10: memory or files. docs/CERTIFICATES.md: what a certificate is worth.";
+(PARTIAL). 9: one isn't, and the last line says which. 5: NET or FILE is
+refused. 1, 3, 4, 10: memory or files. docs/CERTIFICATES.md: what a certificate is worth.";
 
 pub(crate) const HELP_OF_GEN: &str = "gen SEED JUNCTIONS NET CERT
 

@@ -44,6 +44,7 @@ fn values_of(asked: &str) -> &'static str {
             "a number of metres above 0 and at most 1000, with a point before its decimals, as 0.01",
         "--slack" => "a whole number of seconds from 0 to 86400",
         "--flows" => "up to 16 IDs of links in one word, parted by commas without spaces, as P1,P2",
+        "--spread" => "the name of a file that doesn't begin with -",
         "SEED" => "a whole number from 0 to 2147483647",
         "JUNCTIONS" => "a whole number from 1 to 10000",
         "P" =>
@@ -56,6 +57,7 @@ fn values_of(asked: &str) -> &'static str {
 fn file_named(asked: &str) -> &'static str {
     match asked {
         "CERT" => "the certificate",
+        "--spread" => "the spread",
         _ => "the witness",
     }
 }
@@ -63,7 +65,8 @@ fn file_named(asked: &str) -> &'static str {
 // The options of a command.
 fn options_of(usage: Usage) -> &'static str {
     match usage.name {
-        "run" => "--sweeps N, --width W, --tight, --flows IDS and --slack N",
+        "run" => "--sweeps N, --width W, --tight, --flows IDS, --slack N and --spread FILE",
+        "check" => "--spread FILE alone",
         "fire" | "closures" => "--sweeps N alone",
         _ => "none",
     }

@@ -24,13 +24,15 @@ pub(crate) struct Usage {
 const RUN: Usage = Usage {
     name: "run",
     words: &["NET", "CERT"],
-    options: &["--sweeps", "--width", "--tight", "--flows", "--slack"],
+    options: &[
+        "--sweeps", "--width", "--tight", "--flows", "--slack", "--spread",
+    ],
 };
 
 const CHECK: Usage = Usage {
     name: "check",
     words: &["NET", "CERT"],
-    options: &[],
+    options: &["--spread"],
 };
 
 const GEN: Usage = Usage {
@@ -92,7 +94,10 @@ pub(crate) fn is_some_slack(word: &str) -> bool {
 
 /// Whether an option takes a value.
 pub(crate) fn takes_value(option: &str) -> bool {
-    option == "--sweeps" || option == "--width" || option == "--flows" || option == "--slack"
+    match option {
+        "--sweeps" | "--width" | "--flows" | "--slack" | "--spread" => true,
+        _ => false,
+    }
 }
 
 /// Whether a word is a number below 0, as it may stand for a pressure.
@@ -106,7 +111,7 @@ pub(crate) fn is_below_0(word: &str) -> bool {
 /// Whether a word is the value of an option behind which it stands: one that begins with `-` is another option, but for
 /// a number below 0 where a number is asked for.
 pub(crate) fn is_value(option: &str, word: &str) -> bool {
-    !word.starts_with('-') || (option != "--flows" && is_below_0(word))
+    !word.starts_with('-') || (option != "--flows" && option != "--spread" && is_below_0(word))
 }
 
 // The number that a word writes, in billionths.
@@ -162,6 +167,7 @@ pub(crate) fn fits(asked: &str, word: &str) -> bool {
         "--width" => is_width(word),
         "--slack" => is_whole(word, 0, 86_400),
         "--flows" => are_ids(word),
+        "--spread" => !word.starts_with('-'),
         "SEED" => is_whole(word, 0, 2_147_483_647),
         "JUNCTIONS" => is_whole(word, 1, 10_000),
         "P" => is_pressure(word),

@@ -103,6 +103,24 @@ fn name_fault<'a>(usage: Usage, words: &'a [String]) -> Option<WrongWord<'a>> {
     None
 }
 
+// The value of an option, where it stands with one.
+fn value_of<'a>(words: &'a [String], option: &str) -> Option<&'a str> {
+    for one in spoken_in(words) {
+        match one {
+            Spoken::Option(name, Some(value)) if name == option => return Some(value),
+            _ => {}
+        }
+    }
+    None
+}
+
+// One name for the spread and another file.
+fn spread_fault<'a>(usage: Usage, words: &'a [String]) -> Option<WrongWord<'a>> {
+    let name = value_of(words, "--spread")?;
+    let before = file_before(usage, words, usage.words.len(), name)?;
+    Some(WrongWord::OneName(before, "--spread", name))
+}
+
 // Whether an option stands among the words.
 fn stands(words: &[String], option: &str) -> bool {
     for one in spoken_in(words) {
@@ -117,20 +135,22 @@ fn stands(words: &[String], option: &str) -> bool {
 
 // Whether some slack is asked for.
 fn has_slack(words: &[String]) -> bool {
-    for one in spoken_in(words) {
-        if let Spoken::Option(name, Some(value)) = one {
-            if name == "--slack" && is_some_slack(value) {
-                return true;
-            }
-        }
+    match value_of(words, "--slack") {
+        Some(value) => is_some_slack(value),
+        None => false,
     }
-    false
 }
 
-// Two options that don't go together: flows aren't told where ends of periods may be open.
+// Two options that don't go together: flows aren't told where ends of periods may be open, nor for a spread.
 fn pair_fault<'a>(words: &[String]) -> Option<WrongWord<'a>> {
-    if stands(words, "--flows") && has_slack(words) {
+    if !stands(words, "--flows") {
+        return None;
+    }
+    if has_slack(words) {
         return Some(WrongWord::NotTogether("--flows", "--slack"));
+    }
+    if stands(words, "--spread") {
+        return Some(WrongWord::NotTogether("--flows", "--spread"));
     }
     None
 }
@@ -140,7 +160,10 @@ fn late_fault<'a>(usage: Usage, words: &'a [String]) -> Option<WrongWord<'a>> {
     if let Some(fault) = count_fault(usage, words) {
         return Some(fault);
     }
-    match name_fault(usage, words) {
+    if let Some(fault) = name_fault(usage, words) {
+        return Some(fault);
+    }
+    match spread_fault(usage, words) {
         Some(fault) => Some(fault),
         None => pair_fault(words),
     }

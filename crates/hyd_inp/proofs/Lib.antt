@@ -1,2 +1,3 @@
 pub mod FirstWrongAmongSections
 pub mod FaultFromFindings
+pub mod IdsInTheirOrder

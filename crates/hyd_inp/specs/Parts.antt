@@ -1,5 +1,5 @@
 -- Parts of the network of a file without a fault.
-use Rattle.std.specs.Prelude.{◌≡◌, List}
+use Rattle.std.specs.Prelude.{◌≡◌, List, IfSome, IfNone}
 use Rattle.hyd_spec_lines.specs.Lines.{Row}
 use Rattle.hyd_spec_lines.specs.declared.section.Section.TheVariants.{Junctions, Reservoirs, Tanks, Controls, Rules}
 use Rattle.hyd_net.specs.declared.options.Options.{Options}
@@ -11,7 +11,9 @@ use Rattle.hyd_spec_input.specs.Project.{Match, IsJunction, IsReservoir, IsTank,
 use Rattle.hyd_spec_input.specs.Project.{IsOptions, IsTimes, IsProject, numbered_links, shape_points, bend_points}
 use Rattle.hyd_spec_input.specs.SectionsAndTables.{rows_of, words_of}
 use Rattle.hyd_inp.specs.declared.numbered_names.Numbers.{Numbers}
+use Rattle.hyd_inp.specs.declared.numbered_names.NumberedApart.{NumberedApart}
 use Rattle.hyd_inp.specs.declared.numbered_names.Ids.{Ids}
+use Rattle.hyd_inp.specs.declared.tables.Tables.{Tables}
 use Rattle.hyd_inp.specs.declared.network_parts.Nodes.{Nodes}
 use Rattle.hyd_inp.specs.declared.network_parts.Links.{Links}
 use Rattle.hyd_inp.specs.declared.network_parts.PatternsControlsAndRules.{PatternsControlsAndRules}
@@ -19,15 +21,24 @@ use Rattle.hyd_inp.specs.declared.network_parts.Parts.{Parts}
 
 -- IDs in the order of their numbers
 pub record AreNumbers (rows : List Row) (numbers : Numbers) : Type 0 where
-  pub nodes : numbers.nodes ≡ node_ids rows
-  pub tanks : numbers.tanks ≡ tank_ids rows
-  pub links : numbers.links ≡ link_ids rows
-  pub patterns : numbers.patterns ≡ pattern_ids rows
+  pub nodes : numbers.nodes.now ≡ node_ids rows
+  pub tanks : numbers.tanks.now ≡ tank_ids rows
+  pub links : numbers.links.now ≡ link_ids rows
+  pub patterns : numbers.patterns.now ≡ pattern_ids rows
+
+-- IDs that are numbered apart, or that the tables have in the order of their numbers
+pub record AreNumberedApart (rows : List Row) (tables : Tables) (apart : NumberedApart) : Type 0 where
+  pub nodes : IfSome apart.nodes (λ ids. ids ≡ node_ids rows)
+  pub nodes_of_table : IfNone apart.nodes (tables.nodes.names ≡ node_ids rows)
+  pub tanks : apart.tanks ≡ tank_ids rows
+  pub links : IfSome apart.links (λ ids. ids ≡ link_ids rows)
+  pub links_of_table : IfNone apart.links (tables.links.names ≡ link_ids rows)
+  pub patterns : apart.patterns ≡ pattern_ids rows
 
 -- the IDs that a network keeps are those of the numbers
 pub record AreIds (numbers : Numbers) (ids : Ids) : Type 0 where
-  pub nodes : ids.nodes ≡ numbers.nodes
-  pub links : ids.links ≡ numbers.links
+  pub nodes : ids.nodes ≡ numbers.nodes.now
+  pub links : ids.links ≡ numbers.links.now
 
 pub record AreNodes (rows : List Row) (nodes : Nodes) : Type 0 where
   pub junctions : Match (IsJunction rows) (rows_of Junctions rows) nodes.junctions.list

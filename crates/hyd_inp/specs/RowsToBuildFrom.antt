@@ -23,7 +23,7 @@ pub record AreRowsForNetwork (text : List ℕ) (given : RowsForNetwork) : Type 0
   pub lie : All (LiesIn text) given.lines.now
   pub by_itself : NoneIs (IsWrongByItself (rows_from text given))
   pub with_others : NoneIs (IsWrongWithOthers (rows_from text given))
-  pub numbers : AreNumbers (rows_from text given) given.numbers.now
+  pub numbers : AreNumbers (rows_from text given) given.numbers
   pub nodes : IsTable text (node_rows (rows_from text given)) given.nodes.now
   pub links : IsTable text (link_rows (rows_from text given)) given.links.now
   pub curves : IsTable text (rows_of Curves (rows_from text given)) given.curves.now

@@ -14,7 +14,7 @@ ghost use Rattle.hyd_inp.specs.Parts.{AreNumbers, AreNodes, AreLinks, ArePattern
 ghost use Rattle.hyd_inp.specs.RowsToBuildFrom.{AreRowsForNetwork, rows_from};
 
 use crate::network_parts::{Links, Nodes, Parts, PatternsControlsAndRules, assemble};
-use crate::numbered_names::{Numbers, ids_of, number};
+use crate::numbered_names::{Numbers, ids_of, number_apart};
 use crate::rows_to_build_from::RowsForNetwork;
 use crate::tables::Tables;
 use hyd_build_links_controls_and_rules::{RowsForLinks, build_controls, build_rules};
@@ -50,8 +50,8 @@ fn build_nodes(
         ..
     } = *given;
     let shapes = gather_shapes(alloc, text, lines, curves, points, unit)?;
-    let junctions = build_junctions(alloc, text, lines, nodes, &numbers.patterns, unit)?;
-    let reservoirs = build_reservoirs(alloc, text, lines, &numbers.patterns, unit)?;
+    let junctions = build_junctions(alloc, text, lines, nodes, numbers.patterns, unit)?;
+    let reservoirs = build_reservoirs(alloc, text, lines, numbers.patterns, unit)?;
     let tanks = build_tanks(alloc, text, lines, &shapes.names, unit)?;
     Ok(Nodes {
         junctions,
@@ -81,9 +81,9 @@ fn build_links(
     )?;
     let of_links = RowsForLinks {
         lines: given.lines,
-        nodes: &given.numbers.nodes,
+        nodes: given.numbers.nodes,
         links: given.links,
-        patterns: &given.numbers.patterns,
+        patterns: given.numbers.patterns,
         curves: given.curves,
         points: given.points,
         bends: &bends.names,
@@ -113,13 +113,13 @@ fn build_patterns_controls_and_rules(
         unit,
         ..
     } = *given;
-    let patterns = build_patterns(alloc, text, lines, &numbers.patterns)?;
+    let patterns = build_patterns(alloc, text, lines, numbers.patterns)?;
     let controls = build_controls(
         alloc,
         text,
         lines,
-        &numbers.tanks,
-        &numbers.links,
+        numbers.tanks,
+        numbers.links,
         links,
         unit,
     )?;
@@ -127,9 +127,9 @@ fn build_patterns_controls_and_rules(
         alloc,
         text,
         lines,
-        &numbers.nodes,
-        &numbers.tanks,
-        &numbers.links,
+        numbers.nodes,
+        numbers.tanks,
+        numbers.links,
         links,
         unit,
     )?;
@@ -146,7 +146,7 @@ fn build_parts(
     text: &Lines<'_>,
     lines: &[Line],
     tables: &Tables,
-    numbers: &Numbers,
+    numbers: Numbers<'_>,
     unit: FlowUnit,
     kept: &mut KeptCapacities,
 ) -> Result<Parts, OutOfMemory>
@@ -155,7 +155,7 @@ fn build_parts(
     requires by_itself { NoneIs (IsWrongByItself (rows_at text.now.text lines.now)) }
     requires with_others { NoneIs (IsWrongWithOthers (rows_at text.now.text lines.now)) }
     requires tables { AreTables text.now.text (rows_at text.now.text lines.now) tables.now }
-    requires numbers { AreNumbers (rows_at text.now.text lines.now) numbers.now }
+    requires numbers { AreNumbers (rows_at text.now.text lines.now) numbers }
     requires unit { unit ≡ force.unit (rows_at text.now.text lines.now) }
     ensures { IfOk result (AreParts (rows_at text.now.text lines.now)) }
 {
@@ -195,10 +195,11 @@ pub(crate) fn build(
     ensures { IfOk result (IsProject (rows_at text.now.text lines.now)) }
 {
     let unit = unit_in_force(text, lines);
-    let numbers = number(alloc, text, lines)?;
+    let apart = number_apart(alloc, text, lines, tables)?;
+    let numbers = apart.numbers(tables);
     let ids = ids_of(&numbers)?;
-    let parts = build_parts(alloc, text, lines, tables, &numbers, unit, kept)?;
-    let options = options_in_force(text, lines, unit, &numbers.patterns);
+    let parts = build_parts(alloc, text, lines, tables, numbers, unit, kept)?;
+    let options = options_in_force(text, lines, unit, numbers.patterns);
     let times = times_in_force(text, lines);
     Ok(assemble(ids, parts, options, times))
 }

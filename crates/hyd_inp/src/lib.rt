@@ -7,6 +7,7 @@ mod build;
 mod fault;
 mod first_fault;
 mod first_wrong_with_others;
+mod ids_in_order;
 mod missing_from_file;
 mod network_parts;
 mod numbered_names;

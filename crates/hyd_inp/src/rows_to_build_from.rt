@@ -11,7 +11,7 @@ use hyd_rows_and_tables::Table;
 #[derive(Clone, Copy, Drop)]
 pub(crate) struct RowsForNetwork<'a> {
     pub(crate) lines: &'a [Line],
-    pub(crate) numbers: &'a Numbers,
+    pub(crate) numbers: Numbers<'a>,
     /// The IDs of junctions, reservoirs and tanks.
     pub(crate) nodes: &'a Table,
     /// The IDs of pipes, pumps and valves.

@@ -67,7 +67,7 @@ fn run_by_gradient<D: Desk>(alloc: Global, sim: &mut OpenSim, cert: &str, desk: 
 }
 
 /// Opens a run of a network, puts it out, and closes it. All memory is taken before CERT is created.
-pub(crate) fn run_network<D: Desk>(
+pub fn run_network<D: Desk>(
     alloc: Global,
     project: Project,
     settings: OpenSettings,

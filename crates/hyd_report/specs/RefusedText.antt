@@ -1,4 +1,4 @@
--- The one line that is printed of an input file that is refused.
+-- The one line that is printed of an input file, or of the text of a spread, that is refused.
 -- Source: this program's.
 use Rattle.std.specs.Prelude.{ℕ, List, [], ◌∷◌, codes, decimal}
 use Rattle.hyd_net.specs.declared.refusal_cause.Cause.{Cause}
@@ -24,8 +24,16 @@ detail_of (Unsupported part) = part
 detail_of (Limit limit) = limit
 detail_of cause = 0
 
--- `REFUSED line N cause C detail D`
+-- `N cause C detail D`
+abbrev pub fault_words : ℕ → Cause → List (List ℕ)
+fault_words number cause =
+    decimal number ∷ (codes "cause" ∷ (decimal (cause_number cause) ∷ (codes "detail" ∷ (decimal (detail_of cause) ∷ []))))
+
+-- of an input file: `REFUSED line N cause C detail D`
 abbrev pub refused_text_line : ℕ → Cause → List ℕ
-refused_text_line number cause =
-    line (codes "REFUSED" ∷ (codes "line" ∷ (decimal number ∷ (codes "cause" ∷ (decimal (cause_number cause)
-    ∷ (codes "detail" ∷ (decimal (detail_of cause) ∷ [])))))))
+refused_text_line number cause = line (codes "REFUSED" ∷ (codes "line" ∷ fault_words number cause))
+
+-- of the text of a spread: `REFUSED SPREAD line N cause C detail D`
+abbrev pub refused_spread_line : ℕ → Cause → List ℕ
+refused_spread_line number cause =
+    line (codes "REFUSED" ∷ (codes "SPREAD" ∷ (codes "line" ∷ fault_words number cause)))

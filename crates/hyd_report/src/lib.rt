@@ -29,7 +29,7 @@ pub use flow_lines::{put_flow_line, put_refused_flow};
 pub use junctions::put_junction_line;
 pub use links::put_link_line;
 pub use refused_records::put_refused;
-pub use refused_text::put_refused_text;
+pub use refused_text::{put_refused_spread, put_refused_text};
 pub use report::put_report;
 pub use report_time::{is_report_time, put_time};
 pub use reservoirs::put_reservoir_line;

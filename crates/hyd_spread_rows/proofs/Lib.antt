@@ -1,4 +1,4 @@
 mod SaidLemmas
 mod ReadLemmas
 mod ResolvedLemmas
-mod LevelLineLemmas
+mod LineThatCountsLemmas

@@ -1,4 +1,5 @@
 pub mod RowsRead
 pub mod RowsSaid
 pub mod SpreadsRead
-pub mod LinesOfLevels
+pub mod LinesThatCount
+pub mod TextsWithoutRows

@@ -16,7 +16,7 @@ pub struct SpreadFault {
 }
 
 /// The fault of a text of more than 64 MiB.
-pub(crate) const TEXT_TOO_LONG: SpreadFault = SpreadFault {
+pub const TEXT_TOO_LONG: SpreadFault = SpreadFault {
     line: 0,
     cause: Cause::Limit(1),
 };

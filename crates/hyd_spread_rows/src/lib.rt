@@ -3,18 +3,20 @@
 
 mod fault;
 mod ids;
-mod level_lines;
 mod lines;
+mod lines_that_count;
 mod names;
 mod numbers;
 mod reader;
 mod resolved;
 mod rows;
 mod said;
+mod texts_without_rows;
 mod words;
 
-pub use fault::{SpreadFault, SpreadRefused};
+pub use fault::{SpreadFault, SpreadRefused, TEXT_TOO_LONG};
 pub use hyd_spec_spread_rows::{Ends, Subject};
-pub use level_lines::level_line;
+pub use lines_that_count::{level_line, line_for};
 pub use reader::read_spread;
 pub use resolved::SpreadRows;
+pub use texts_without_rows::has_rows;

@@ -32,8 +32,8 @@ pub(crate) struct Tables {
     pub(crate) levels: Said,
 }
 
-// Whether two subjects are the same.
-fn is_same(one: Subject, other: Subject) -> bool
+/// Whether two subjects are the same.
+pub(crate) fn is_same(one: Subject, other: Subject) -> bool
     ensures { result ≡ is_subject (Some one) other }
 {
     match one {

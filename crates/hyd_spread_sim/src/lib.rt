@@ -17,4 +17,5 @@ mod steps;
 mod without_spread;
 
 pub use period_attempt::{Fault, try_period};
+pub use run_at_start::Unopened;
 pub use spread_sim::SpreadSim;

@@ -107,6 +107,13 @@ fn open_parts(
     })
 }
 
+/// Why a run couldn't be opened, and its network.
+#[derive(Drop)]
+pub struct Unopened {
+    pub project: Project,
+    pub refused: SpreadNetsRefused,
+}
+
 impl SpreadSim {
     /// A run at its start, with all the memory that it will need. Fails where the network has no nets for the spread,
     /// or for want of memory.
@@ -115,7 +122,7 @@ impl SpreadSim {
         project: Project,
         start: SpreadStart,
         settings: OpenSettings,
-    ) -> Result<SpreadSim, SpreadNetsRefused>
+    ) -> Result<SpreadSim, Unopened>
         requires sound { IsSound project }
         requires start { BeginsRun project start }
         ensures standing { IfOk result (λ sim. standing_of sim ≡ open_standing_within project (spread_of start.rows)) }
@@ -123,21 +130,24 @@ impl SpreadSim {
         ensures running { IfOk result (λ sim. sim.stopped ≡ None) }
         ensures project { IfOk result (λ sim. sim.project ≡ project) }
         ensures settings { IfOk result (λ sim. sim.settings ≡ settings) }
-        ensures refused { IfErr result (IsRefusedFor project (spread_of start.rows)) }
+        ensures refused { IfErr result (λ fault. IsRefusedFor project (spread_of start.rows) fault.refused) }
+        ensures kept { IfErr result (λ fault. fault.project ≡ project) }
     {
         let standing = start.standing;
-        let parts = open_parts(alloc, &project, start.rows, settings.search.rounds)?;
-        Ok(SpreadSim {
-            project,
-            settings,
-            nets: parts.nets,
-            search: parts.vectors.search,
-            found: parts.vectors.found,
-            facts: parts.period.facts,
-            standing,
-            close: parts.period.close,
-            stopped: None,
-        })
+        match open_parts(alloc, &project, start.rows, settings.search.rounds) {
+            Ok(parts) => Ok(SpreadSim {
+                project,
+                settings,
+                nets: parts.nets,
+                search: parts.vectors.search,
+                found: parts.vectors.found,
+                facts: parts.period.facts,
+                standing,
+                close: parts.period.close,
+                stopped: None,
+            }),
+            Err(refused) => Err(Unopened { project, refused }),
+        }
     }
 
     /// Stands at its start again. It takes no memory.

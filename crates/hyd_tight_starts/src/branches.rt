@@ -31,8 +31,8 @@ pub(crate) struct Branches {
     on: Vec<u32>,
     /// How many ticks its head lies above that node's.
     rise: Vec<i64>,
-    /// What those that hang on each node add to what it passes by, and its own outflow, where that is the same at every
-    /// head.
+    /// What those that hang on each node add to what it passes by, and its own outflow, where that is the same at
+    /// every head.
     load: Vec<i64>,
     /// From which junctions the same flows out, whatever their heads.
     flat: Vec<bool>,
@@ -42,8 +42,8 @@ pub(crate) struct Branches {
     many: u32,
     /// Which they are.
     steps: Vec<bool>,
-    /// Which of them pass by more or less when all step: those from which not the same flows out at every head, and those
-    /// that a link ties to a node that doesn't step.
+    /// Which of them pass by more or less when all step: those from which not the same flows out at every head, and
+    /// those that a link ties to a node that doesn't step.
     anchored: Vec<bool>,
 }
 
@@ -144,8 +144,8 @@ impl Branches {
         is_marked(&self.flat, junction)
     }
 
-    /// What those that hang on a junction add to what it passes by, and its own outflow, where that is the same at every
-    /// head.
+    /// What those that hang on a junction add to what it passes by, and its own outflow, where that is the same at
+    /// every head.
     pub(crate) fn load(&self, junction: u32) -> i64 {
         number_at(&self.load, junction)
     }

@@ -25,7 +25,7 @@ const FIRST_POWER: u32 = 50;
 const MOST_STEPS: u64 = 4_000_000;
 
 /// So many on one of few ways: one for each side.
-pub(crate) const MOST_STEPS_OF_FEW: u64 = 128_000_000;
+pub(crate) const MOST_STEPS_OF_FEW: u64 = 32_000_000;
 
 /// After so many steps a leap is tried. Where it leads nowhere, twice as many are made before the next one, up to the
 /// most.

@@ -11,8 +11,8 @@ use hyd_period_network::Net;
 use hyd_spec_certificates::{BOX_LIMIT, Side};
 use std::alloc::{AllocError as OutOfMemory, Global};
 
-/// So often a junction is raised about as far as it has to. From then on each raise is at least twice as long as the one
-/// before may have been, for sets of junctions that climb together.
+/// So often a junction is raised about as far as it has to. From then on each raise is at least twice as long as the
+/// one before may have been, for sets of junctions that climb together.
 const SHORT_RAISES: i64 = 12;
 
 /// The longest way that a raise has for that: 2 to the power of this many ticks.
@@ -111,9 +111,9 @@ impl Trial {
         }
     }
 
-    // Moves a junction that falls short farther out, by half of its last way where that did at once, and then by twice as
-    // much and again until it passes, which may be too far by some: steps come nearer again. It goes no farther than where
-    // it would pass whatever the others did.
+    // Moves a junction that falls short farther out, by half of its last way where that did at once, and then by twice
+    // as much and again until it passes, which may be too far by some: steps come nearer again. It goes no farther than
+    // where it would pass whatever the others did.
     fn raise(&mut self, net: &Net, side: Side, branches: &Branches, junction: u32, most: i64) {
         let from = number_at(&self.heads, junction);
         let least = least_raise(number_at(&self.raised, junction));
@@ -188,7 +188,7 @@ impl Trial {
         false
     }
 
-    /// Whether less than half of the raises were made that might have been: then a leap twice as far may be mended too.
+    /// Whether less than half of the raises were made that might have been: a leap twice as far may be mended then.
     pub(crate) fn was_easy(&self, branches: &Branches) -> bool {
         self.left > branches.many().saturating_mul(RAISES / 2)
     }

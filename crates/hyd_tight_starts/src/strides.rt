@@ -173,8 +173,8 @@ fn own_reach(
     most
 }
 
-/// The most ticks, in whole steps, with which the junctions that don't stay pass nearer together, where those on the rim
-/// pass a step nearer.
+/// The most ticks, in whole steps, with which the junctions that don't stay pass nearer together, where those on the
+/// rim pass a step nearer.
 pub(crate) fn reach(
     net: &Net,
     branches: &Branches,

@@ -1,5 +1,5 @@
 -- The words that are collected are those behind the program's name.
-use Rattle.std.proofs.Common.{Option, sym, ◌∙◌, ap, map, subst}
+use Rattle.std.proofs.Common.{Option, ◌∙◌, ap, map, subst}
 use Rattle.std.specs.Prelude.{string_bytes}
 use Rattle.hyd_command_words.specs.CommandGrammar.{Order, order_of}
 use Rattle.hyd_command_answers.specs.DeskContents.{seen}

@@ -2,9 +2,11 @@
 use Rattle.std.proofs.Common.{◌≡◌, Option, Some, option_map, sym, ap, ◌∙◌, subst}
 use Rattle.hyd_command_words.specs.CommandGrammar.{Order, run, check, gen, fire, closures, witness, meet}
 use Rattle.hyd_command_words.specs.CommandView.{order_seen, run_seen, gen_seen, files_seen, fire_seen, closures_seen}
-use Rattle.hyd_command_words.specs.CommandView.{witness_seen, meet_seen}
+use Rattle.hyd_command_words.specs.CommandGrammar.{run_over, check_over}
+use Rattle.hyd_command_words.specs.CommandView.{witness_seen, meet_seen, spread_run_seen, spread_check_seen}
 use Rattle.hyd_command_words.specs.declared.command.Command.{Command}
 use Rattle.hyd_command_words.specs.declared.command.Command.TheVariants.{Run, Check, Gen, Fire, Closures, Witness, Meet}
+use Rattle.hyd_command_words.specs.declared.command.Command.TheVariants.{RunOver, CheckOver}
 use Rattle.hyd_command_answers.specs.DeskContents.{seen}
 use Rattle.hyd_cli.specs.Answers.{Leaves}
 use Rattle.hyd_cli.specs.Commands.{DoesOrder}
@@ -215,3 +217,55 @@ returns-in-Some-Meet-clause-does g c =
       only_prints = c.meet_file.ensures.only_prints;
       once = c.meet_file.ensures.once;
     })
+
+pub returns-in-Some-RunOver-clause-leaves : goal.returns-in-Some-RunOver-clause-leaves
+returns-in-Some-RunOver-clause-leaves g c =
+    let words = c.in-Some-RunOver.words in
+    let kind : c.in-Some-RunOver.field-0 ≡ RunOver words = rw c.in-Some-RunOver.is at c.in-Some-RunOver.field-0-is in
+    let found : c.args.found ≡ Some (RunOver words) = c.in-Some-RunOver.is ∙ ap Some kind in
+    let before = seen g.D.Desk.files g.D.Desk.written g.D.Desk.printed c.args.desk.now in
+    let now = seen g.D.Desk.files g.D.Desk.written g.D.Desk.printed c.run_for_spread.new.desk in
+    let known : option_map order_seen c.args.found ≡ Some (run_over (spread_run_seen words)) =
+    ap (λ (f : Option Command). option_map order_seen f) found in
+    subst (λ (o : Option Order). Leaves o c.run_for_spread.result before now) (sym known)
+    c.run_for_spread.ensures.leaves
+
+pub returns-in-Some-RunOver-clause-does : goal.returns-in-Some-RunOver-clause-does
+returns-in-Some-RunOver-clause-does g c =
+    let words = c.in-Some-RunOver.words in
+    let kind : c.in-Some-RunOver.field-0 ≡ RunOver words = rw c.in-Some-RunOver.is at c.in-Some-RunOver.field-0-is in
+    let found : c.args.found ≡ Some (RunOver words) = c.in-Some-RunOver.is ∙ ap Some kind in
+    let before = seen g.D.Desk.files g.D.Desk.written g.D.Desk.printed c.args.desk.now in
+    let now = seen g.D.Desk.files g.D.Desk.written g.D.Desk.printed c.run_for_spread.new.desk in
+    let known : option_map order_seen c.args.found ≡ Some (run_over (spread_run_seen words)) =
+    ap (λ (f : Option Command). option_map order_seen f) found in
+    subst (λ (o : Option Order). DoesOrder o c.run_for_spread.result before now (g.D.Desk.openings c.args.desk.now)
+    (g.D.Desk.openings c.run_for_spread.new.desk) (g.D.Desk.ready c.run_for_spread.new.desk)) (sym known)
+    c.run_for_spread.ensures.does
+
+pub returns-in-Some-CheckOver-clause-leaves : goal.returns-in-Some-CheckOver-clause-leaves
+returns-in-Some-CheckOver-clause-leaves g c =
+    let words = c.in-Some-CheckOver.words in
+    let kind : c.in-Some-CheckOver.field-0 ≡ CheckOver words =
+    rw c.in-Some-CheckOver.is at c.in-Some-CheckOver.field-0-is in
+    let found : c.args.found ≡ Some (CheckOver words) = c.in-Some-CheckOver.is ∙ ap Some kind in
+    let before = seen g.D.Desk.files g.D.Desk.written g.D.Desk.printed c.args.desk.now in
+    let now = seen g.D.Desk.files g.D.Desk.written g.D.Desk.printed c.check_for_spread.new.desk in
+    let known : option_map order_seen c.args.found ≡ Some (check_over (spread_check_seen words)) =
+    ap (λ (f : Option Command). option_map order_seen f) found in
+    subst (λ (o : Option Order). Leaves o c.check_for_spread.result before now) (sym known)
+    c.check_for_spread.ensures.leaves
+
+pub returns-in-Some-CheckOver-clause-does : goal.returns-in-Some-CheckOver-clause-does
+returns-in-Some-CheckOver-clause-does g c =
+    let words = c.in-Some-CheckOver.words in
+    let kind : c.in-Some-CheckOver.field-0 ≡ CheckOver words =
+    rw c.in-Some-CheckOver.is at c.in-Some-CheckOver.field-0-is in
+    let found : c.args.found ≡ Some (CheckOver words) = c.in-Some-CheckOver.is ∙ ap Some kind in
+    let before = seen g.D.Desk.files g.D.Desk.written g.D.Desk.printed c.args.desk.now in
+    let now = seen g.D.Desk.files g.D.Desk.written g.D.Desk.printed c.check_for_spread.new.desk in
+    let known : option_map order_seen c.args.found ≡ Some (check_over (spread_check_seen words)) =
+    ap (λ (f : Option Command). option_map order_seen f) found in
+    subst (λ (o : Option Order). DoesOrder o c.check_for_spread.result before now (g.D.Desk.openings c.args.desk.now)
+    (g.D.Desk.openings c.check_for_spread.new.desk) (g.D.Desk.ready c.check_for_spread.new.desk)) (sym known)
+    c.check_for_spread.ensures.does

@@ -1,0 +1,41 @@
+-- What was read, and what was found of it.
+use Rattle.std.proofs.Common.{refl, sym, ◌∙◌}
+use Rattle.hyd_spread_run.specs.PeriodsOfSpreadRuns.{standing_of}
+use Rattle.hyd_run.specs.Pens.{told}
+use Rattle.hyd_cert_check.specs.ReaderAndPen.{moment}
+use Rattle.hyd_spread_check_so_far.specs.SpreadCheckSoFar.{in_reading}
+use Rattle.hyd_spread_check.proofs.records.take_record.Goals as goal
+
+pub read_record-requires : goal.read_record-requires
+read_record-requires g c = c.requires.going.going
+
+pub try_record-requires-clause-header : goal.try_record-requires-clause-header
+try_record-requires-clause-header g c = c.read_record.ensures.header ∙ c.requires.header
+
+pub try_record-requires-clause-unbroken : goal.try_record-requires-clause-unbroken
+try_record-requires-clause-unbroken g c = c.requires.going.pen
+
+pub returns-in-Ok-Some-clause-gives : goal.returns-in-Ok-Some-clause-gives
+returns-in-Ok-Some-clause-gives g c =
+    let sim = c.args.sim.now in
+    let found = rw c.in-Ok-Some.field-0-is at (c.in-Ok-Some.ensures.gives sim.project sim.nets.spread
+    (standing_of sim) c.args.pen.now c.requires.header (sym c.number.ensures) (sym c.is_finished.ensures)
+    c.requires.going.pen) in
+    record { is_so = found.0; stays = refl; put = found.1 }
+
+pub returns-in-Err-clause-gives : goal.returns-in-Err-clause-gives
+returns-in-Err-clause-gives g c =
+    let sim = c.args.sim.now in
+    in_reading (c.in-Err.ensures.gives sim.project sim.nets.spread (standing_of sim) c.args.pen.now
+    c.requires.header (sym c.number.ensures) (sym c.is_finished.ensures) c.requires.going.pen)
+
+pub returns-clause-gives : goal.returns-clause-gives
+returns-clause-gives g c =
+    let D = g.D.Desk in
+    let sim = c.args.sim.now in
+    let before = moment c.args.reader.now c.args.pen.now
+    (told D.files D.rest D.written D.printed D.target D.ready D.counts D.openings c.args.desk.now) in
+    let found = rw c.in-Ok-None.field-0-is at (c.in-Ok-None.ensures.gives sim.project sim.nets.spread
+    (standing_of sim) c.args.pen.now c.requires.header (sym c.number.ensures) (sym c.is_finished.ensures)
+    c.requires.going.pen) in
+    c.try_record.ensures.tries before c.read_record.new.reader found.0 found.1

@@ -1,0 +1,53 @@
+-- One record after another.
+use Rattle.std.proofs.Common.{◌∙◌, sym, ap}
+use Rattle.std.specs.Prelude.{Ok, Err, Some, None}
+use Rattle.hyd_spec_open_checks.specs.OpenChecks.{open_header_for}
+use Rattle.hyd_spread_check_so_far.proofs.WholeSpreadCheckLemmas.{turn-more, turn-over, turn-lost, goes-on}
+use Rattle.hyd_spread_check.proofs.SpreadRecordLemmas.{turn-as}
+use Rattle.hyd_spread_check.proofs.records.take_records.Goals as goal
+
+pub take_record-requires-clause-header : goal.take_record-requires-clause-header
+take_record-requires-clause-header g c =
+    let i = c.loop-conclusion.invariant in
+    i.header ∙ ap open_header_for (sym i.project)
+
+pub returns-in-Ok-Some-clause-give : goal.returns-in-Ok-Some-clause-give
+returns-in-Ok-Some-clause-give g c =
+    let i = c.loop-conclusion.invariant in
+    let over = turn-as (Ok (Some c.in-Ok-Some.conclusion)) _ _ _ _ _ _ _ _ i.project i.spread
+    (rw c.in-Ok-Some.field-0-is at c.in-Ok-Some.ensures.gives) in
+    λ start so_far. turn-over _ _ c.in-Ok-Some.conclusion _ _ start _ _ over (i.so_far start so_far)
+
+pub returns-in-Ok-Some-clause-unbroken : goal.returns-in-Ok-Some-clause-unbroken
+returns-in-Ok-Some-clause-unbroken g c =
+    let over = rw c.in-Ok-Some.field-0-is at c.in-Ok-Some.ensures.gives in
+    over.put.open_still
+
+pub returns-in-Err-clause-give : goal.returns-in-Err-clause-give
+returns-in-Err-clause-give g c =
+    let i = c.loop-conclusion.invariant in
+    let sim = c.project-project.ensures.is_sim in
+    let lost = turn-as (Err c.in-Err.fault) _ _ _ _ _ _ _ _ i.project i.spread c.in-Err.ensures.gives in
+    λ start so_far. turn-lost _ _ c.in-Err.fault _ _ start _ _ sim.sound sim.spread lost (i.so_far start so_far)
+
+pub loop-conclusion-preserved : goal.loop-conclusion-preserved
+loop-conclusion-preserved g c =
+    let i = c.loop-conclusion.invariant in
+    let sim = c.project-project.ensures.is_sim in
+    let did = turn-as (Ok None) _ _ _ _ _ _ _ _ i.project i.spread
+    (rw c.in-Ok-None.field-0-is at c.in-Ok-None.ensures.gives) in
+    record {
+      project = c.take_record.ensures.project ∙ i.project;
+      settings = c.take_record.ensures.settings ∙ i.settings;
+      spread = c.take_record.ensures.spread ∙ i.spread;
+      running = c.take_record.ensures.running;
+      header = c.take_record.ensures.header ∙ i.header;
+      going = goes-on _ _ _ _ _ _ did;
+      so_far = λ start so_far. turn-more _ _ _ _ start _ _ sim.sound sim.spread did (i.so_far start so_far);
+    }
+
+pub loop-conclusion-smaller : goal.loop-conclusion-smaller
+loop-conclusion-smaller g c =
+    let i = c.loop-conclusion.invariant in
+    let did = turn-as (Ok None) _ _ _ _ _ _ _ _ i.project i.spread
+    (rw c.in-Ok-None.field-0-is at c.in-Ok-None.ensures.gives) in did.fewer

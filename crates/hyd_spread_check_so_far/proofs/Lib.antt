@@ -1,0 +1,4 @@
+pub mod LinesOfOpenTexts
+pub mod SpreadReading
+pub mod SpreadConclusions
+pub mod WholeSpreadCheckLemmas

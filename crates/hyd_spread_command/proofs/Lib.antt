@@ -1,0 +1,5 @@
+pub mod OpenedRuns
+pub mod PutOutRuns
+pub mod SpreadLemmas
+pub mod SpreadCheckLemmas
+pub mod SpreadTextLemmas

@@ -1,0 +1,5 @@
+pub mod RefusedSpreads
+pub mod SpreadAnswers
+pub mod SpreadChecks
+pub mod SpreadFiles
+pub mod SpreadOrders

@@ -1,0 +1,2 @@
+pub mod SpreadPeriodLemmas
+pub mod SpreadStepLemmas

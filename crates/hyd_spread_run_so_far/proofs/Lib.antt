@@ -1,0 +1,4 @@
+pub mod CountsOfSpreads
+pub mod SpreadRunTexts
+pub mod SpreadRunLemmas
+pub mod WholeSpreadRunLemmas

@@ -1,0 +1,4 @@
+pub mod OneSpreadRun
+pub mod NeverRefusedOver
+pub mod AllRecordsOfTexts
+pub mod OneSpreadAnswer
