@@ -1,0 +1,3 @@
+pub mod FirstPeriodWithin
+pub mod BracketsOverPairs
+pub mod WordsOverPairs

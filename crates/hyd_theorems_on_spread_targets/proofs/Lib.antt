@@ -1,0 +1,9 @@
+pub mod HeldComparisonWithin
+pub mod FirstPeriodWithin
+pub mod EdgesHoldWithin
+pub mod WordsHoldWithin
+pub mod OwnNetwork
+pub mod DrawingsAlike
+pub mod WithoutSpread
+pub mod PairsInOrder
+pub mod OneWordOverPairs
