@@ -12,7 +12,7 @@ use Rattle.hyd_written_witnesses.specs.CommandWitness.{DoesWitness}
 use Rattle.hyd_spread_command.specs.SpreadOrders.{DoesSpreadCheck}
 use Rattle.hyd_cli.specs.Commands.{AnswersPlainOrder, AnswersOrder, DoesRun, DoesCheck, DoesGen, DoesOrder}
 use Rattle.hyd_cli.specs.SpreadRuns.{DoesSpreadRun}
-use Rattle.hyd_check_command.proofs.CheckLemmas.{prints_nothing}
+use Rattle.hyd_spread_command.proofs.PassedOn.{prints_nothing}
 
 untouched : (same : Seen) → IsUntouched same same
 untouched same = record { files = refl; written = refl; printed = refl }

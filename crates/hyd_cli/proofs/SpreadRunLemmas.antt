@@ -5,7 +5,7 @@ use Rattle.hyd_spec.specs.ProgramTypes.{Project}
 use Rattle.hyd_spec_spread.specs.Spreads.{Spread}
 use Rattle.hyd_spec_spread_rows.specs.TextsOfSpreads.{spread_in}
 use Rattle.hyd_sim.specs.declared.settings.Settings.{Settings}
-use Rattle.hyd_spread_run_so_far.specs.SpreadRunSoFar.{Asked as AskedOver}
+use Rattle.hyd_spread_command.specs.PassedOn.{Asked as AskedOver}
 use Rattle.hyd_command_words.specs.CommandGrammar.{RunOrder}
 use Rattle.hyd_command_answers.specs.DeskContents.{Seen, IsUntouched}
 use Rattle.hyd_command_answers.specs.WrittenCertificates.{Holds}

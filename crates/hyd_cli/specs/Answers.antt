@@ -12,7 +12,7 @@ use Rattle.hyd_command_answers.specs.DeskContents.{Seen, IsUntouched, OnlyPrinte
 use Rattle.hyd_command_answers.specs.FaultsAndRefusals.{PrintsRefusal}
 use Rattle.hyd_target_commands.specs.CommandsOnTargets.{LeavesNet}
 use Rattle.hyd_open_command.specs.PassedOn.{LeavesNaming}
-use Rattle.hyd_check_command.specs.CheckAnswers.{LeavesCheck}
+use Rattle.hyd_spread_command.specs.PassedOn.{LeavesCheck}
 use Rattle.hyd_written_witnesses.specs.CommandWitness.{LeavesSearch}
 use Rattle.hyd_spread_command.specs.SpreadAnswers.{LeavesOver}
 use Rattle.hyd_spread_command.specs.SpreadChecks.{LeavesCheckOver}

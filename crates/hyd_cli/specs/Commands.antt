@@ -17,8 +17,8 @@ use Rattle.hyd_cli.specs.RunAnswers.{AnswersText}
 use Rattle.hyd_open_command.specs.PassedOn.{AnswersTextNaming}
 use Rattle.hyd_open_command.specs.OpenAnswers.{AnswersTextOpenly}
 use Rattle.hyd_open_certificates.specs.OpenFaults.{HasOpenHeader, LacksOpenHeader}
-use Rattle.hyd_check_command.specs.CheckAnswers.{AnswersCheck, ReadsBoth}
-use Rattle.hyd_check_command.specs.OpenCheckAnswers.{AnswersOpenCheck}
+use Rattle.hyd_spread_command.specs.PassedOn.{AnswersCheck, ReadsBoth}
+use Rattle.hyd_spread_command.specs.PassedOn.{AnswersOpenCheck}
 use Rattle.hyd_target_commands.specs.CommandsOnTargets.{DoesFire, DoesClosures}
 use Rattle.hyd_witness_commands.specs.CommandMeet.{DoesMeet}
 use Rattle.hyd_written_witnesses.specs.CommandWitness.{DoesWitness}

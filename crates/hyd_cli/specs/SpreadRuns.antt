@@ -10,7 +10,7 @@ use Rattle.hyd_spec_input.specs.Faults.{IsFault, HasNoFault}
 use Rattle.hyd_spec_spread.specs.Spreads.{Spread}
 use Rattle.hyd_spec_spread_rows.specs.TextsOfSpreads.{spread_in}
 use Rattle.hyd_run.specs.Runs.{sharpness_of}
-use Rattle.hyd_spread_run_so_far.specs.SpreadRunSoFar.{Asked}
+use Rattle.hyd_spread_command.specs.PassedOn.{Asked}
 use Rattle.hyd_command_words.specs.CommandGrammar.{RunOrder, SpreadRunOrder}
 use Rattle.hyd_command_answers.specs.DeskContents.{Seen, IsUntouched, ChangesOnly}
 use Rattle.hyd_command_answers.specs.FaultsAndRefusals.{AnswersRefused, OfNetwork}

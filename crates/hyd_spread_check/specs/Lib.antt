@@ -1,1 +1,2 @@
 pub mod SpreadRunsChecked
+pub mod PassedOn

@@ -7,5 +7,5 @@
 mod records;
 mod whole_check;
 
-pub use hyd_spread_run::{OpenSettings, SpreadSim};
+pub use hyd_spread_run::{OpenSettings, SpreadSim, run_over};
 pub use whole_check::check_over;

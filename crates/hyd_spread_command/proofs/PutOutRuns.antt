@@ -7,7 +7,7 @@ use Rattle.hyd_io.specs.declared.output.OutFault.TheVariants.{Fault, Stalled as 
 use Rattle.hyd_spec.specs.ProgramTypes.{Project}
 use Rattle.hyd_spec_reports.specs.PromisesOfRunsAndChecks.{Outcome}
 use Rattle.hyd_run.specs.Pens.{Told, LeavesRest}
-use Rattle.hyd_spread_run.specs.PeriodsOfSpreadRuns.{Asked, IsPutOutOver, IsBrokenOffOver}
+use Rattle.hyd_spread_check.specs.PassedOn.{Asked, IsPutOutOver, IsBrokenOffOver}
 use Rattle.hyd_command_answers.specs.DeskContents.{Seen, IsUntouched}
 use Rattle.hyd_command_answers.specs.FaultsAndRefusals.{status_of_fault}
 use Rattle.hyd_command_answers.specs.Statuses.{status_of_outcome}

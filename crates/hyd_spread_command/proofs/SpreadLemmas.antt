@@ -3,7 +3,7 @@ use Rattle.std.proofs.Common.{◌≡◌, ℕ, List, ◌⊎◌, inl, inr, sym, su
 use Rattle.hyd_io.specs.DeskBytes.{file_at}
 use Rattle.hyd_net.specs.declared.refusal_cause.Cause.{Cause}
 use Rattle.hyd_spec.specs.ProgramTypes.{Project}
-use Rattle.hyd_spread_run.specs.PeriodsOfSpreadRuns.{Asked}
+use Rattle.hyd_spread_check.specs.PassedOn.{Asked}
 use Rattle.hyd_command_answers.specs.DeskContents.{Seen, IsUntouched, FilesStay}
 use Rattle.hyd_command_answers.specs.WrittenCertificates.{Holds}
 use Rattle.hyd_command_answers.specs.declared.status.Status.{Status}

@@ -3,3 +3,4 @@ pub mod SpreadAnswers
 pub mod SpreadChecks
 pub mod SpreadFiles
 pub mod SpreadOrders
+pub mod PassedOn

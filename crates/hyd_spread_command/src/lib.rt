@@ -15,6 +15,7 @@ mod whole_check;
 mod whole_run;
 
 pub use check_command::check_for_spread;
+pub use hyd_check_command::check_files;
 pub use hyd_spread_rows::{SpreadFault, TEXT_TOO_LONG};
 pub use refused_spread::refuse_spread;
 pub use spread_file::{SpreadFile, read_spread_file};

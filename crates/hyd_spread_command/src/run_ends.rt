@@ -3,7 +3,7 @@
 use hyd_io::Desk;
 use hyd_run::RunEnd;
 use hyd_sentences::{DuePeriod, Stopped};
-use hyd_spread_run::SpreadSim;
+use hyd_spread_check::SpreadSim;
 
 // What is known of the period in which a run stopped.
 fn due_period(sim: &SpreadSim) -> DuePeriod<'_> {

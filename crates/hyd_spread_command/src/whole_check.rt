@@ -11,7 +11,7 @@ ghost use Rattle.hyd_spec_open_checks.specs.OpenChecks.{open_header_for};
 ghost use Rattle.hyd_cert.specs.ReaderView.{to_come};
 ghost use Rattle.hyd_cert_check.specs.ReaderAndPen.{IsAtStart};
 ghost use Rattle.hyd_open_certificates.specs.OpenRowView.{open_header_of};
-ghost use Rattle.hyd_spread_run.specs.PeriodsOfSpreadRuns.{standing_of};
+ghost use Rattle.hyd_spread_check.specs.PassedOn.{standing_of};
 ghost use Rattle.hyd_command_answers.specs.DeskContents.{seen, OnlyPrintedSome};
 ghost use Rattle.hyd_command_answers.specs.FaultsAndRefusals.{HasCause};
 ghost use Rattle.hyd_spread_command.specs.SpreadChecks.{AnswersCertOver, AnswersCheckWithin, ReadsCertOver};
@@ -26,9 +26,8 @@ use hyd_command_answers::Status;
 use hyd_io::{Channel, Desk, Pen};
 use hyd_net::{OutOfMemory, Project};
 use hyd_open_certificates::{OpenCertReader, OpenRow};
-use hyd_spread_check::check_over;
+use hyd_spread_check::{SpreadSim, check_over};
 use hyd_spread_rows::SpreadRefused;
-use hyd_spread_run::SpreadSim;
 use std::alloc::Global;
 
 // Room for a record of a network.

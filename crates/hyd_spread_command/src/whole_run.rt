@@ -5,7 +5,7 @@ ghost use Rattle.hyd_net.specs.Sound.{IsSound};
 ghost use Rattle.hyd_spec_open_spreads.specs.OpenRunsForSpreads.{open_standing_within};
 ghost use Rattle.hyd_spec_spread_reports.specs.TextsOfSpreadReports.{says_nothing};
 ghost use Rattle.hyd_spec_spread_rows.specs.TextsOfSpreads.{spread_in};
-ghost use Rattle.hyd_spread_run.specs.PeriodsOfSpreadRuns.{asked_of, standing_of};
+ghost use Rattle.hyd_spread_check.specs.PassedOn.{asked_of, standing_of};
 ghost use Rattle.hyd_command_answers.specs.DeskContents.{seen, ChangesOnly};
 ghost use Rattle.hyd_command_answers.specs.FaultsAndRefusals.{HasCause};
 ghost use Rattle.hyd_command_answers.specs.OpeningsOfRuns.{OpensCert};
@@ -20,9 +20,9 @@ use hyd_io::{Channel, Desk, Pen};
 use hyd_naming_command::status_of_end;
 use hyd_net::{OutOfMemory, Project};
 use hyd_spec_certificates::Side;
+use hyd_spread_check::{OpenSettings, SpreadSim, run_over};
 use hyd_spread_networks::SpreadNets;
 use hyd_spread_rows::SpreadRefused;
-use hyd_spread_run::{OpenSettings, SpreadSim, run_over};
 use std::alloc::Global;
 
 /// The names of the files of a run for a spread.

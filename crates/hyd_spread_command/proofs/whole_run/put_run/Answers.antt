@@ -5,7 +5,7 @@ use Rattle.hyd_run.specs.Pens.{told, OneRose}
 use Rattle.hyd_run.specs.Runs.{outcome_of}
 use Rattle.hyd_command_answers.specs.DeskContents.{seen}
 use Rattle.hyd_command_answers.specs.FaultsAndRefusals.{HasCause}
-use Rattle.hyd_spread_run.specs.PeriodsOfSpreadRuns.{asked_of}
+use Rattle.hyd_spread_check.specs.PassedOn.{asked_of}
 use Rattle.hyd_spread_command.specs.SpreadAnswers.{AnswersRunOver}
 use Rattle.hyd_command_answers.specs.OpeningsOfRuns.{OpensCert}
 use Rattle.hyd_command_answers.specs.declared.status.Status.{Status}

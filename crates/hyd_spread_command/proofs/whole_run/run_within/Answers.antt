@@ -1,8 +1,7 @@
 -- The run is for the spread of the text; or the text is refused with its fault, or memory is lacking.
 use Rattle.std.proofs.Common.{◌∙◌, ap, refl}
 use Rattle.hyd_spec_spread_rows.specs.TextsOfSpreads.{spread_in}
-use Rattle.hyd_open_sim.specs.declared.open_settings.OpenSettings.{OpenSettings}
-use Rattle.hyd_spread_run.specs.PeriodsOfSpreadRuns.{asked_of}
+use Rattle.hyd_spread_check.specs.PassedOn.{asked_of}
 use Rattle.hyd_command_answers.specs.DeskContents.{seen}
 use Rattle.hyd_spread_command.specs.RefusedSpreads.{IsSpreadFault, AnswersSpreadRefused}
 use Rattle.hyd_spread_command.specs.SpreadAnswers.{refuses, runs, lacks_memory}
@@ -17,7 +16,7 @@ returns-in-Ok-clause-answers g c =
     runs c.in-Ok.ensures.gives (run_of c.args.project c.in-Ok.sim.project (asked_of c.args.settings spread)
     (asked_of c.in-Ok.sim.settings c.in-Ok.sim.nets.spread) c.args.names.cert.now c.run_by_gradients-status.result
     before now c.in-Ok.ensures.project
-    (ap (λ (s : OpenSettings). asked_of s c.in-Ok.sim.nets.spread) c.in-Ok.ensures.settings
+    (ap (λ s. asked_of s c.in-Ok.sim.nets.spread) c.in-Ok.ensures.settings
     ∙ ap (asked_of c.args.settings) c.in-Ok.ensures.spread)
     c.run_by_gradients-status.ensures.answers)
 
