@@ -30,15 +30,15 @@ import multiprocessing
 import os
 import random
 import re
-import subprocess
 import sys
 import tempfile
 from pathlib import Path
 
+from compare_flows import ended
 from compare_input import ROOT
 from compare_open_runs import is_accepted_so, other_checks
-from compare_runs import OTHER_SECONDS, SECONDS, build
-from differences import STAGE, at_most, keep, losses, modules_of, printed_by
+from compare_runs import OTHER_SECONDS, build
+from differences import STAGE, at_most, keep, losses, modules_of
 
 NANO = 10 ** 9
 MOST_PERIODS = 60
@@ -277,17 +277,8 @@ class Outermost:
 # ---------------------------------------------------------------- answers
 
 def called(program, words, **files):
-    """This program's status, printed bytes and certificate."""
-    with tempfile.TemporaryDirectory() as folder:
-        for ending, data in files.items():
-            (Path(folder) / ('n.' + ending)).write_bytes(data)
-        try:
-            done = subprocess.run([program] + words, cwd=folder, stdin=subprocess.DEVNULL, capture_output=True,
-                                  timeout=SECONDS)
-        except subprocess.TimeoutExpired:
-            return 'no end in %d seconds' % SECONDS, b'', None
-        cert = Path(folder) / 'n.cert'
-        return done.returncode, printed_by(done), cert.read_bytes() if cert.exists() else None
+    """This program's status, printed bytes and certificate, of files n.inp, n.rows and so on."""
+    return ended(program, {'n.' + ending: data for ending, data in files.items()}, words)
 
 
 def this_runs(program, words, text, spread=None):
