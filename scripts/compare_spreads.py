@@ -199,24 +199,30 @@ class CantBeWritten(Exception):
 
 
 class Outermost:
-    """The outermost network of a side, as a text."""
+    """The outermost network of a side, as a text. `datum` chooses its data; a class of its own may choose others."""
 
     def __init__(self, modules, text, spread, is_upper):
         self.laws, self.numeric = modules
         self.text, self.spread, self.project, self.is_upper = text, spread, spread.project, is_upper
         self.side, self.other = (1, 0) if is_upper else (0, 1)
 
+    def datum(self, subject, node, ends, place):
+        """What this network has of the interval of a node's datum: the end at this place."""
+        return ends[place]
+
     def demand(self, number, junction):
         """The base demand that gives the outermost ticks, in the file's unit."""
         own = self.laws.demand_at(self.project, number, 0)
-        ticks = products(self.spread.ends('DEMAND', junction, (NANO, NANO)), own)[self.other]
+        ends = products(self.spread.ends('DEMAND', junction, (NANO, NANO)), own)
+        ticks = self.datum('DEMAND', junction, ends, self.other)
         num, den = self.numeric.UNITS[self.project.unit]
         return ticks, decimal((-1 if ticks < 0 else 1) * -(-MULTIPLIER * abs(ticks) * 100 * den // num))
 
     def coefficient(self, junction, nano, head):
         """The outermost coefficient of an emitter at a junction with this head."""
         ends = products(self.spread.ends('EMITTER', junction, (NANO, NANO)), nano)
-        return decimal(ends[self.other if head >= junction.elevation else self.side])
+        place = self.other if head >= junction.elevation else self.side
+        return decimal(self.datum('EMITTER', junction, ends, place))
 
     def head(self, number, reservoir):
         own = self.laws.head_at(self.project, number, 0)
@@ -224,12 +230,12 @@ class Outermost:
         ends = self.spread.ends('HEAD', reservoir, (0, 0))
         if own % ticks:
             raise CantBeWritten
-        return decimal(own // ticks + ends[self.side])
+        return decimal(own // ticks + self.datum('HEAD', reservoir, ends, self.side))
 
     def level(self, number, tank, pinned):
         ticks = 3048 if self.project.us else 10000
         low_high = self.spread.ends('LEVEL', tank, (tank.initial, tank.initial))
-        return decimal(low_high[self.other if number == pinned else self.side] // ticks)
+        return decimal(self.datum('LEVEL', tank, low_high, self.other if number == pinned else self.side) // ticks)
 
     def written(self, heads, pinned=None):
         """The text, where these are the heads of the vector that is compared and a tank may be pinned."""

@@ -2,6 +2,7 @@
 use Rattle.std.specs.Prelude.{ℕ, ◌==◌, Bool, false, List, [], Option, Some, is_none, ℤ, pos, codes}
 use Rattle.std.specs.List.{slice_split, list_all}
 use Rattle.hyd_command_words.specs.CommandGrammar.{Order, run, check, gen, fire, closures, meet}
+use Rattle.hyd_command_words.specs.CommandGrammar.{fire_over, closures_over}
 
 -- the words of a line, parted by single spaces
 abbrev pub typed : List ℕ → List (List ℕ)
@@ -55,6 +56,18 @@ asks_fire net junction pressure rounds =
 
 abbrev pub asks_closures : (net : List ℕ) (pressure : ℤ) (rounds : ℕ) → Option Order
 asks_closures net pressure rounds = Some (closures (record { net = net; pressure = pressure; rounds = rounds }))
+
+abbrev pub asks_fire_over : (net junction : List ℕ) (pressure : ℤ) (rounds : ℕ) (spread : List ℕ) → Option Order
+asks_fire_over net junction pressure rounds spread = Some (fire_over (record {
+  fire = record { net = net; junction = junction; pressure = pressure; rounds = rounds };
+  spread = spread;
+}))
+
+abbrev pub asks_closures_over : (net : List ℕ) (pressure : ℤ) (rounds : ℕ) (spread : List ℕ) → Option Order
+asks_closures_over net pressure rounds spread = Some (closures_over (record {
+  closures = record { net = net; pressure = pressure; rounds = rounds };
+  spread = spread;
+}))
 
 abbrev pub asks_meet : (net witness : List ℕ) → Option Order
 asks_meet net witness = Some (meet (record { net = net; witness = witness }))

@@ -5,6 +5,7 @@ ghost use Rattle.std.specs.Prelude.{◌≡◌, pos, neg_ℤ, true, false, [], �
 ghost use Rattle.hyd_command_words.specs.CommandGrammar.{order_of};
 ghost use Rattle.hyd_cases_of_definitions.specs.Commands.{typed, asks_run, asks_check, asks_gen, are_none};
 ghost use Rattle.hyd_cases_of_definitions.specs.Commands.{asks_fire, asks_closures, asks_flows, asks_meet, asks_slack};
+ghost use Rattle.hyd_cases_of_definitions.specs.Commands.{asks_fire_over, asks_closures_over};
 
 /// The words of `run`: its options in each form, and where they stand.
 pub fn runs()
@@ -118,6 +119,28 @@ pub fn targets()
         ≡
         asks_closures (codes "a") (pos 43000000000) 200 ∷ asks_closures (codes "a") (pos 43000000000) 5 ∷
         asks_closures (codes "a") (neg_ℤ (pos 500000000)) 200 ∷ [] }
+{}
+
+/// The words of `fire` and of `closures` for a spread: FILE is given once, and differs from NET.
+pub fn targets_for_spreads()
+    ensures fires { map order_of (map typed (
+        codes "fire a J 1 --spread s" ∷ codes "fire --spread=J a J 1 --sweeps 7" ∷ codes "fire a --spread s J -- -3" ∷ []))
+        ≡
+        asks_fire_over (codes "a") (codes "J") (pos 1000000000) 200 (codes "s") ∷
+        asks_fire_over (codes "a") (codes "J") (pos 1000000000) 7 (codes "J") ∷
+        asks_fire_over (codes "a") (codes "J") (neg_ℤ (pos 3000000000)) 200 (codes "s") ∷ [] }
+    ensures closes { map order_of (map typed (
+        codes "closures a 43 --spread s" ∷ codes "closures --sweeps=5 a 43 --spread=s" ∷ []))
+        ≡
+        asks_closures_over (codes "a") (pos 43000000000) 200 (codes "s") ∷
+        asks_closures_over (codes "a") (pos 43000000000) 5 (codes "s") ∷ [] }
+    ensures refused { are_none (map order_of (map typed (
+        codes "fire a J 1 --spread a" ∷ codes "fire a J 1 --spread -s" ∷ codes "fire a J 1 --spread -" ∷
+        codes "fire a J 1 --spread=-s" ∷ codes "fire a J 1 --spread" ∷ codes "fire a J 1 --spread s --spread s" ∷
+        codes "fire a J 1 --spread s --tight" ∷ codes "fire a J --spread s" ∷ codes "closures a 1 --spread a" ∷
+        codes "closures a 1 --spread -s" ∷ codes "closures a 1 --spread s --spread=s" ∷
+        codes "closures a 1 --spread s --slack 0" ∷ codes "closures a --spread s" ∷
+        codes "meet a b --spread s" ∷ []))) ≡ true }
 {}
 
 /// The words of `meet`.

@@ -98,10 +98,7 @@ impl Lines {
         ensures stays { KeepsOutput D.files D.written D.printed D.target D.ready D.counts D.openings
             desk.old desk.new }
     {
-        let n = match self.next_line(desk) {
-            Ok(n) => n,
-            Err(fault) => return Err(fault),
-        };
+        let n = self.next_line(desk)?;
         let Some(head) = head_line(&self.source.held()[..n], front) else {
             return Err(CertFault::Grammar {
                 line: self.line.saturating_add(1),
@@ -131,10 +128,8 @@ impl Lines {
             desk.old desk.new }
     {
         for i in 0..into.len() {
-            match self.head(desk, front_of(i / junctions)) {
-                Ok(head) => store(into, i, head),
-                Err(fault) => return Err(fault),
-            }
+            let head = self.head(desk, front_of(i / junctions))?;
+            store(into, i, head);
         }
         Ok(())
     }
@@ -150,10 +145,7 @@ impl Lines {
         ensures stays { KeepsOutput D.files D.written D.printed D.target D.ready D.counts D.openings
             desk.old desk.new }
     {
-        let n = match self.next_line(desk) {
-            Ok(n) => n,
-            Err(fault) => return Err(fault),
-        };
+        let n = self.next_line(desk)?;
         let line = &self.source.held()[..n];
         if !is_header_line(line) {
             return Err(CertFault::Grammar {
@@ -181,10 +173,7 @@ impl Lines {
         ensures stays { KeepsOutput D.files D.written D.printed D.target D.ready D.counts D.openings
             desk.old desk.new }
     {
-        let n = match self.next_line(desk) {
-            Ok(n) => n,
-            Err(fault) => return Err(fault),
-        };
+        let n = self.next_line(desk)?;
         let Some(next) = period_or_end(&self.source.held()[..n]) else {
             return Err(CertFault::Grammar {
                 line: self.line.saturating_add(1),

@@ -54,10 +54,7 @@ impl Lines {
             desk.old desk.new }
     {
         *flows = false;
-        let n = match self.next_line(desk) {
-            Ok(n) => n,
-            Err(fault) => return Err(fault),
-        };
+        let n = self.next_line(desk)?;
         let line = &self.source.held()[..n];
         if is_flows_header_line(line) {
             *flows = true;
@@ -95,10 +92,7 @@ impl Lines {
         ensures stays { KeepsOutput D.files D.written D.printed D.target D.ready D.counts D.openings
             desk.old desk.new }
     {
-        let n = match self.next_line(desk) {
-            Ok(n) => n,
-            Err(fault) => return Err(fault),
-        };
+        let n = self.next_line(desk)?;
         let Some(count) = flows_line(&self.source.held()[..n]) else {
             return Err(CertFault::Grammar {
                 line: self.line.saturating_add(1),
@@ -120,10 +114,7 @@ impl Lines {
         ensures stays { KeepsOutput D.files D.written D.printed D.target D.ready D.counts D.openings
             desk.old desk.new }
     {
-        let n = match self.next_line(desk) {
-            Ok(n) => n,
-            Err(fault) => return Err(fault),
-        };
+        let n = self.next_line(desk)?;
         let Some(number) = name_line(&self.source.held()[..n]) else {
             return Err(CertFault::Grammar {
                 line: self.line.saturating_add(1),
@@ -152,10 +143,8 @@ impl Lines {
             desk.old desk.new }
     {
         for i in 0..into.len() {
-            match self.head(desk, front) {
-                Ok(head) => store(into, i, head),
-                Err(fault) => return Err(fault),
-            }
+            let head = self.head(desk, front)?;
+            store(into, i, head);
         }
         Ok(())
     }
@@ -206,10 +195,8 @@ fn read_link<D: Desk>(
     ensures stays { KeepsOutput D.files D.written D.printed D.target D.ready D.counts D.openings
         desk.old desk.new }
 {
-    match lines.name(desk) {
-        Ok(number) => into.link = number,
-        Err(fault) => return Err(fault),
-    }
+    let number = lines.name(desk)?;
+    into.link = number;
     read_vectors(
         lines,
         desk,
@@ -243,10 +230,7 @@ fn read_links<D: Desk>(
         desk.old desk.new }
 {
     for i in 0..count {
-        match read_link(lines, desk, &mut into[i]) {
-            Ok(()) => {}
-            Err(fault) => return Err(fault),
-        }
+        read_link(lines, desk, &mut into[i])?;
     }
     Ok(())
 }

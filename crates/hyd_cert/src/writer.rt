@@ -174,10 +174,7 @@ fn put_heads<D: Desk>(
         (head_text junctions 0 heads.now) result pen.old pen.new desk.old desk.new }
 {
     for i in 0..heads.len() {
-        match put_head_line(front_of(i / junctions), &heads[i], pen, desk) {
-            Ok(()) => {}
-            Err(fault) => return Err(fault),
-        }
+        put_head_line(front_of(i / junctions), &heads[i], pen, desk)?;
     }
     Ok(())
 }

@@ -110,10 +110,7 @@ fn put_links<D: Desk>(links: &[NamedVectors], pen: &mut Pen, desk: &mut D) -> Re
         (joined (map named_text (links_in links.now))) result pen.old pen.new desk.old desk.new }
 {
     for i in 0..links.len() {
-        match put_link(&links[i], pen, desk) {
-            Ok(()) => {}
-            Err(fault) => return Err(fault),
-        }
+        put_link(&links[i], pen, desk)?;
     }
     Ok(())
 }
@@ -158,10 +155,7 @@ fn put_vector<D: Desk>(
         (held_lines front.now heads.now) result pen.old pen.new desk.old desk.new }
 {
     for i in 0..heads.len() {
-        match put_head_line(front, &heads[i], pen, desk) {
-            Ok(()) => {}
-            Err(fault) => return Err(fault),
-        }
+        put_head_line(front, &heads[i], pen, desk)?;
     }
     Ok(())
 }

@@ -222,10 +222,8 @@ pub(crate) fn take_records<D: Desk>(
     // The network is sound.
     let _project = sim.project();
     loop {
-        match take_record(sim, reader, row, part, pen, desk) {
-            Ok(None) => {}
-            Ok(Some(conclusion)) => return Ok(conclusion),
-            Err(fault) => return Err(fault),
+        if let Some(conclusion) = take_record(sim, reader, row, part, pen, desk)? {
+            return Ok(conclusion);
         }
     }
 }

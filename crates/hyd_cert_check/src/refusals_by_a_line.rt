@@ -19,14 +19,8 @@ fn put_bad_line<D: Desk>(
     ensures { Puts D.files D.rest D.written D.printed D.target D.ready D.counts D.openings
         (codes "BADCERT line " ++ (decimal number ++ word.now)) result pen.old pen.new desk.old desk.new }
 {
-    match pen.put(desk, b"BADCERT line ") {
-        Ok(()) => {}
-        Err(fault) => return Err(fault),
-    }
-    match put_number(u128::from(number), pen, desk) {
-        Ok(()) => {}
-        Err(fault) => return Err(fault),
-    }
+    pen.put(desk, b"BADCERT line ")?;
+    put_number(u128::from(number), pen, desk)?;
     pen.put(desk, word)
 }
 

@@ -7,12 +7,12 @@ use Rattle.std.proofs.lemmas.Slice.Eq.{bytes_eq-Decides}
 use Rattle.hyd_command_words.specs.OptionsAndNames.{Word, Said, said}
 use Rattle.hyd_command_words.specs.CommandGrammar.{RunOrder, GenOrder, TwoFiles, gen, order_of, Order}
 use Rattle.hyd_command_words.specs.CommandGrammar.{run_over, check_over, is_apart, run_with, check_with, spread_of}
-use Rattle.hyd_command_words.specs.CommandGrammar.{fire, closures}
+use Rattle.hyd_command_words.specs.CommandGrammar.{FireOrder, ClosuresOrder, fire_over, closures_over, fire_with}
+use Rattle.hyd_command_words.specs.CommandGrammar.{closures_with, fire_asked, closures_asked}
 use Rattle.hyd_command_words.specs.CommandGrammar.{WitnessOrder, MeetOrder, witness, meet}
 use Rattle.hyd_command_words.specs.CommandGrammar.{fire_command, witness_command, witness_order, meet_command}
 use Rattle.hyd_command_words.specs.CommandGrammar.{meet_order}
-use Rattle.hyd_command_words.specs.CommandGrammar.{closures_command, fire_order, closures_order, has_rounds_at_most}
-use Rattle.hyd_command_words.specs.CommandGrammar.{rounds_of}
+use Rattle.hyd_command_words.specs.CommandGrammar.{closures_command}
 use Rattle.hyd_command_words.specs.CommandGrammar.{run_order, run_command, check_command, gen_command, gen_order}
 use Rattle.hyd_command_words.specs.CommandGrammar.{differing}
 use Rattle.hyd_command_words.specs.CommandGrammar.{two_files, seed_of, junctions_of, has_names_alone}
@@ -93,25 +93,34 @@ is_gen : (b : Bool) (found : Option GenOrder) (order : GenOrder)
 is_gen true found order e = same_gen found order e
 is_gen false found order e = absurd (cc)
 
--- a command that takes rounds at most, and makes another kind of order
-not_by_rounds : {X : Type 0} (b : Bool) (rounds : Option ℕ) (make : X → Order) (found : ℕ → Option X)
-    (order : GenOrder) → ((x : X) → make x ≡ gen order → ⊥)
-    → (if b then option_and_then (λ n. option_map make (found n)) rounds else None) ≡ Some (gen order) → ⊥
-not_by_rounds false rounds make found order other e = cc
-not_by_rounds true None make found order other e = cc
-not_by_rounds {X = X} true (Some n) make found order other e = go (found n) e
-  where
-    go : (one : Option X) → option_map make one ≡ Some (gen order) → ⊥
-    go None h = cc
-    go (Some x) h = other x (same_Some _ _ h)
+not_other : (b : Bool) (one : Order) (order : GenOrder) → (one ≡ gen order → ⊥)
+    → (if b then None else Some one) ≡ Some (gen order) → ⊥
+not_other true one order other e = cc
+not_other false one order other e = other (same_Some _ _ e)
 
-not_fire : (s : Said) (order : GenOrder) → fire_command s ≡ Some (gen order) → ⊥
-not_fire s order e = not_by_rounds (has_rounds_at_most s) (rounds_of s.sweeps_values) fire
-    (λ n. fire_order n s.names) order (λ x h. cc) e
+not_fire_with : (file : Option Word) (found : FireOrder) (order : GenOrder)
+    → fire_with file found ≡ Some (gen order) → ⊥
+not_fire_with None found order e = cc
+not_fire_with (Some file) found order e = not_other (bytes_eq found.net file)
+    (fire_over (record { fire = found; spread = file })) order (λ h. cc) e
 
-not_closures : (s : Said) (order : GenOrder) → closures_command s ≡ Some (gen order) → ⊥
-not_closures s order e = not_by_rounds (has_rounds_at_most s) (rounds_of s.sweeps_values) closures
-    (λ n. closures_order n s.names) order (λ x h. cc) e
+not_fire : (spread : Option (Option Word)) (found : Option FireOrder) (order : GenOrder)
+    → option_and_then (λ one. option_and_then (λ file. fire_with file one) spread) found ≡ Some (gen order) → ⊥
+not_fire spread None order e = cc
+not_fire None (Some found) order e = cc
+not_fire (Some file) (Some found) order e = not_fire_with file found order e
+
+not_closures_with : (file : Option Word) (found : ClosuresOrder) (order : GenOrder)
+    → closures_with file found ≡ Some (gen order) → ⊥
+not_closures_with None found order e = cc
+not_closures_with (Some file) found order e = not_other (bytes_eq found.net file)
+    (closures_over (record { closures = found; spread = file })) order (λ h. cc) e
+
+not_closures : (spread : Option (Option Word)) (found : Option ClosuresOrder) (order : GenOrder)
+    → option_and_then (λ one. option_and_then (λ file. closures_with file one) spread) found ≡ Some (gen order) → ⊥
+not_closures spread None order e = cc
+not_closures None (Some found) order e = cc
+not_closures (Some file) (Some found) order e = not_closures_with file found order e
 
 not_witness : (b : Bool) (found : Option WitnessOrder) (order : GenOrder)
     → (if b then option_map witness found else None) ≡ Some (gen order) → ⊥
@@ -136,8 +145,9 @@ by_name false true c d f w g s order e =
     absurd (not_check (has_spread_at_most s) (spread_of s.spread_values) (two_files s.names) order e)
 by_name false false true d f w g s order e =
     gen_apart s.names order (is_gen (has_names_alone s) (gen_order s.names) order e)
-by_name false false false true f w g s order e = absurd (not_fire s order e)
-by_name false false false false true w g s order e = absurd (not_closures s order e)
+by_name false false false true f w g s order e = absurd (not_fire (spread_of s.spread_values) (fire_asked s) order e)
+by_name false false false false true w g s order e =
+    absurd (not_closures (spread_of s.spread_values) (closures_asked s) order e)
 by_name false false false false false true g s order e =
     absurd (not_witness (has_names_alone s) (witness_order s.names) order e)
 by_name false false false false false false true s order e =

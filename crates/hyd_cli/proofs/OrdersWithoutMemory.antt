@@ -4,9 +4,11 @@ use Rattle.hyd_io.specs.declared.desk.Openings.{Openings}
 use Rattle.hyd_command_words.specs.CommandGrammar.{TwoFiles, FireOrder, ClosuresOrder, WitnessOrder, MeetOrder}
 use Rattle.hyd_command_words.specs.CommandGrammar.{Order, RunOrder, GenOrder, run, check, gen, fire, closures, witness}
 use Rattle.hyd_command_words.specs.CommandGrammar.{meet, SpreadRunOrder, SpreadCheckOrder, run_over, check_over}
+use Rattle.hyd_command_words.specs.CommandGrammar.{SpreadFireOrder, SpreadClosuresOrder, fire_over, closures_over}
 use Rattle.hyd_command_answers.specs.DeskContents.{Seen, IsUntouched}
 use Rattle.hyd_command_answers.specs.declared.status.Status.TheVariants.{OutOfMemory, InputRefused}
-use Rattle.hyd_target_commands.specs.CommandsOnTargets.{DoesFire, DoesClosures}
+use Rattle.hyd_spread_target_commands.specs.PassedOn.{DoesFire, DoesClosures}
+use Rattle.hyd_spread_target_commands.specs.SpreadTargetOrders.{DoesSpreadFire, DoesSpreadClosures}
 use Rattle.hyd_witness_commands.specs.CommandMeet.{DoesMeet}
 use Rattle.hyd_written_witnesses.specs.CommandWitness.{DoesWitness}
 use Rattle.hyd_spread_command.specs.SpreadOrders.{DoesSpreadCheck}
@@ -122,6 +124,26 @@ checks_over_nothing order same openings = record {
   once = inl (inl refl);
 }
 
+fires_over_nothing : (order : SpreadFireOrder) (same : Seen) (openings : Openings)
+    → DoesSpreadFire order OutOfMemory same same openings openings
+fires_over_nothing order same openings = record {
+  refused = λ net line why told fault. untouched same;
+  fires = λ net text told none told_spread. untouched same;
+  refuses = λ net told none is. absurd (not_refused is);
+  only_prints = prints_nothing same;
+  once = inl (inl refl);
+}
+
+closes_over_nothing : (order : SpreadClosuresOrder) (same : Seen) (openings : Openings)
+    → DoesSpreadClosures order OutOfMemory same same openings openings
+closes_over_nothing order same openings = record {
+  refused = λ net line why told fault. untouched same;
+  closes = λ net text told none told_spread. untouched same;
+  refuses_spread = λ net told none is. absurd (not_refused is);
+  only_prints = prints_nothing same;
+  once = inl (inl refl);
+}
+
 pub orders_nothing : (order : Option Order) (same : Seen) (openings : Openings) (writable : Bool)
     → DoesOrder order OutOfMemory same same openings openings writable
 orders_nothing None same openings writable = (untouched same, refl)
@@ -134,3 +156,5 @@ orders_nothing (Some (witness order)) same openings writable = searches_nothing 
 orders_nothing (Some (meet order)) same openings writable = meets_nothing order same openings
 orders_nothing (Some (run_over order)) same openings writable = runs_over_nothing order same openings
 orders_nothing (Some (check_over order)) same openings writable = checks_over_nothing order same openings
+orders_nothing (Some (fire_over order)) same openings writable = fires_over_nothing order same openings
+orders_nothing (Some (closures_over order)) same openings writable = closes_over_nothing order same openings

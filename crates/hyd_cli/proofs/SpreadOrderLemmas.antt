@@ -18,7 +18,7 @@ use Rattle.hyd_command_answers.specs.declared.status.Status.TheVariants.{InputRe
 use Rattle.hyd_command_answers.specs.declared.status.Status.TheVariants.{CertificateRefused, Stalled}
 use Rattle.hyd_command_answers.proofs.AnswerLemmas.{since_before, refused_since}
 use Rattle.hyd_spread_command.specs.SpreadAnswers.{LeavesOver, LeavesRunOver}
-use Rattle.hyd_spread_command.specs.SpreadOrders.{EndsAtNet}
+use Rattle.hyd_spread_command.specs.PassedOn.{EndsAtNet}
 use Rattle.hyd_cli.specs.SpreadRuns.{AnswersSpreadText, AnswersSpreadRun, OpensThree, DoesSpreadRun}
 
 -- ---- a network was read

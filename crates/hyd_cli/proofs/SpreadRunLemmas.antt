@@ -17,8 +17,8 @@ use Rattle.hyd_command_answers.specs.declared.status.Status.TheVariants.{Certifi
 use Rattle.hyd_command_answers.proofs.AnswerLemmas.{since_before}
 use Rattle.hyd_open_command.specs.OpenAnswers.{Asked, AnswersRunOpenly}
 use Rattle.hyd_open_command.proofs.OpenLemmas.{holds_since as open_holds_since}
-use Rattle.hyd_spread_command.specs.SpreadFiles.{IsNoSpread}
-use Rattle.hyd_spread_command.specs.RefusedSpreads.{AnswersSpreadRefused}
+use Rattle.hyd_spread_command.specs.PassedOn.{IsNoSpread}
+use Rattle.hyd_spread_command.specs.PassedOn.{AnswersSpreadRefused}
 use Rattle.hyd_spread_command.specs.SpreadAnswers.{AnswersWithin, LeavesRunOver, refuses}
 use Rattle.hyd_spread_command.proofs.SpreadLemmas.{within_leaves, within_holds, refusal_leaves, refusal_holds}
 use Rattle.hyd_cli.specs.RunAnswers.{AnswersRun, settings_of, asked_for}

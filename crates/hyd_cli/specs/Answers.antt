@@ -3,14 +3,15 @@
 -- Source: this program's.
 use Rattle.std.specs.Prelude.{ℕ, List, [], ◌∷◌, Option, Some, None, IsTrue, Bool, ⊤}
 use Rattle.hyd_command_words.specs.CommandGrammar.{Order, run, check, gen, fire, closures, witness, meet, run_over}
-use Rattle.hyd_command_words.specs.CommandGrammar.{check_over}
+use Rattle.hyd_command_words.specs.CommandGrammar.{check_over, fire_over, closures_over}
 use Rattle.hyd_cli.specs.WordsAndUsageLine.{usage_line}
 use Rattle.hyd_command_answers.specs.declared.status.Status.{Status}
 use Rattle.hyd_command_answers.specs.declared.status.Status.TheVariants.{OutOfMemory, Usage, ReadFault, WriteFault}
 use Rattle.hyd_command_answers.specs.declared.status.Status.TheVariants.{InputRefused, Stalled}
 use Rattle.hyd_command_answers.specs.DeskContents.{Seen, IsUntouched, OnlyPrinted, OnlyPrintedFront}
 use Rattle.hyd_command_answers.specs.FaultsAndRefusals.{PrintsRefusal}
-use Rattle.hyd_target_commands.specs.CommandsOnTargets.{LeavesNet}
+use Rattle.hyd_spread_target_commands.specs.PassedOn.{LeavesNet}
+use Rattle.hyd_spread_target_commands.specs.SpreadTargetOrders.{LeavesTargetsOver}
 use Rattle.hyd_open_command.specs.PassedOn.{LeavesNaming}
 use Rattle.hyd_spread_command.specs.PassedOn.{LeavesCheck}
 use Rattle.hyd_written_witnesses.specs.CommandWitness.{LeavesSearch}
@@ -37,6 +38,9 @@ MayUse may_open may_create (Some (run_over order)) = IsTrue (may_open order.run.
     × IsTrue (may_open order.spread) × IsTrue (may_create order.run.files.cert)
 MayUse may_open may_create (Some (check_over order)) = IsTrue (may_open order.files.net)
     × IsTrue (may_open order.spread) × IsTrue (may_open order.files.cert)
+MayUse may_open may_create (Some (fire_over order)) = IsTrue (may_open order.fire.net) × IsTrue (may_open order.spread)
+MayUse may_open may_create (Some (closures_over order)) =
+    IsTrue (may_open order.closures.net) × IsTrue (may_open order.spread)
 
 -- ---- words that aren't a command
 
@@ -77,3 +81,5 @@ Leaves (Some (witness order)) status before now = LeavesSearch status before now
 Leaves (Some (meet order)) status before now = LeavesNet status before now
 Leaves (Some (run_over order)) status before now = LeavesOver status before now
 Leaves (Some (check_over order)) status before now = LeavesCheckOver status before now
+Leaves (Some (fire_over order)) status before now = LeavesTargetsOver status before now
+Leaves (Some (closures_over order)) status before now = LeavesTargetsOver status before now

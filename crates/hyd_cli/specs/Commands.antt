@@ -7,7 +7,7 @@ use Rattle.hyd_io.specs.DeskBytes.{IsTold}
 use Rattle.hyd_net.specs.declared.refusal_cause.Cause.{Cause}
 use Rattle.hyd_spec_input.specs.Faults.{IsFault, HasNoFault}
 use Rattle.hyd_command_words.specs.CommandGrammar.{RunOrder, GenOrder, TwoFiles, Order, run, check, gen, fire, closures}
-use Rattle.hyd_command_words.specs.CommandGrammar.{witness, meet, run_over, check_over}
+use Rattle.hyd_command_words.specs.CommandGrammar.{witness, meet, run_over, check_over, fire_over, closures_over}
 use Rattle.hyd_command_answers.specs.DeskContents.{Seen, OnlyPrintedSome, ChangesOnly}
 use Rattle.hyd_command_answers.specs.FaultsAndRefusals.{AnswersRefused}
 use Rattle.hyd_command_answers.specs.OpeningsOfRuns.{OpensOnce}
@@ -19,7 +19,8 @@ use Rattle.hyd_open_command.specs.OpenAnswers.{AnswersTextOpenly}
 use Rattle.hyd_open_certificates.specs.OpenFaults.{HasOpenHeader, LacksOpenHeader}
 use Rattle.hyd_spread_command.specs.PassedOn.{AnswersCheck, ReadsBoth}
 use Rattle.hyd_spread_command.specs.PassedOn.{AnswersOpenCheck}
-use Rattle.hyd_target_commands.specs.CommandsOnTargets.{DoesFire, DoesClosures}
+use Rattle.hyd_spread_target_commands.specs.PassedOn.{DoesFire, DoesClosures}
+use Rattle.hyd_spread_target_commands.specs.SpreadTargetOrders.{DoesSpreadFire, DoesSpreadClosures}
 use Rattle.hyd_witness_commands.specs.CommandMeet.{DoesMeet}
 use Rattle.hyd_written_witnesses.specs.CommandWitness.{DoesWitness}
 use Rattle.hyd_spread_command.specs.SpreadOrders.{DoesSpreadCheck}
@@ -102,3 +103,7 @@ DoesOrder (Some (run_over order)) status before now opened opens writable =
     DoesSpreadRun order status before now opened opens
 DoesOrder (Some (check_over order)) status before now opened opens writable =
     DoesSpreadCheck order status before now opened opens
+DoesOrder (Some (fire_over order)) status before now opened opens writable =
+    DoesSpreadFire order status before now opened opens
+DoesOrder (Some (closures_over order)) status before now opened opens writable =
+    DoesSpreadClosures order status before now opened opens

@@ -19,10 +19,10 @@ use Rattle.hyd_command_answers.specs.WrittenCertificates.{Holds}
 use Rattle.hyd_command_answers.specs.declared.status.Status.{Status}
 use Rattle.hyd_command_answers.specs.declared.status.Status.TheVariants.{InputRefused, OutOfMemory, ReadFault}
 use Rattle.hyd_open_command.specs.OpenAnswers.{AnswersRunOpenly}
-use Rattle.hyd_spread_command.specs.RefusedSpreads.{PrintsSpreadRefusal}
-use Rattle.hyd_spread_command.specs.SpreadFiles.{IsNoSpread}
+use Rattle.hyd_spread_command.specs.PassedOn.{PrintsSpreadRefusal}
+use Rattle.hyd_spread_command.specs.PassedOn.{IsNoSpread}
 use Rattle.hyd_spread_command.specs.SpreadAnswers.{AnswersWithin}
-use Rattle.hyd_spread_command.specs.SpreadOrders.{EndsAtNet}
+use Rattle.hyd_spread_command.specs.PassedOn.{EndsAtNet}
 use Rattle.hyd_cli.specs.RunAnswers.{AnswersRun, asked_for, settings_of}
 
 -- What an order asks a run for a spread for.

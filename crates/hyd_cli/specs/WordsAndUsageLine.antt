@@ -11,4 +11,4 @@ words_behind_name (Err fault) = []
 
 -- what is printed where the words aren't a command
 abbrev pub usage_line : List ℕ
-usage_line = codes "USAGE hyd run NET CERT [--sweeps N] [--width W] [--tight] [--flows IDS] [--slack N] [--spread FILE] or check NET CERT [--spread FILE] or gen SEED JUNCTIONS NET CERT or fire NET J P [--sweeps N] or closures NET P [--sweeps N] or witness NET CERT OUT or meet NET FILE" ++ (10 ∷ [])
+usage_line = codes "USAGE hyd run NET CERT [--sweeps N] [--width W] [--tight] [--flows IDS] [--slack N] [--spread FILE] or check NET CERT [--spread FILE] or gen SEED JUNCTIONS NET CERT or fire NET J P [--sweeps N] [--spread FILE] or closures NET P [--sweeps N] [--spread FILE] or witness NET CERT OUT or meet NET FILE" ++ (10 ∷ [])

@@ -47,10 +47,7 @@ fn put_text<D: Desk>(text: &[u8], desk: &mut D) -> Result<(), OutFault>
         (told D.files D.rest D.written D.printed D.target D.ready D.counts D.openings desk.new) }
 {
     let mut pen = Pen::new(Channel::Cert);
-    match pen.put(desk, text) {
-        Ok(()) => {}
-        Err(fault) => return Err(fault),
-    }
+    pen.put(desk, text)?;
     pen.flush(desk)
 }
 
@@ -109,10 +106,7 @@ fn put_generated<D: Desk, F: Finder>(
         (seen D.files D.written D.printed desk.old) (seen D.files D.written D.printed desk.new)
         (D.openings desk.old) (D.openings desk.new) }
 {
-    match write_text(files.net, text, desk) {
-        Ok(()) => {}
-        Err(fault) => return Err(fault),
-    }
+    write_text(files.net, text, desk)?;
     if desk.create(files.cert).is_err() {
         return Err(OutFault::Fault);
     }

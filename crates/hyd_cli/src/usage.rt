@@ -9,7 +9,7 @@ ghost use Rattle.hyd_cli.specs.WordsAndUsageLine.{usage_line};
 use hyd_io::{Channel, Desk, OutFault, Pen};
 
 const USAGE: &[u8] =
-    b"USAGE hyd run NET CERT [--sweeps N] [--width W] [--tight] [--flows IDS] [--slack N] [--spread FILE] or check NET CERT [--spread FILE] or gen SEED JUNCTIONS NET CERT or fire NET J P [--sweeps N] or closures NET P [--sweeps N] or witness NET CERT OUT or meet NET FILE\n";
+    b"USAGE hyd run NET CERT [--sweeps N] [--width W] [--tight] [--flows IDS] [--slack N] [--spread FILE] or check NET CERT [--spread FILE] or gen SEED JUNCTIONS NET CERT or fire NET J P [--sweeps N] [--spread FILE] or closures NET P [--sweeps N] [--spread FILE] or witness NET CERT OUT or meet NET FILE\n";
 
 /// Prints the usage line.
 pub(crate) fn print_usage<D: Desk>(desk: &mut D) -> Result<(), OutFault>
@@ -22,9 +22,6 @@ pub(crate) fn print_usage<D: Desk>(desk: &mut D) -> Result<(), OutFault>
     ensures openings_stay { D.openings desk.new ≡ D.openings desk.old }
 {
     let mut pen = Pen::new(Channel::Report);
-    match pen.put(desk, USAGE) {
-        Ok(()) => {}
-        Err(fault) => return Err(fault),
-    }
+    pen.put(desk, USAGE)?;
     pen.flush(desk)
 }

@@ -18,7 +18,9 @@ use hyd_command_answers::{Status, fault_status};
 use hyd_command_words::Command;
 use hyd_io::Desk;
 use hyd_spread_command::{check_files, check_for_spread};
-use hyd_target_commands::{close_pipes, find_bracket};
+use hyd_spread_target_commands::{
+    close_pipes, close_pipes_for_spread, find_bracket, find_bracket_for_spread,
+};
 use hyd_witness_commands::meet_file;
 use hyd_written_witnesses::write_witness;
 use std::alloc::Global;
@@ -41,6 +43,8 @@ use std::alloc::Global;
 ///   pressure P there.
 /// - `closures NET P [--sweeps N]` reads the network of NET, and prints which junctions keep the pressure P while each
 ///   pipe is shut alone.
+/// - `fire` and `closures` with `--spread FILE` read FILE too, and what is said holds of each network within the limits
+///   that its rows give. Where FILE has no rows, they do what they do without it.
 /// - `witness NET CERT OUT` reads NET and CERT, accepts its records as `check` does, looks for a period of exact heads,
 ///   flows and levels for each, and writes them to OUT.
 /// - `meet NET FILE` reads both, and prints whether each period of the witness in FILE is met, or the first that isn't.
@@ -100,6 +104,8 @@ fn carry_out<D: Desk>(alloc: Global, found: Option<Command<'_>>, desk: &mut D) -
         Some(Command::Meet(words)) => meet_file(alloc, &words, desk),
         Some(Command::RunOver(words)) => run_for_spread(alloc, &words, desk),
         Some(Command::CheckOver(words)) => check_for_spread(alloc, &words, desk),
+        Some(Command::FireOver(words)) => find_bracket_for_spread(alloc, &words, desk),
+        Some(Command::ClosuresOver(words)) => close_pipes_for_spread(alloc, &words, desk),
         None => refuse_words(desk),
     }
 }

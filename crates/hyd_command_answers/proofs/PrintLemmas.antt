@@ -26,6 +26,11 @@ printed_front here there w0 p0 w1 p1 w2 p2 before bytes held h t b m k =
     let second : PutOut p1 p2 held = rw (t, h) at k in
     put_out_flush p0 p1 p2 bytes held first second
 
+-- the put failed: a front of its bytes went out
+pub failed_front : (here : Channel) (w0 p0 w1 p1 : Option (List ℕ)) (before bytes : List ℕ) → here ≡ Report
+    → before ≡ [] → PutOut (by_channel here w0 p0) (by_channel here w1 p1) (before ++ bytes) → PutOut p0 p1 bytes
+failed_front here w0 p0 w1 p1 before bytes h b k = rw (b, h) at k
+
 pub cause_since : (result : Result (Unit {0}) OutFault) (to : Channel) (start since now : Faults) → to ≡ Report
     → since ≡ start → IfErr result (λ fault. HasOutCause to fault since now)
     → IfErr result (λ fault. HasOutCause Report fault start now)

@@ -27,10 +27,7 @@ pub fn print_refusal<D: Desk>(line: u32, cause: Cause, desk: &mut D) -> Result<(
     ensures openings_stay { D.openings desk.new ≡ D.openings desk.old }
 {
     let mut pen = Pen::new(Channel::Report);
-    match put_refused_text(line, cause, &mut pen, desk) {
-        Ok(()) => {}
-        Err(fault) => return Err(fault),
-    }
+    put_refused_text(line, cause, &mut pen, desk)?;
     pen.flush(desk)
 }
 

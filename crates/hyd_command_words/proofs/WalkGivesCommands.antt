@@ -19,7 +19,8 @@ use Rattle.hyd_command_words.specs.CommandGrammar.{once, default_rounds, default
 use Rattle.hyd_command_words.specs.CommandGrammar.{rounds_of, spread_of, file_name, two_files}
 use Rattle.hyd_command_words.specs.CommandGrammar.{width_of, run_order, run_with, run_command, check_command}
 use Rattle.hyd_command_words.specs.CommandGrammar.{fire_command, closures_command}
-use Rattle.hyd_command_words.specs.CommandGrammar.{has_rounds_at_most, has_spread_at_most}
+use Rattle.hyd_command_words.specs.CommandGrammar.{FireOrder, ClosuresOrder, fire_asked, fire_with, closures_asked}
+use Rattle.hyd_command_words.specs.CommandGrammar.{closures_with, has_rounds_and_spread_at_most, has_spread_at_most}
 use Rattle.hyd_command_words.proofs.SaidLemmas.{joined}
 use Rattle.hyd_command_words.proofs.MatchRowLemmas.{rules, used_by, sweeps_used, width_used, slack_used, flows_used}
 use Rattle.hyd_command_words.proofs.MatchRowLemmas.{spread_used, name_used, tight_used}
@@ -261,6 +262,14 @@ pub no_run : (s : Said) → run_order s ≡ None → run_command s ≡ None
 no_run s e = ap (λ (o : Option RunOrder). option_and_then
     (λ order. option_and_then (λ file. run_with file order) (spread_of s.spread_values)) o) e
 
+pub no_fire : (s : Said) → fire_asked s ≡ None → fire_command s ≡ None
+no_fire s e = ap (λ (o : Option FireOrder). option_and_then
+    (λ order. option_and_then (λ file. fire_with file order) (spread_of s.spread_values)) o) e
+
+pub no_closures : (s : Said) → closures_asked s ≡ None → closures_command s ≡ None
+no_closures s e = ap (λ (o : Option ClosuresOrder). option_and_then
+    (λ order. option_and_then (λ file. closures_with file order) (spread_of s.spread_values)) o) e
+
 -- neither what a wrong value is for, nor where no value is taken
 pub no_order_by : (s : Said) → run_command s ≡ None → check_command s ≡ None → has_names_alone s ≡ false
     → fire_command s ≡ None → closures_command s ≡ None → IsNoOrder s
@@ -278,11 +287,11 @@ pub no_order_with : (s : Said) → run_order s ≡ None
     → ((length s.width_values == 0) && ((length s.slack_values == 0) && (length s.flows_values == 0))) ≡ false
     → IsNoOrder s
 no_order_with s e stays =
-    let more_options : has_rounds_at_most s ≡ false =
-    and_false (not s.has_wrong) _ (and_false (s.tight_count == 0) _ (and_false (length s.spread_values == 0) _ stays))
-    in
+    let more_options : has_rounds_and_spread_at_most s ≡ false =
+    and_false (not s.has_wrong) _ (and_false (s.tight_count == 0) _ stays) in
     no_order_past s e (and_false (not s.has_wrong) _ (and_false (s.tight_count == 0) _
-    (and_false (length s.sweeps_values == 0) _ stays))) (rw more_options refl) (rw more_options refl)
+    (and_false (length s.sweeps_values == 0) _ stays))) (no_fire s (rw more_options refl))
+    (no_closures s (rw more_options refl))
 
 pub dash_never : (o : Valued) → (is_flows o ≡ true → ⊥) → (s : Said)
     → IsNeverOrder (joined s (said_by (make_of o dash ∷ [])))
@@ -295,8 +304,8 @@ dash_never of_sweeps other s more =
     (ap (λ (b : Bool). b && ((length all.width_values == 0)
     && ((length all.slack_values == 0) && (length all.flows_values == 0))))
     (stands s.sweeps_values more.sweeps_values dash))))
-    (no_value (has_rounds_at_most all) (rounds_of all.sweeps_values) _ none)
-    (no_value (has_rounds_at_most all) (rounds_of all.sweeps_values) _ none)
+    (no_fire all (no_value (has_rounds_and_spread_at_most all) (rounds_of all.sweeps_values) _ none))
+    (no_closures all (no_value (has_rounds_and_spread_at_most all) (rounds_of all.sweeps_values) _ none))
 dash_never of_width other s more =
     let all = joined (joined s (said_by (width dash ∷ []))) more in
     let none : width_of all.width_values ≡ None =
@@ -323,13 +332,11 @@ dash_never of_spread other s more =
     let none : spread_of all.spread_values ≡ None =
     once_never None (λ word. option_map Some (file_name word)) dash s.spread_values more.spread_values dash_no_spread in
     let stays : (length all.spread_values == 0) ≡ false = stands s.spread_values more.spread_values dash in
-    let more_options : has_rounds_at_most all ≡ false =
-    and_false (not all.has_wrong) _ (and_false (all.tight_count == 0) _
-    (ap (λ (b : Bool). b && ((length all.width_values == 0)
-    && ((length all.slack_values == 0) && (length all.flows_values == 0)))) stays)) in
     no_order_by all (no_value_within true (run_order all) (spread_of all.spread_values) _ none)
     (no_value_within (has_spread_at_most all) (two_files all.names) (spread_of all.spread_values) _ none)
-    (and_false (has_spread_at_most all) _ stays) (rw more_options refl) (rw more_options refl)
+    (and_false (has_spread_at_most all) _ stays)
+    (no_value_within true (fire_asked all) (spread_of all.spread_values) _ none)
+    (no_value_within true (closures_asked all) (spread_of all.spread_values) _ none)
 
 pub same_orders : (w : Walk) (words : List Word) (a b : Said) → IsNoOrder a → IsNoOrder b → Comes w words a
     → Comes w words b

@@ -52,6 +52,16 @@ pub record ClosuresOrder : Type 0 where
   pub pressure : ℤ
   pub rounds : ℕ
 
+-- `fire` for a spread: what is asked of it, and FILE, that of the spread
+pub record SpreadFireOrder : Type 0 where
+  pub fire : FireOrder
+  pub spread : Word
+
+-- `closures` for a spread: what is asked of it, and FILE, that of the spread
+pub record SpreadClosuresOrder : Type 0 where
+  pub closures : ClosuresOrder
+  pub spread : Word
+
 -- `witness`: its files, and OUT, that of the witness
 pub record WitnessOrder : Type 0 where
   pub files : TwoFiles
@@ -70,7 +80,9 @@ pub data Order : Type 0 where
   check_over : SpreadCheckOrder → Order
   gen : GenOrder → Order
   fire : FireOrder → Order
+  fire_over : SpreadFireOrder → Order
   closures : ClosuresOrder → Order
+  closures_over : SpreadClosuresOrder → Order
   witness : WitnessOrder → Order
   meet : MeetOrder → Order
 
@@ -221,11 +233,11 @@ has_spread_at_most s =
 abbrev pub has_names_alone : Said → Bool
 has_names_alone s = has_spread_at_most s && (length s.spread_values == 0)
 
--- nothing is wrong, and no option but `--sweeps` stands
-abbrev pub has_rounds_at_most : Said → Bool
-has_rounds_at_most s =
-    not s.has_wrong && (s.tight_count == 0 && (length s.spread_values == 0
-    && (length s.width_values == 0 && (length s.slack_values == 0 && length s.flows_values == 0))))
+-- nothing is wrong, and no option but `--sweeps` and `--spread` stands
+abbrev pub has_rounds_and_spread_at_most : Said → Bool
+has_rounds_and_spread_at_most s =
+    not s.has_wrong && (s.tight_count == 0
+    && (length s.width_values == 0 && (length s.slack_values == 0 && length s.flows_values == 0)))
 
 -- flows of links are asked for only where no end may be open
 abbrev pub go_together : ℕ → List Word → Bool
@@ -279,19 +291,40 @@ check_command s =
 abbrev pub gen_command : Said → Option Order
 gen_command s = if has_names_alone s then option_map gen (gen_order s.names) else None
 
--- `fire NET J P`, with `--sweeps N` once at most
+-- what is asked of `fire`: NET, J and P, with `--sweeps N` once at most
+abbrev pub fire_asked : Said → Option FireOrder
+fire_asked s =
+    if has_rounds_and_spread_at_most s
+    then option_and_then (λ n. fire_order n s.names) (rounds_of s.sweeps_values) else None
+
+-- `fire`, and where FILE is given, `fire` for its spread: FILE isn't NET
+abbrev pub fire_with : Option Word → FireOrder → Option Order
+fire_with None order = Some (fire order)
+fire_with (Some file) order =
+    if bytes_eq order.net file then None else Some (fire_over (record { fire = order; spread = file }))
+
+-- `fire NET J P`, with `--spread FILE` once at most, and `--sweeps N`
 abbrev pub fire_command : Said → Option Order
 fire_command s =
-    if has_rounds_at_most s
-    then option_and_then (λ n. option_map fire (fire_order n s.names)) (rounds_of s.sweeps_values)
-    else None
+    option_and_then (λ order. option_and_then (λ file. fire_with file order) (spread_of s.spread_values)) (fire_asked s)
 
--- `closures NET P`, with `--sweeps N` once at most
+-- what is asked of `closures`: NET and P, with `--sweeps N` once at most
+abbrev pub closures_asked : Said → Option ClosuresOrder
+closures_asked s =
+    if has_rounds_and_spread_at_most s
+    then option_and_then (λ n. closures_order n s.names) (rounds_of s.sweeps_values) else None
+
+-- `closures`, and where FILE is given, `closures` for its spread: FILE isn't NET
+abbrev pub closures_with : Option Word → ClosuresOrder → Option Order
+closures_with None order = Some (closures order)
+closures_with (Some file) order =
+    if bytes_eq order.net file then None else Some (closures_over (record { closures = order; spread = file }))
+
+-- `closures NET P`, with `--spread FILE` once at most, and `--sweeps N`
 abbrev pub closures_command : Said → Option Order
 closures_command s =
-    if has_rounds_at_most s
-    then option_and_then (λ n. option_map closures (closures_order n s.names)) (rounds_of s.sweeps_values)
-    else None
+    option_and_then (λ order. option_and_then (λ file. closures_with file order) (spread_of s.spread_values))
+    (closures_asked s)
 
 -- `witness NET CERT OUT`
 abbrev pub witness_command : Said → Option Order

@@ -8,6 +8,7 @@ use Rattle.hyd_command_words.specs.CommandGrammar.{Order, RunOrder, GenOrder, Tw
 use Rattle.hyd_command_words.specs.CommandGrammar.{FireOrder, ClosuresOrder, fire, closures}
 use Rattle.hyd_command_words.specs.CommandGrammar.{WitnessOrder, MeetOrder, witness, meet}
 use Rattle.hyd_command_words.specs.CommandGrammar.{SpreadRunOrder, SpreadCheckOrder, run_over, check_over}
+use Rattle.hyd_command_words.specs.CommandGrammar.{SpreadFireOrder, SpreadClosuresOrder, fire_over, closures_over}
 use Rattle.hyd_command_words.specs.declared.command.Command.{Command}
 use Rattle.hyd_command_words.specs.declared.command.Command.TheVariants as command
 use Rattle.hyd_command_words.specs.declared.command.Files.{Files}
@@ -18,6 +19,8 @@ use Rattle.hyd_command_words.specs.declared.command.SpreadCheckWords.{SpreadChec
 use Rattle.hyd_command_words.specs.declared.command.GenWords.{GenWords}
 use Rattle.hyd_command_words.specs.declared.command.FireWords.{FireWords}
 use Rattle.hyd_command_words.specs.declared.command.ClosuresWords.{ClosuresWords}
+use Rattle.hyd_command_words.specs.declared.command.SpreadFireWords.{SpreadFireWords}
+use Rattle.hyd_command_words.specs.declared.command.SpreadClosuresWords.{SpreadClosuresWords}
 use Rattle.hyd_command_words.specs.declared.command.WitnessWords.{WitnessWords}
 use Rattle.hyd_command_words.specs.declared.command.MeetWords.{MeetWords}
 
@@ -54,6 +57,12 @@ fire_seen f =
 abbrev pub closures_seen : ClosuresWords → ClosuresOrder
 closures_seen c = record { net = c.net.now; pressure = c.pressure.nano; rounds = c.rounds }
 
+abbrev pub spread_fire_seen : SpreadFireWords → SpreadFireOrder
+spread_fire_seen s = record { fire = fire_seen s.fire; spread = s.spread.now }
+
+abbrev pub spread_closures_seen : SpreadClosuresWords → SpreadClosuresOrder
+spread_closures_seen s = record { closures = closures_seen s.closures; spread = s.spread.now }
+
 abbrev pub witness_seen : WitnessWords → WitnessOrder
 witness_seen w = record { files = files_seen w.files; out = w.out.now }
 
@@ -68,7 +77,9 @@ order_seen (command.Check f) = check (files_seen f)
 order_seen (command.CheckOver s) = check_over (spread_check_seen s)
 order_seen (command.Gen g) = gen (gen_seen g)
 order_seen (command.Fire f) = fire (fire_seen f)
+order_seen (command.FireOver s) = fire_over (spread_fire_seen s)
 order_seen (command.Closures c) = closures (closures_seen c)
+order_seen (command.ClosuresOver s) = closures_over (spread_closures_seen s)
 order_seen (command.Witness w) = witness (witness_seen w)
 order_seen (command.Meet m) = meet (meet_seen m)
 

@@ -99,6 +99,24 @@ pub struct ClosuresWords<'a> {
     pub ghost small: { unsigned_abs pressure.nano ≤ 10 ^ 13 },
 }
 
+/// What `fire NET J P --spread FILE` asks for, with the option that `fire` has besides.
+#[derive(Clone, Copy)]
+pub struct SpreadFireWords<'a> {
+    /// What is asked of `fire`.
+    pub fire: FireWords<'a>,
+    /// FILE: the spread, which is read. Its name isn't that of the network, and doesn't begin with `-`.
+    pub spread: &'a str,
+}
+
+/// What `closures NET P --spread FILE` asks for, with the option that `closures` has besides.
+#[derive(Clone, Copy)]
+pub struct SpreadClosuresWords<'a> {
+    /// What is asked of `closures`.
+    pub closures: ClosuresWords<'a>,
+    /// FILE: the spread, which is read. Its name isn't that of the network, and doesn't begin with `-`.
+    pub spread: &'a str,
+}
+
 /// What `witness NET CERT OUT` asks for. No two of the names are the same.
 #[derive(Clone, Copy)]
 pub struct WitnessWords<'a> {
@@ -133,8 +151,12 @@ pub enum Command<'a> {
     Gen(GenWords<'a>),
     /// `fire NET J P [--sweeps N]`.
     Fire(FireWords<'a>),
+    /// `fire NET J P --spread FILE [--sweeps N]`: NET and FILE are read.
+    FireOver(SpreadFireWords<'a>),
     /// `closures NET P [--sweeps N]`.
     Closures(ClosuresWords<'a>),
+    /// `closures NET P --spread FILE [--sweeps N]`: NET and FILE are read.
+    ClosuresOver(SpreadClosuresWords<'a>),
     /// `witness NET CERT OUT`: NET and CERT are read, and OUT is written.
     Witness(WitnessWords<'a>),
     /// `meet NET FILE`: both files are read.

@@ -18,7 +18,7 @@ use std::alloc::{AllocError, Global};
 /// `--width`, `--slack`, `--flows` and `--spread` take the next word as value, which doesn't begin with `-`, or have it
 /// behind `=` in the same word. Behind a word `--` every word stands by its position, and before it each word that
 /// doesn't begin with `-` or is `-` alone. Each option stands once at most: `--sweeps` for `run`, `fire` and
-/// `closures`, `--spread` for `run` and `check`, the others for `run` alone.
+/// `closures`, `--spread` for these and `check`, the others for `run` alone.
 ///
 /// The error: memory ran out.
 pub fn read_words(alloc: Global, words: &[String]) -> Result<Option<Command<'_>>, AllocError>

@@ -7,37 +7,53 @@ ghost use Rattle.hyd_command_words.specs.CommandView.{said_seen, texts_seen, ord
 use crate::command::{ClosuresWords, Command, FireWords};
 use crate::numbers::{pressure_of, rounds_of};
 use crate::said_words::Said;
+use crate::spread_file::{closures_with, fire_with, spread_of};
 
 /// `fire` with what is said behind it, if that fits.
 pub(crate) fn fire_command<'a>(said: Said<'_, 'a>) -> Option<Command<'a>>
     ensures { option_map order_seen result ≡ orders.fire_command (said_seen said.entry) }
 {
-    if has_more_than_rounds(said) {
+    let fire = fire_asked(said)?;
+    let spread = spread_of(said.spread_values)?;
+    fire_with(spread, fire)
+}
+
+// What is asked of `fire`, whether or not for a spread.
+fn fire_asked<'a>(said: Said<'_, 'a>) -> Option<FireWords<'a>>
+    ensures { option_map fire_seen result ≡ orders.fire_asked (said_seen said.entry) }
+{
+    if has_more_than_rounds_and_spread(said) {
         return None;
     }
     let rounds = rounds_of(said.sweeps_values)?;
-    let order = fire_words(rounds, said.names)?;
-    Some(Command::Fire(order))
+    fire_words(rounds, said.names)
 }
 
 /// `closures` with what is said behind it, if that fits.
 pub(crate) fn closures_command<'a>(said: Said<'_, 'a>) -> Option<Command<'a>>
     ensures { option_map order_seen result ≡ orders.closures_command (said_seen said.entry) }
 {
-    if has_more_than_rounds(said) {
+    let closures = closures_asked(said)?;
+    let spread = spread_of(said.spread_values)?;
+    closures_with(spread, closures)
+}
+
+// What is asked of `closures`, whether or not for a spread.
+fn closures_asked<'a>(said: Said<'_, 'a>) -> Option<ClosuresWords<'a>>
+    ensures { option_map closures_seen result ≡ orders.closures_asked (said_seen said.entry) }
+{
+    if has_more_than_rounds_and_spread(said) {
         return None;
     }
     let rounds = rounds_of(said.sweeps_values)?;
-    let order = closures_words(rounds, said.names)?;
-    Some(Command::Closures(order))
+    closures_words(rounds, said.names)
 }
 
-// Whether an option besides `--sweeps` stands.
-fn has_more_than_rounds(said: Said<'_, '_>) -> bool
-    ensures { result ≡ not (orders.has_rounds_at_most (said_seen said.entry)) }
+// Whether an option besides `--sweeps` and `--spread` stands.
+fn has_more_than_rounds_and_spread(said: Said<'_, '_>) -> bool
+    ensures { result ≡ not (orders.has_rounds_and_spread_at_most (said_seen said.entry)) }
 {
     said.tight_count > 0
-        || said.spread_values.len() > 0
         || said.width_values.len() > 0
         || said.slack_values.len() > 0
         || said.flows_values.len() > 0

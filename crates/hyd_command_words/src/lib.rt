@@ -16,7 +16,7 @@ mod spread_file;
 
 pub use command::{
     ClosuresWords, Command, Files, FireWords, GenWords, LinkNames, MeetWords, RunWords,
-    SpreadCheckWords, SpreadRunWords, WitnessWords,
+    SpreadCheckWords, SpreadClosuresWords, SpreadFireWords, SpreadRunWords, WitnessWords,
 };
 pub use command_of_words::read_words;
 pub use names_of_links::MOST_NAMES;

@@ -3,8 +3,12 @@
 ghost use Rattle.std.specs.Prelude.{◌≡◌, option_map, not, ◌||◌};
 ghost use Rattle.hyd_command_words.specs.CommandGrammar as orders;
 ghost use Rattle.hyd_command_words.specs.CommandView.{files_seen, order_seen, run_seen, texts_seen};
+ghost use Rattle.hyd_command_words.specs.CommandView.{closures_seen, fire_seen};
 
-use crate::command::{Command, Files, RunWords, SpreadCheckWords, SpreadRunWords};
+use crate::command::{
+    ClosuresWords, Command, Files, FireWords, RunWords, SpreadCheckWords, SpreadClosuresWords,
+    SpreadFireWords, SpreadRunWords,
+};
 
 /// FILE, by the values that are given for it; `Some(None)` where none is.
 pub(crate) fn spread_of<'a>(values: &[&'a str]) -> Option<Option<&'a str>>
@@ -56,6 +60,37 @@ pub(crate) fn check_with<'a>(spread: Option<&'a str>, files: Files<'a>) -> Optio
         return None;
     }
     Some(Command::CheckOver(SpreadCheckWords { files, spread }))
+}
+
+/// `fire`, and where FILE is given, `fire` for its spread, if FILE isn't NET.
+pub(crate) fn fire_with<'a>(spread: Option<&'a str>, fire: FireWords<'a>) -> Option<Command<'a>>
+    ensures { option_map order_seen result
+        ≡ orders.fire_with (option_map (λ file. file.now) spread.entry) (fire_seen fire.entry) }
+{
+    let Some(spread) = spread else {
+        return Some(Command::Fire(fire));
+    };
+    if fire.net == spread {
+        return None;
+    }
+    Some(Command::FireOver(SpreadFireWords { fire, spread }))
+}
+
+/// `closures`, and where FILE is given, `closures` for its spread, if FILE isn't NET.
+pub(crate) fn closures_with<'a>(
+    spread: Option<&'a str>,
+    closures: ClosuresWords<'a>,
+) -> Option<Command<'a>>
+    ensures { option_map order_seen result
+        ≡ orders.closures_with (option_map (λ file. file.now) spread.entry) (closures_seen closures.entry) }
+{
+    let Some(spread) = spread else {
+        return Some(Command::Closures(closures));
+    };
+    if closures.net == spread {
+        return None;
+    }
+    Some(Command::ClosuresOver(SpreadClosuresWords { closures, spread }))
 }
 
 // Whether a file is neither of the two.

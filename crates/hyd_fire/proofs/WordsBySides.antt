@@ -13,8 +13,9 @@ use Rattle.hyd_spec_certificates.specs.PeriodNetwork.{Grid}
 use Rattle.hyd_spec_certificates.specs.Certificate.{IsCertificate}
 use Rattle.hyd_spec_pressure_targets.specs.declared.ClosureWord.{ClosureWord}
 use Rattle.hyd_spec_pressure_targets.specs.declared.ClosureWord.TheVariants.{Safe, Low}
-use Rattle.hyd_spec_pressure_targets.specs.ClosureWords.{IsShownSafe, IsShownLow, IsWord}
-use Rattle.hyd_spec_pressure_targets.specs.ClosureWords.{AreSpentOn}
+use Rattle.hyd_spec_pressure_targets.specs.ClosureWords.{IsShownSafe, IsShownLow, AreSpentOn}
+use Rattle.hyd_spec_spread_runs.specs.OutermostPairs.{Pair}
+use Rattle.hyd_spec_spread_targets.specs.WordsOverPairs.{IsWordOver}
 use Rattle.hyd_theorems_on_pressure_targets.proofs.OneWordAndEdge.{shown-by-lower, shown-by-upper}
 use Rattle.hyd_fire.specs.declared.answers.Found.{Found}
 use Rattle.hyd_fire.specs.declared.answers.Found.TheVariants.{Tight, Passing, NoCertificate, RoundsSpent}
@@ -30,25 +31,26 @@ stands-passing grid rounds side u Passing is has = is
 stands-passing grid rounds side u NoCertificate is has = absurd (true≢false (sym has))
 stands-passing grid rounds side u RoundsSpent is has = absurd (true≢false (sym has))
 
-module _ (grid : Grid) (rounds j : ℕ) (target : LevelSpan) (left : StudyView) (inside : j < length grid.junctions) where
+module _ (pair : Pair) (rounds j : ℕ) (target : LevelSpan) (left : StudyView)
+    (above : j < length pair.upper.junctions) (below : j < length pair.lower.junctions) where
   -- the word where the vectors show neither
-  without : (upper lower : Found) → IsFoundOn grid rounds Upper left.upper upper
-      → IsFoundOn grid rounds Lower left.lower lower
-      → (upper ≡ Passing → AreSpentOn grid rounds Upper) → (lower ≡ Passing → AreSpentOn grid rounds Lower)
+  without : (upper lower : Found) → IsFoundOn pair.upper rounds Upper left.upper upper
+      → IsFoundOn pair.lower rounds Lower left.lower lower
+      → (upper ≡ Passing → AreSpentOn pair.upper rounds Upper) → (lower ≡ Passing → AreSpentOn pair.lower rounds Lower)
       → ((IsTrue (has_vector lower) × (target.hi ≤ℤ head_at left.lower j)) → ⊥)
       → ((IsTrue (has_vector upper) × (head_at left.upper j ≤ℤ target.lo)) → ⊥)
-      → IsWord grid rounds j target.lo target.hi (word_without (record { upper = upper; lower = lower }))
+      → IsWordOver pair rounds j target.lo target.hi (word_without (record { upper = upper; lower = lower }))
   without Tight Tight u l pu pl not-safe not-low = record {
     is_open = record {
-      not_safe = λ shown. not-safe (refl, shown-by-lower grid j target.hi left.lower l inside shown);
-      not_low = λ shown. not-low (refl, shown-by-upper grid j target.lo left.upper u inside shown);
+      not_safe = λ shown. not-safe (refl, shown-by-lower pair.lower j target.hi left.lower l below shown);
+      not_low = λ shown. not-low (refl, shown-by-upper pair.upper j target.lo left.upper u above shown);
     };
     upper = (left.upper, u);
     lower = (left.lower, l);
   }
   without NoCertificate Tight u l pu pl not-safe not-low = record {
     is_open = record {
-      not_safe = λ shown. not-safe (refl, shown-by-lower grid j target.hi left.lower l inside shown);
+      not_safe = λ shown. not-safe (refl, shown-by-lower pair.lower j target.hi left.lower l below shown);
       not_low = λ shown. u shown.heads shown.certificate;
     };
     none = inl u;
@@ -56,7 +58,7 @@ module _ (grid : Grid) (rounds j : ℕ) (target : LevelSpan) (left : StudyView) 
   without Tight NoCertificate u l pu pl not-safe not-low = record {
     is_open = record {
       not_safe = λ shown. l shown.heads shown.certificate;
-      not_low = λ shown. not-low (refl, shown-by-upper grid j target.lo left.upper u inside shown);
+      not_low = λ shown. not-low (refl, shown-by-upper pair.upper j target.lo left.upper u above shown);
     };
     none = inr l;
   }
@@ -81,11 +83,11 @@ module _ (grid : Grid) (rounds j : ℕ) (target : LevelSpan) (left : StudyView) 
   without NoCertificate RoundsSpent u l pu pl not-safe not-low = inr l
 
   -- it is the word of what a closure left
-  pub left-without : (targets : List LevelSpan) (sides : Sides) → IsLeft grid rounds targets left sides
+  pub left-without : (targets : List LevelSpan) (sides : Sides) → IsLeft pair rounds targets left sides
       → slice_get targets j ≡ Some target
       → ((IsTrue (has_vector sides.lower) × (target.hi ≤ℤ head_at left.lower j)) → ⊥)
       → ((IsTrue (has_vector sides.upper) × (head_at left.upper j ≤ℤ target.lo)) → ⊥)
-      → IsWord grid rounds j target.lo target.hi (word_without sides)
+      → IsWordOver pair rounds j target.lo target.hi (word_without sides)
   left-without targets sides is at not-safe not-low =
       without sides.upper sides.lower is.upper is.lower
       (λ passing. spent (is.upper_passing passing)) (λ passing. spent (is.lower_passing passing)) not-safe not-low
@@ -97,31 +99,31 @@ module _ (grid : Grid) (rounds j : ℕ) (target : LevelSpan) (left : StudyView) 
         | inr low ↦ not-low low
       ])
 
-  pub left-safe : (targets : List LevelSpan) (sides : Sides) → IsLeft grid rounds targets left sides
+  pub left-safe : (targets : List LevelSpan) (sides : Sides) → IsLeft pair rounds targets left sides
       → IsTrue (has_vector sides.lower) → target.hi ≤ℤ head_at left.lower j
-      → IsShownSafe grid j target.hi
+      → IsShownSafe pair.lower j target.hi
   left-safe targets sides is has enough = record {
     heads = left.lower;
-    certificate = stands-passing grid rounds Lower left.lower sides.lower is.lower has;
+    certificate = stands-passing pair.lower rounds Lower left.lower sides.lower is.lower has;
     enough = enough;
   }
 
-  pub left-low : (targets : List LevelSpan) (sides : Sides) → IsLeft grid rounds targets left sides
+  pub left-low : (targets : List LevelSpan) (sides : Sides) → IsLeft pair rounds targets left sides
       → IsTrue (has_vector sides.upper) → head_at left.upper j ≤ℤ target.lo
-      → IsShownLow grid j target.lo
+      → IsShownLow pair.upper j target.lo
   left-low targets sides is has little = record {
     heads = left.upper;
-    certificate = stands-passing grid rounds Upper left.upper sides.upper is.upper has;
+    certificate = stands-passing pair.upper rounds Upper left.upper sides.upper is.upper has;
     too_little = little;
   }
 
   -- the word by the vectors is the word of what a closure left
-  pub left-word : (targets : List LevelSpan) (sides : Sides) → IsLeft grid rounds targets left sides
-      → slice_get targets j ≡ Some target → IsWord grid rounds j target.lo target.hi (word_by left sides j target)
+  pub left-word : (targets : List LevelSpan) (sides : Sides) → IsLeft pair rounds targets left sides
+      → slice_get targets j ≡ Some target → IsWordOver pair rounds j target.lo target.hi (word_by left sides j target)
   left-word targets sides is at = by-safe (has_vector sides.lower) (int_le target.hi (head_at left.lower j)) refl refl
     where
       Word : ClosureWord → Type 0
-      Word word = IsWord grid rounds j target.lo target.hi word
+      Word word = IsWordOver pair rounds j target.lo target.hi word
 
       by-low : ((IsTrue (has_vector sides.lower) × (target.hi ≤ℤ head_at left.lower j)) → ⊥) → (h l : Bool)
           → has_vector sides.upper ≡ h → int_le (head_at left.upper j) target.lo ≡ l

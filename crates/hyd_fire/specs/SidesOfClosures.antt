@@ -1,4 +1,4 @@
--- What a closure leaves: a vector for each side, and what was found of it.
+-- What a closure leaves: a vector for each side, and what was found of it on the grid of that side.
 -- Source: this program's.
 use Rattle.std.specs.Prelude.{◌≡◌, ◌⊎◌, ℕ, ◌≤ℤ◌, ℤ, List, length, slice_get, Some, Bool, true, false, IsTrue}
 use Rattle.std.specs.Prelude.{◌&&◌, int_le, if◌then◌else◌}
@@ -14,6 +14,7 @@ use Rattle.hyd_spec_pressure_targets.specs.declared.ClosureWord.{ClosureWord}
 use Rattle.hyd_spec_pressure_targets.specs.declared.ClosureWord.TheVariants.{Safe as SafeWord, Low as LowWord}
 use Rattle.hyd_spec_pressure_targets.specs.declared.ClosureWord.TheVariants.{Unsure, NoCertificate as NoWord}
 use Rattle.hyd_spec_pressure_targets.specs.declared.ClosureWord.TheVariants.{RoundsSpent as SpentWord}
+use Rattle.hyd_spec_spread_runs.specs.OutermostPairs.{Pair}
 use Rattle.hyd_fire.specs.declared.answers.Found.{Found}
 use Rattle.hyd_fire.specs.declared.answers.Found.TheVariants.{Tight, Passing, NoCertificate, RoundsSpent}
 use Rattle.hyd_fire.specs.declared.answers.Sides.{Sides}
@@ -47,15 +48,15 @@ abbrev pub AreAllShown : StudyView → Sides → List LevelSpan → Type 0
 AreAllShown left sides targets =
     (j : ℕ) (target : LevelSpan) → slice_get targets j ≡ Some target → IsShownBy left sides j target
 
--- what a closure leaves
-pub record IsLeft (grid : Grid) (rounds : ℕ) (targets : List LevelSpan) (left : StudyView) (sides : Sides) : Type 0
+-- what a closure leaves, the UPPER vector on the UPPER grid and the LOWER one on the LOWER grid
+pub record IsLeft (pair : Pair) (rounds : ℕ) (targets : List LevelSpan) (left : StudyView) (sides : Sides) : Type 0
   where
-    pub upper_each : length left.upper ≡ length grid.junctions
-    pub lower_each : length left.lower ≡ length grid.junctions
-    pub upper : IsFoundOn grid rounds Upper left.upper sides.upper
-    pub lower : IsFoundOn grid rounds Lower left.lower sides.lower
-    pub upper_passing : sides.upper ≡ Passing → AreAllShown left sides targets ⊎ AreSpentOn grid rounds Upper
-    pub lower_passing : sides.lower ≡ Passing → AreAllShown left sides targets ⊎ AreSpentOn grid rounds Lower
+    pub upper_each : length left.upper ≡ length pair.upper.junctions
+    pub lower_each : length left.lower ≡ length pair.lower.junctions
+    pub upper : IsFoundOn pair.upper rounds Upper left.upper sides.upper
+    pub lower : IsFoundOn pair.lower rounds Lower left.lower sides.lower
+    pub upper_passing : sides.upper ≡ Passing → AreAllShown left sides targets ⊎ AreSpentOn pair.upper rounds Upper
+    pub lower_passing : sides.lower ≡ Passing → AreAllShown left sides targets ⊎ AreSpentOn pair.lower rounds Lower
 
 -- the word of a junction of which the vectors show none: that there is no certificate where one side has none and the
 -- other has none or its tight vector, and that it is unsure where both are tight

@@ -7,7 +7,8 @@ ghost use Rattle.hyd_spec_certificates.specs.declared.Side.TheVariants.{Upper, L
 ghost use Rattle.hyd_spec_certificates.specs.PeriodNetwork.{GridJunction};
 ghost use Rattle.hyd_spec_certificates.specs.Certificate.{IsInBox};
 ghost use Rattle.hyd_spec_certificates.specs.BoxesWithHeldJunction.{passing_draw};
-ghost use Rattle.hyd_spec_pressure_targets.specs.BracketOfDraws.{IsEdge, IsBracket};
+ghost use Rattle.hyd_spec_pressure_targets.specs.BracketOfDraws.{IsEdge};
+ghost use Rattle.hyd_spec_spread_targets.specs.BracketsOverPairs.{IsBracketOver};
 ghost use Rattle.hyd_period_network.specs.NetAsPeriodNetwork.{grid_of};
 ghost use Rattle.hyd_vector_check.specs.NetOutflowBySide.{net_outflow};
 ghost use Rattle.hyd_fire.specs.SearchesOnSides.{IsSought};
@@ -134,27 +135,31 @@ impl Study {
     }
 }
 
-/// How much may be drawn at a junction in the period of a net, with the pressure of a target there, whose whole heads
-/// are `target.lo` to `target.hi`: with the one edge, or less, the pressure is above the target, with the other edge, or
-/// more, below it. Each edge is that of the tight vector that holds the junction at the target. So it is one number: it
-/// doesn't depend on the finder, which only shortens the way. The finder is asked for certificates without a junction
-/// held; from these the way leads to proposals of tight vectors, which turns of the junctions check. Else rounds lead
-/// there from the end of the box, at most so many.
+/// How much may be drawn at a junction in a period, with the pressure of a target there, whose whole heads are
+/// `target.lo` to `target.hi`: with the one edge, or less, the pressure is above the target, with the other edge, or
+/// more, below it. Each edge is that of the tight vector that holds the junction at the target: the UPPER one on the
+/// net `above`, the LOWER one on the net `below`, which is the same net where the data are known. So it is one number:
+/// it doesn't depend on the finder, which only shortens the way. The finder is asked for certificates without a
+/// junction held; from these the way leads to proposals of tight vectors, which turns of the junctions check. Else
+/// rounds lead there from the end of the box, at most so many.
 ///
 /// No memory is taken.
 pub fn available<F: Finder>(
-    net: &Net,
+    above: &Net,
+    below: &Net,
     study: &mut Study,
     finder: &mut F,
     junction: u32,
     target: LevelSpan,
     rounds: u32,
 ) -> Bracket
-    requires one_each { length study.old.upper ≡ length net.now.junctions }
-    requires inside { junction < length net.now.junctions }
+    requires one_each { length study.old.upper ≡ length above.now.junctions }
+    requires alike { length above.now.junctions ≡ length below.now.junctions }
+    requires inside { junction < length above.now.junctions }
     requires low_in_box { IsInBox target.lo }
     requires high_in_box { IsInBox target.hi }
-    ensures bracket { IsBracket (grid_of net.now) junction target.lo target.hi rounds result }
+    ensures bracket { IsBracketOver (record { upper = grid_of above.now; lower = grid_of below.now }) junction
+        target.lo target.hi rounds result }
     ensures below_small { IsSmallEdge result.below }
     ensures above_small { IsSmallEdge result.above }
     ensures keeps { study.new ≡ study.old }
@@ -168,7 +173,10 @@ pub fn available<F: Finder>(
         junction,
         head: target.lo,
     };
-    let below = study.edge(net, finder, Side::Lower, at_high, rounds);
-    let above = study.edge(net, finder, Side::Upper, at_low, rounds);
-    Bracket { below, above }
+    let enough = study.edge(below, finder, Side::Lower, at_high, rounds);
+    let too_much = study.edge(above, finder, Side::Upper, at_low, rounds);
+    Bracket {
+        below: enough,
+        above: too_much,
+    }
 }

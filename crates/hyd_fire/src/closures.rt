@@ -189,59 +189,65 @@ impl Study {
     }
 
     // Asks the finder for certificates of both sides, and tells of which there is one.
-    fn propose_both<F: Finder>(&mut self, net: &Net, finder: &mut F) -> (bool, bool)
-        requires one_each { length self.old.upper ≡ length net.now.junctions }
-        ensures upper { IsTrue (result.0) → IsCertificate (grid_of net.now) Main Upper self.new.upper }
-        ensures lower { IsTrue (result.1) → IsCertificate (grid_of net.now) Main Lower self.new.lower }
+    fn propose_both<F: Finder>(&mut self, above: &Net, below: &Net, finder: &mut F) -> (bool, bool)
+        requires one_each { length self.old.upper ≡ length above.now.junctions }
+        requires alike { length above.now.junctions ≡ length below.now.junctions }
+        ensures upper { IsTrue (result.0) → IsCertificate (grid_of above.now) Main Upper self.new.upper }
+        ensures lower { IsTrue (result.1) → IsCertificate (grid_of below.now) Main Lower self.new.lower }
         ensures each { length self.new.upper ≡ length self.old.upper }
         ensures lower_each { length self.new.lower ≡ length self.old.upper }
         ensures told { F.told finder.new ≡ F.told finder.old }
     {
-        let upper = propose(net, finder, Side::Upper, &mut self.upper);
-        let lower = propose(net, finder, Side::Lower, &mut self.lower);
+        let upper = propose(above, finder, Side::Upper, &mut self.upper);
+        let lower = propose(below, finder, Side::Lower, &mut self.lower);
         (upper, lower)
     }
 }
 
-/// Finds the vectors of both sides of a period with a pipe shut, for words of its junctions: `targets` has the whole
+/// Finds the vectors of both sides of a period with a pipe shut, for words of its junctions: those of UPPER on the net
+/// `above`, those of LOWER on the net `below`, which is the same net where the data are known; `targets` has the whole
 /// heads of the target at each junction. The finder's certificates stand where these show the word of each junction, or
 /// where the rounds that a search may take, at most so many from the end of the box, are spent; else the tight vectors.
 ///
 /// No memory is taken.
 pub fn close<F: Finder>(
-    net: &Net,
+    above: &Net,
+    below: &Net,
     study: &mut Study,
     finder: &mut F,
     targets: &[LevelSpan],
     rounds: u32,
 ) -> Sides
-    requires one_each { length study.old.upper ≡ length net.now.junctions }
-    requires targets { length targets.now ≡ length net.now.junctions }
-    ensures left { IsLeft (grid_of net.now) rounds targets.now study.new result }
+    requires one_each { length study.old.upper ≡ length above.now.junctions }
+    requires alike { length above.now.junctions ≡ length below.now.junctions }
+    requires targets { length targets.now ≡ length above.now.junctions }
+    ensures left { IsLeft (record { upper = grid_of above.now; lower = grid_of below.now }) rounds targets.now
+        study.new result }
     ensures each { length study.new.upper ≡ length study.old.upper }
     ensures told { F.told finder.new ≡ F.told finder.old }
 {
-    let _junctions = net.junctions();
-    let (upper_passes, lower_passes) = study.propose_both(net, finder);
+    let _above = above.junctions();
+    let _below = below.junctions();
+    let (upper_passes, lower_passes) = study.propose_both(above, below, finder);
     let both = Sides {
         upper: Found::Passing,
         lower: Found::Passing,
     };
     if upper_passes && lower_passes {
-        if are_all_shown(net, both, &study.upper, &study.lower, targets) {
+        if are_all_shown(above, both, &study.upper, &study.lower, targets) {
             return both;
         }
     }
-    let lower = study.settle_lower(net, lower_passes, rounds);
+    let lower = study.settle_lower(below, lower_passes, rounds);
     let one = Sides {
         upper: Found::Passing,
         lower,
     };
     if upper_passes {
-        if are_all_shown(net, one, &study.upper, &study.lower, targets) {
+        if are_all_shown(above, one, &study.upper, &study.lower, targets) {
             return one;
         }
     }
-    let upper = study.settle_upper(net, upper_passes, rounds);
+    let upper = study.settle_upper(above, upper_passes, rounds);
     Sides { upper, lower }
 }

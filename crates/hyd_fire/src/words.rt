@@ -4,8 +4,8 @@
 ghost use Rattle.std.specs.Prelude.{◌≡◌, ◌<◌, ◌≤ℤ◌, ◌↔◌, ℕ, List, length, Some, slice_get, IsTrue, ◌&&◌, int_le};
 ghost use Rattle.hyd_spec.specs.Assignment.{head_at};
 ghost use Rattle.hyd_spec_certificates.specs.declared.LevelSpan.{LevelSpan};
-ghost use Rattle.hyd_spec_certificates.specs.PeriodNetwork.{Grid};
-ghost use Rattle.hyd_spec_pressure_targets.specs.ClosureWords.{IsWord};
+ghost use Rattle.hyd_spec_spread_runs.specs.OutermostPairs.{Pair};
+ghost use Rattle.hyd_spec_spread_targets.specs.WordsOverPairs.{IsWordOver};
 ghost use Rattle.hyd_fire.specs.SidesOfClosures.{has_vector, word_without, word_by, IsLeft};
 
 use crate::answers::{Found, Sides};
@@ -60,8 +60,8 @@ fn word_without(sides: Sides) -> ClosureWord
 pub fn word_of(study: &Study, sides: Sides, junction: u32, target: LevelSpan) -> ClosureWord
     requires { junction < length study.now.upper }
     ensures value { result ≡ word_by study.now sides junction target }
-    ensures word { (grid : Grid) (rounds : ℕ) (targets : List LevelSpan) → IsLeft grid rounds targets study.now sides
-        → slice_get targets junction ≡ Some target → IsWord grid rounds junction target.lo target.hi result }
+    ensures word { (pair : Pair) (rounds : ℕ) (targets : List LevelSpan) → IsLeft pair rounds targets study.now sides
+        → slice_get targets junction ≡ Some target → IsWordOver pair rounds junction target.lo target.hi result }
 {
     if is_safe(sides.lower, &study.lower, junction, target) {
         return ClosureWord::Safe;

@@ -1,1 +1,2 @@
+pub mod LinksStarted
 mod LinksAtFirst

@@ -1,95 +1,63 @@
 -- The states of links in the first period, one of them closed.
-use Rattle.std.proofs.Common.{◌≡◌, ◌∙◌, ℕ, zero, suc, false, List, [], ◌∷◌, length, map, refl, ap, subst, sym}
+use Rattle.std.proofs.Common.{◌≡◌, ◌∙◌, ℕ, false, List, length, map, refl, ap, subst, sym}
 use Rattle.std.specs.Prelude.{slice_set, Result, Ok, Err, IfErr, is_err}
-use Rattle.std.specs.List.{AllZip}
 use Rattle.hyd_net.specs.Sound.{IsSound}
-use Rattle.hyd_net.specs.LinkStates.{CanHave}
-use Rattle.hyd_net.specs.declared.links.LinkKind.TheVariants.{Pipe, CheckPipe, Pump, CurvePump, Tcv, Fcv, Gpv}
-use Rattle.hyd_spec.specs.ProgramTypes.{Project, Link, LinkKind, LinkState, Closed}
-use Rattle.hyd_spec.specs.History.{initial_links}
+use Rattle.hyd_spec.specs.ProgramTypes.{Project, LinkState, Closed}
 use Rattle.hyd_spec_certificates.specs.SpansAsIntervals.{levels_of}
 use Rattle.hyd_spec_certificates.specs.declared.LevelSpan.{LevelSpan}
 use Rattle.hyd_spec_certificates.specs.PeriodNetwork.{Grid, IsGrid, grid_links}
 use Rattle.hyd_spec_certificates.specs.RecordAndStanding.{initial_standing}
-use Rattle.hyd_spec_certificates.specs.Decided.{links_at, acts_on}
+use Rattle.hyd_spec_certificates.specs.Decided.{links_at}
 use Rattle.hyd_spec_certificates.specs.Valid.{DemandsAreInRange}
 use Rattle.hyd_spec_certificates.specs.Stops.{IsFirstDemand}
 use Rattle.hyd_theorems_on_definitions.specs.SoundLawsAndGrids.{TanksInOrder}
-use Rattle.hyd_theorems_on_histories.specs.Agreement.{IsOwnState}
 use Rattle.hyd_theorems_on_histories.proofs.AgreementAfterPeriod.{kept_at_start}
 use Rattle.hyd_theorems_on_nesting.proofs.TightVectorsDecide.{tidy_at_start}
-use Rattle.hyd_theorems_on_histories.proofs.CommandedLinkStates.{initial_own, started_own}
 use Rattle.hyd_period_network.specs.LawsInSettings.{AreStates}
 use Rattle.hyd_period_network.specs.NetsSetToPeriods.{AreLevels, IsNetOf}
 use Rattle.hyd_period_network.specs.declared.fault.PeriodDemand.{PeriodDemand}
 use Rattle.hyd_first_period.specs.FirstPeriods.{IsFirst, IsReady}
 use Rattle.hyd_first_period.specs.declared.first_period.FirstPeriod.{FirstPeriod}
-use Rattle.hyd_sim.proofs.LinkStatesAtStart.{own-states, zip-length}
+use Rattle.hyd_first_period.proofs.LinksStarted.{states-started, states-started-shut, long-started}
 use Rattle.hyd_sim.proofs.LevelsInOrderAtStart.{levels-there, order-there}
 use Rattle.hyd_sim.proofs.StopsAndTightRecords.{no-demand-out}
 
--- each kind of link can be closed
-can-close : (kind : LinkKind) → CanHave kind Closed
-can-close (Pipe cap) = tt
-can-close (CheckPipe cap) = tt
-can-close (Pump cap shutoff head pattern) = tt
-can-close (CurvePump bend pattern) = tt
-can-close (Tcv valve) = tt
-can-close (Fcv valve) = tt
-can-close (Gpv bend) = tt
+module _ (project : Project) (sound : IsSound project) where
+  -- links can have the states of the first period
+  pub states-at-first : (states : List LinkState) → states ≡ links_at project (initial_standing project)
+      → AreStates project states
+  states-at-first = states-started project sound (initial_standing project).levels
 
-module _ (project : Project) where
-  own-with-shut : (links : List Link) (states : List LinkState) (k : ℕ) → AllZip (IsOwnState project) links states
-      → AllZip (IsOwnState project) links (slice_set states k Closed)
-  own-with-shut [] [] k all = tt
-  own-with-shut [] (s ∷ states) k all = absurd all
-  own-with-shut (l ∷ links) [] k all = absurd all
-  own-with-shut (l ∷ links) (s ∷ states) zero all = (record { made = tt; can = can-close l.kind }, all.1)
-  own-with-shut (l ∷ links) (s ∷ states) (suc k) all = (all.0, own-with-shut links states k all.1)
+  -- also with one closed
+  pub states-with-shut : (states : List LinkState) (k : ℕ)
+      → states ≡ slice_set (links_at project (initial_standing project)) k Closed → AreStates project states
+  states-with-shut = states-started-shut project sound (initial_standing project).levels
 
-  module _ (sound : IsSound project) where
-    own-at-first : AllZip (IsOwnState project) project.links.list (links_at project (initial_standing project))
-    own-at-first = started_own project sound 0 (acts_on (initial_standing project).levels) (initial_links project)
-        (initial_own project sound)
+  -- and there are as many states as links
+  pub long-at-first : length (links_at project (initial_standing project)) ≡ length project.links.list
+  long-at-first = long-started project sound (initial_standing project).levels
 
-    -- links can have the states of the first period
-    pub states-at-first : (states : List LinkState) → states ≡ links_at project (initial_standing project)
-        → AreStates project states
-    states-at-first states e = subst (AreStates project) (sym e)
-        (own-states project (links_at project (initial_standing project)) own-at-first)
+  -- the levels at the start lie in their tanks
+  pub levels-at-first : (levels : List LevelSpan) → map levels_of levels ≡ (initial_standing project).levels
+      → AreLevels project levels
+  levels-at-first levels e = levels-there project (initial_standing project) levels e (kept_at_start project sound)
+      (tidy_at_start project sound)
 
-    -- also with one closed
-    pub states-with-shut : (states : List LinkState) (k : ℕ)
-        → states ≡ slice_set (links_at project (initial_standing project)) k Closed → AreStates project states
-    states-with-shut states k e = subst (AreStates project) (sym e)
-        (own-states project (slice_set (links_at project (initial_standing project)) k Closed)
-        (own-with-shut project.links.list (links_at project (initial_standing project)) k own-at-first))
-
-    -- and there are as many states as links
-    pub long-at-first : length (links_at project (initial_standing project)) ≡ length project.links.list
-    long-at-first = zip-length project project.links.list (links_at project (initial_standing project)) own-at-first
-
-    -- the levels at the start lie in their tanks
-    pub levels-at-first : (levels : List LevelSpan) → map levels_of levels ≡ (initial_standing project).levels
-        → AreLevels project levels
-    levels-at-first levels e = levels-there project (initial_standing project) levels e (kept_at_start project sound)
-        (tidy_at_start project sound)
-
-    -- the tanks of a grid of the first period are in order, whatever its links are
-    pub order-at-first : (links : List LinkState) (grid : Grid)
-        → IsGrid project 0 (initial_standing project).levels (initial_standing project).tanks links grid
-        → TanksInOrder grid
-    order-at-first links grid is =
-        order-there project (initial_standing project) (record grid {
-          links =
-              grid_links project (initial_standing project).tanks project.links.list
-              (links_at project (initial_standing project));
-        }) (tidy_at_start project sound) (record {
-          junctions = is.junctions;
-          reservoirs = is.reservoirs;
-          tank_heads = is.tank_heads;
-          links_are = refl;
-        })
+  -- the tanks of a grid of the first period are in order, whatever its links are
+  pub order-at-first : (links : List LinkState) (grid : Grid)
+      → IsGrid project 0 (initial_standing project).levels (initial_standing project).tanks links grid
+      → TanksInOrder grid
+  order-at-first links grid is =
+      order-there project (initial_standing project) (record grid {
+        links =
+            grid_links project (initial_standing project).tanks project.links.list
+            (links_at project (initial_standing project));
+      }) (tidy_at_start project sound) (record {
+        junctions = is.junctions;
+        reservoirs = is.reservoirs;
+        tank_heads = is.tank_heads;
+        links_are = refl;
+      })
 
 -- where all demands are in range, none is the first that isn't
 pub none-refused : {T : Type 0} (project : Project) (result : Result T PeriodDemand) → DemandsAreInRange project 0

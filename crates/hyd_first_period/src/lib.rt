@@ -5,3 +5,4 @@ mod first_period;
 mod links_at_start;
 
 pub use first_period::FirstPeriod;
+pub use links_at_start::states_at_start;

@@ -27,8 +27,9 @@ fn states_of_file(alloc: Global, project: &Project) -> Result<Vec<LinkState>, Ou
     Ok(states)
 }
 
-/// The states that pump patterns and controls give links at time 0, with tanks at levels that decide each control.
-pub(crate) fn states_at_start(
+/// The states that pump patterns and controls give links at time 0, a state for each link, with tanks at levels (head
+/// ticks above their bottoms, a span for each tank) that decide each control. Fails where memory is wanting.
+pub fn states_at_start(
     alloc: Global,
     project: &Project,
     levels: &[LevelSpan],

@@ -120,10 +120,7 @@ fn check_links(net: &Net, row: &Record, links: &[NamedVectors]) -> Result<(), Fl
     ensures refused { IfErr result (IsRefusedPart (grid_of net.now) (row_of row.now) (links_in links.now)) }
 {
     for i in 0..links.len() {
-        match check_link(net, row, &links[i]) {
-            Ok(()) => {}
-            Err(cause) => return Err(cause),
-        }
+        check_link(net, row, &links[i])?;
     }
     Ok(())
 }

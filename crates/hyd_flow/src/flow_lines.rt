@@ -46,10 +46,7 @@ fn put_each<D: Desk>(
     for i in 0..links.len() {
         let named = &links[i];
         let flow = flow_of(net, row, named);
-        match put_flow_line(project, row.time, named.link, &flow, pen, desk) {
-            Ok(()) => {}
-            Err(fault) => return Err(fault),
-        }
+        put_flow_line(project, row.time, named.link, &flow, pen, desk)?;
     }
     Ok(())
 }
@@ -82,10 +79,7 @@ pub fn put_flow_lines<D: Desk>(
         × Puts D.files D.rest D.written D.printed D.target D.ready D.counts D.openings
         (joined (map (flow_line_text project.now) lines)) result pen.old pen.new desk.old desk.new) }
 {
-    match put_nothing(pen, desk) {
-        Ok(()) => {}
-        Err(fault) => return Err(fault),
-    }
+    put_nothing(pen, desk)?;
     if !is_report_time(project, row.time) {
         return Ok(());
     }

@@ -13,11 +13,11 @@ and proves the intervals that it prints.
   hyd gen SEED JUNCTIONS NET CERT
       makes a network from a seed, runs it, and prints a summary
       hyd gen 7 100 net.inp net.cert
-  hyd fire NET J P [--sweeps N]
+  hyd fire NET J P [--sweeps N] [--spread FILE]
       prints how much more may be drawn at junction J at the start, its pressure
       staying above P
       hyd fire examples/net1.inp 22 20
-  hyd closures NET P [--sweeps N]
+  hyd closures NET P [--sweeps N] [--spread FILE]
       closes each pipe alone at the start, and prints the junctions that aren't
       shown to keep the pressure P
       hyd closures examples/net1.inp 20
@@ -105,39 +105,43 @@ Makes a network, runs it, and prints a summary.
 
 Status 0: done. 6, 7, 8: the run stopped. 1, 3, 4, 10: memory or files.";
 
-pub(crate) const HELP_OF_FIRE: &str = "fire NET J P [--sweeps N]
+pub(crate) const HELP_OF_FIRE: &str = "fire NET J P [--sweeps N] [--spread FILE]
 
 Prints FIRE J a b for the first period: with at most a more drawn at J its
 pressure is above P, and from b on it is below P. NONE stands for a where it
 isn't above P even without. Nothing is written.
 
-  NET         the network
-  J           the junction
-  P           the pressure in the unit of NET, at most 10000 in magnitude; one
-              below 0 stands behind a word --
-  --sweeps N  at most N rounds for each vector: 0 to 100000, else 200
+  NET            the network
+  J              the junction
+  P              the pressure in the unit of NET, at most 10000 in magnitude;
+                 one below 0 stands behind a word --
+  --sweeps N     at most N rounds for each vector: 0 to 100000, else 200
+  --spread FILE  what is printed holds of every network within the limits that
+                 the rows of FILE give (docs/SPREADS.md)
 
   hyd fire examples/net1.inp 22 20
 
-Status 0: done, also where NOCERT or ROUNDS stands for a number. 5: NET is
-refused, or has no junction J. 8: a demand is out of range. 1, 3, 4, 10: memory
-or files.";
+Status 0: done, also where NOCERT or ROUNDS stands for a number. 5: NET or FILE
+is refused, or NET has no junction J. 8: a demand is out of range. 1, 3, 4, 10:
+memory or files.";
 
-pub(crate) const HELP_OF_CLOSURES: &str = "closures NET P [--sweeps N]
+pub(crate) const HELP_OF_CLOSURES: &str = "closures NET P [--sweeps N] [--spread FILE]
 
 Closes each pipe alone in the first period, and prints SHUT and its ID, and
 below it each junction that isn't shown to keep the pressure P: LOW where it is
 at most P, else UNSURE, NOCERT or ROUNDS. It writes nothing.
 
-  NET         the network
-  P           the pressure in the unit of NET, at most 10000 in magnitude; one
-              below 0 stands behind a word --
-  --sweeps N  at most N rounds for each vector: 0 to 100000, else 200
+  NET            the network
+  P              the pressure in the unit of NET, at most 10000 in magnitude;
+                 one below 0 stands behind a word --
+  --sweeps N     at most N rounds for each vector: 0 to 100000, else 200
+  --spread FILE  what is printed holds of every network within the limits that
+                 the rows of FILE give (docs/SPREADS.md)
 
   hyd closures examples/net1.inp 20
 
-Status 0: done. 5: NET is refused. 8: a demand is out of range. 1, 3, 4, 10:
-memory or files.";
+Status 0: done. 5: NET or FILE is refused. 8: a demand is out of range. 1, 3, 4,
+10: memory or files.";
 
 pub(crate) const HELP_OF_WITNESS: &str = "witness NET CERT OUT
 

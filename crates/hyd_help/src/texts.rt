@@ -67,7 +67,7 @@ fn options_of(usage: Usage) -> &'static str {
     match usage.name {
         "run" => "--sweeps N, --width W, --tight, --flows IDS, --slack N and --spread FILE",
         "check" => "--spread FILE alone",
-        "fire" | "closures" => "--sweeps N alone",
+        "fire" | "closures" => "--sweeps N and --spread FILE",
         _ => "none",
     }
 }

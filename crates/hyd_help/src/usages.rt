@@ -44,13 +44,13 @@ const GEN: Usage = Usage {
 const FIRE: Usage = Usage {
     name: "fire",
     words: &["NET", "J", "P"],
-    options: &["--sweeps"],
+    options: &["--sweeps", "--spread"],
 };
 
 const CLOSURES: Usage = Usage {
     name: "closures",
     words: &["NET", "P"],
-    options: &["--sweeps"],
+    options: &["--sweeps", "--spread"],
 };
 
 const WITNESS: Usage = Usage {

@@ -109,13 +109,9 @@ impl Source {
             if count >= LINE {
                 return Ok(None);
             }
-            match self.fill(desk) {
-                Ok(n) => {
-                    if n == 0 {
-                        return Ok(None);
-                    }
-                }
-                Err(fault) => return Err(fault),
+            let n = self.fill(desk)?;
+            if n == 0 {
+                return Ok(None);
             }
         }
     }

@@ -25,10 +25,7 @@ fn put_place<D: Desk>(place: u32, pen: &mut Pen, desk: &mut D) -> Result<(), Out
     ensures { Puts D.files D.rest D.written D.printed D.target D.ready D.counts D.openings
         (decimal place ++ codes "\n") result pen.old pen.new desk.old desk.new }
 {
-    match put_number(u128::from(place), pen, desk) {
-        Ok(()) => {}
-        Err(fault) => return Err(fault),
-    }
+    put_number(u128::from(place), pen, desk)?;
     pen.put(desk, b"\n")
 }
 
@@ -44,9 +41,6 @@ pub fn put_refused_name<D: Desk>(
     ensures { Puts D.files D.rest D.written D.printed D.target D.ready D.counts D.openings
         (refused_name_line place cause) result pen.old pen.new desk.old desk.new }
 {
-    match pen.put(desk, words_before_place(cause)) {
-        Ok(()) => {}
-        Err(fault) => return Err(fault),
-    }
+    pen.put(desk, words_before_place(cause))?;
     put_place(place, pen, desk)
 }

@@ -28,10 +28,7 @@ fn print_name<D: Desk>(refused: RefusedName, desk: &mut D) -> Result<(), OutFaul
     ensures openings_stay { D.openings desk.new ≡ D.openings desk.old }
 {
     let mut pen = Pen::new(Channel::Report);
-    match put_refused_name(refused.place, refused.cause, &mut pen, desk) {
-        Ok(()) => {}
-        Err(fault) => return Err(fault),
-    }
+    put_refused_name(refused.place, refused.cause, &mut pen, desk)?;
     pen.flush(desk)
 }
 

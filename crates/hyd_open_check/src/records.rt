@@ -76,10 +76,8 @@ fn take_record<D: Desk>(
 {
     // So many periods aren't done.
     let _project = sim.project();
-    match read_record(sim.number(), sim.is_finished(), reader, row, desk) {
-        Ok(None) => {}
-        Ok(Some(conclusion)) => return Ok(Some(conclusion)),
-        Err(fault) => return Err(fault),
+    if let Some(conclusion) = read_record(sim.number(), sim.is_finished(), reader, row, desk)? {
+        return Ok(Some(conclusion));
     }
     try_record(sim, row, pen, desk)
 }
@@ -108,10 +106,8 @@ pub(crate) fn take_records<D: Desk>(
     // The network is sound.
     let _project = sim.project();
     loop {
-        match take_record(sim, reader, row, pen, desk) {
-            Ok(None) => {}
-            Ok(Some(conclusion)) => return Ok(conclusion),
-            Err(fault) => return Err(fault),
+        if let Some(conclusion) = take_record(sim, reader, row, pen, desk)? {
+            return Ok(conclusion);
         }
     }
 }

@@ -42,10 +42,7 @@ fn put_check<D: Desk>(
     ensures project { sim.new.project ≡ sim.old.project }
     ensures settings { sim.new.settings ≡ sim.old.settings }
 {
-    match begin_check(sim.project(), pen, desk) {
-        Ok(()) => {}
-        Err(fault) => return Err(fault),
-    }
+    begin_check(sim.project(), pen, desk)?;
     match take_records(sim, reader, row, pen, desk) {
         Ok(conclusion) => end_check(sim.project(), sim.number(), conclusion, pen, desk),
         Err(fault) => Err(fault),

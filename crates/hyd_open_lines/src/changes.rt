@@ -136,10 +136,7 @@ pub fn put_open_changes<D: Desk>(
         result pen.old pen.new desk.old desk.new }
 {
     for i in 0..changes.len() {
-        match put_change(project, at, &changes[i], pen, desk) {
-            Ok(()) => {}
-            Err(fault) => return Err(fault),
-        }
+        put_change(project, at, &changes[i], pen, desk)?;
     }
     Ok(())
 }

@@ -87,10 +87,7 @@ pub fn put_open_events<D: Desk>(
         result pen.old pen.new desk.old desk.new }
 {
     for i in 0..events.len() {
-        match put_event(project, at, &events[i], pen, desk) {
-            Ok(()) => {}
-            Err(fault) => return Err(fault),
-        }
+        put_event(project, at, &events[i], pen, desk)?;
     }
     Ok(())
 }

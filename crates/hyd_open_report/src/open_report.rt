@@ -61,15 +61,9 @@ pub fn put_open_report<D: Desk>(
         result pen.old pen.new desk.old desk.new }
 {
     if late.start == 0 {
-        match put_report(project, net, row, facts, pen, desk) {
-            Ok(()) => {}
-            Err(fault) => return Err(fault),
-        }
+        put_report(project, net, row, facts, pen, desk)?;
         return put_opened(project, facts, late.end, events, pen, desk);
     }
-    match put_start(project, facts, late.start, pen, desk) {
-        Ok(()) => {}
-        Err(fault) => return Err(fault),
-    }
+    put_start(project, facts, late.start, pen, desk)?;
     put_end(project, facts, late.end, events, pen, desk)
 }

@@ -78,10 +78,7 @@ pub fn put_start<D: Desk>(
         result pen.old pen.new desk.old desk.new }
 {
     // A pen that has a fault answers it also where there are no lines.
-    match pen.put(desk, b"") {
-        Ok(()) => {}
-        Err(fault) => return Err(fault),
-    }
+    pen.put(desk, b"")?;
     let at = OpenTime {
         first: u64::from(facts.time),
         late,
@@ -133,13 +130,7 @@ pub fn put_end<D: Desk>(
         first: first_end(facts),
         late: 0,
     };
-    match put_open_events(project, known, facts.events.as_slice(), pen, desk) {
-        Ok(()) => {}
-        Err(fault) => return Err(fault),
-    }
-    match put_open_changes(project, known, by_rules(facts), pen, desk) {
-        Ok(()) => {}
-        Err(fault) => return Err(fault),
-    }
+    put_open_events(project, known, facts.events.as_slice(), pen, desk)?;
+    put_open_changes(project, known, by_rules(facts), pen, desk)?;
     put_opened(project, facts, late, events, pen, desk)
 }

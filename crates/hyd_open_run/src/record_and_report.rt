@@ -56,10 +56,7 @@ fn put_lines<D: Desk>(
     ensures { Puts D.files D.rest D.written D.printed D.target D.ready D.counts D.openings
         (open_texts sim.now.project (lines_left sim.now)) result pen.old pen.new desk.old desk.new }
 {
-    match put_period_lines(sim, pen, desk) {
-        Ok(()) => {}
-        Err(fault) => return Err(fault),
-    }
+    put_period_lines(sim, pen, desk)?;
     signs.empty_when_due(pen, desk)
 }
 
@@ -81,10 +78,7 @@ pub(crate) fn put_period<D: Desk>(
         (moment certificate.new report.new
         (told D.files D.rest D.written D.printed D.target D.ready D.counts D.openings desk.new)) }
 {
-    match put_open_record(sim.found(), certificate, desk) {
-        Ok(()) => {}
-        Err(fault) => return Err(fault),
-    }
+    put_open_record(sim.found(), certificate, desk)?;
     put_lines(sim, signs, report, desk)
 }
 

@@ -40,10 +40,7 @@ fn put_run<D: Desk, F: Finder>(
 {
     // The record stands under the header of the network.
     let _project = sim.project();
-    match begin_run(sim.found(), certificate, report, desk) {
-        Ok(()) => {}
-        Err(fault) => return Err(fault),
-    }
+    begin_run(sim.found(), certificate, report, desk)?;
     match put_steps(sim, finder, certificate, report, desk) {
         Ok(end) => end_run(
             sim.project(),

@@ -34,10 +34,7 @@ fn put_front<D: Desk>(
         (moment certificate.new report.new
         (told D.files D.rest D.written D.printed D.target D.ready D.counts D.openings desk.new)) }
 {
-    match put_open_header(found, certificate, desk) {
-        Ok(()) => {}
-        Err(fault) => return Err(fault),
-    }
+    put_open_header(found, certificate, desk)?;
     put_first(report, desk)
 }
 

@@ -120,17 +120,14 @@ impl PeriodEnd {
         ensures room { HasRoom project.now self.new }
     {
         look(project, net, row, &mut self.readings, facts);
-        let seconds = match decide_end(
+        let seconds = decide_end(
             project,
             facts,
             &self.readings,
             &mut self.carried,
             &mut self.values,
             &mut self.commanded,
-        ) {
-            Ok(seconds) => seconds,
-            Err(found) => return Err(found),
-        };
+        )?;
         if let Err(found) = follow(project, facts, seconds, &mut self.next) {
             return Err(found);
         }

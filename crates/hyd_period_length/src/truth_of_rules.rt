@@ -117,10 +117,8 @@ pub fn decide_all(
     ensures each { length values.new ≡ length values.old }
 {
     for rule in 0..values.len() {
-        match value_of(project, rule as u32, low, high, flows, levels, links, time) {
-            Ok(value) => values[rule] = value,
-            Err(found) => return Err(found),
-        }
+        let value = value_of(project, rule as u32, low, high, flows, levels, links, time)?;
+        values[rule] = value;
     }
     Ok(())
 }

@@ -123,10 +123,7 @@ pub(crate) fn put_changes<D: Desk>(
         result pen.old pen.new desk.old desk.new }
 {
     for i in 0..changes.len() {
-        match put_change(project, time, &changes[i], pen, desk) {
-            Ok(()) => {}
-            Err(fault) => return Err(fault),
-        }
+        put_change(project, time, &changes[i], pen, desk)?;
     }
     Ok(())
 }

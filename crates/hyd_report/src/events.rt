@@ -79,10 +79,7 @@ pub(crate) fn put_events<D: Desk>(
         result pen.old pen.new desk.old desk.new }
 {
     for i in 0..events.len() {
-        match put_event(project, time, &events[i], pen, desk) {
-            Ok(()) => {}
-            Err(fault) => return Err(fault),
-        }
+        put_event(project, time, &events[i], pen, desk)?;
     }
     Ok(())
 }

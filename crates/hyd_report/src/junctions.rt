@@ -142,7 +142,7 @@ pub(crate) fn put_junctions<D: Desk>(
         result pen.old pen.new desk.old desk.new }
 {
     for j in 0..net.junctions() {
-        match put_junction(
+        put_junction(
             project,
             net,
             j,
@@ -150,10 +150,7 @@ pub(crate) fn put_junctions<D: Desk>(
             &upper[j as usize],
             pen,
             desk,
-        ) {
-            Ok(()) => {}
-            Err(fault) => return Err(fault),
-        }
+        )?;
     }
     Ok(())
 }

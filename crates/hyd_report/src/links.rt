@@ -140,10 +140,7 @@ pub(crate) fn put_links<D: Desk>(
         result pen.old pen.new desk.old desk.new }
 {
     for l in 0..net.links() {
-        match put_link(project, net, l, lower, upper, pen, desk) {
-            Ok(()) => {}
-            Err(fault) => return Err(fault),
-        }
+        put_link(project, net, l, lower, upper, pen, desk)?;
     }
     Ok(())
 }

@@ -72,13 +72,10 @@ pub fn put_refused<D: Desk>(
         result pen.old pen.new desk.old desk.new }
 {
     let period = number(u64::from(refused_period(cause)));
-    match put_pieces(
+    put_pieces(
         &[b"BADCERT period ".as_slice(), period.bytes(), b" "],
         pen,
         desk,
-    ) {
-        Ok(()) => {}
-        Err(fault) => return Err(fault),
-    }
+    )?;
     put_refusal(project, cause, pen, desk)
 }

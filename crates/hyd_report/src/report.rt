@@ -65,10 +65,7 @@ fn put_start<D: Desk>(
         result pen.old pen.new desk.old desk.new }
 {
     // A pen that has a fault answers it also where there are no lines.
-    match put_piece(b"", pen, desk) {
-        Ok(()) => {}
-        Err(fault) => return Err(fault),
-    }
+    put_piece(b"", pen, desk)?;
     put_changes(
         project,
         u64::from(facts.time),
@@ -100,10 +97,7 @@ fn put_end<D: Desk>(
         result pen.old pen.new desk.old desk.new }
 {
     let time = end_of(facts);
-    match put_events(project, time, facts.events.as_slice(), pen, desk) {
-        Ok(()) => {}
-        Err(fault) => return Err(fault),
-    }
+    put_events(project, time, facts.events.as_slice(), pen, desk)?;
     put_changes(project, time, by_rules(facts), pen, desk)
 }
 
@@ -130,17 +124,14 @@ fn put_tanks_and_links<D: Desk>(
         (heads_above (grid_of net.now) (row_of row.now)) (states_of net.now)) 0 project.now.links.list))
         result pen.old pen.new desk.old desk.new }
 {
-    match put_tanks(
+    put_tanks(
         project,
         facts.levels.as_slice(),
         facts.inflows.as_slice(),
         facts.tanks.as_slice(),
         pen,
         desk,
-    ) {
-        Ok(()) => {}
-        Err(fault) => return Err(fault),
-    }
+    )?;
     let lower = row.vector(Problem::Main, Side::Lower);
     let upper = row.vector(Problem::Main, Side::Upper);
     put_links(project, net, lower, upper, pen, desk)
@@ -167,18 +158,9 @@ fn put_state<D: Desk>(
 {
     let lower = row.vector(Problem::Main, Side::Lower);
     let upper = row.vector(Problem::Main, Side::Upper);
-    match put_time(facts.time, pen, desk) {
-        Ok(()) => {}
-        Err(fault) => return Err(fault),
-    }
-    match put_junctions(project, net, lower, upper, pen, desk) {
-        Ok(()) => {}
-        Err(fault) => return Err(fault),
-    }
-    match put_reservoirs(project, net, pen, desk) {
-        Ok(()) => {}
-        Err(fault) => return Err(fault),
-    }
+    put_time(facts.time, pen, desk)?;
+    put_junctions(project, net, lower, upper, pen, desk)?;
+    put_reservoirs(project, net, pen, desk)?;
     put_tanks_and_links(project, net, row, facts, pen, desk)
 }
 
@@ -237,13 +219,7 @@ pub fn put_report<D: Desk>(
         (texts project.now (lines_of project.now (grid_of net.now) (states_of net.now) (row_of row.now) facts.now))
         result pen.old pen.new desk.old desk.new }
 {
-    match put_start(project, facts, pen, desk) {
-        Ok(()) => {}
-        Err(fault) => return Err(fault),
-    }
-    match put_middle(project, net, row, facts, pen, desk) {
-        Ok(()) => {}
-        Err(fault) => return Err(fault),
-    }
+    put_start(project, facts, pen, desk)?;
+    put_middle(project, net, row, facts, pen, desk)?;
     put_end(project, facts, pen, desk)
 }

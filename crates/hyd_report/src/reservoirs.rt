@@ -105,10 +105,7 @@ pub(crate) fn put_reservoirs<D: Desk>(
 {
     let count = net.nodes() - net.junctions() - net.tanks();
     for r in 0..count {
-        match put_reservoir(project, net, r, pen, desk) {
-            Ok(()) => {}
-            Err(fault) => return Err(fault),
-        }
+        put_reservoir(project, net, r, pen, desk)?;
     }
     Ok(())
 }

@@ -64,14 +64,8 @@ pub(crate) fn put_failing<D: Desk>(
         ++ (codes " JUNCTION " ++ (node_id project.now junction ++ codes "\n"))))
         result pen.old pen.new desk.old desk.new }
 {
-    match put_piece(key, pen, desk) {
-        Ok(()) => {}
-        Err(fault) => return Err(fault),
-    }
-    match put_problem(project, problem, side, pen, desk) {
-        Ok(()) => {}
-        Err(fault) => return Err(fault),
-    }
+    put_piece(key, pen, desk)?;
+    put_problem(project, problem, side, pen, desk)?;
     put_pieces(
         &[
             b" JUNCTION ".as_slice(),
@@ -99,14 +93,8 @@ fn put_rounds<D: Desk>(
         ++ (codes " " ++ (decimal rounds ++ codes "\n"))))
         result pen.old pen.new desk.old desk.new }
 {
-    match put_piece(b"ROUNDS ", pen, desk) {
-        Ok(()) => {}
-        Err(fault) => return Err(fault),
-    }
-    match put_problem(project, problem, side, pen, desk) {
-        Ok(()) => {}
-        Err(fault) => return Err(fault),
-    }
+    put_piece(b"ROUNDS ", pen, desk)?;
+    put_problem(project, problem, side, pen, desk)?;
     let rounds = number(u64::from(rounds));
     put_pieces(&[b" ".as_slice(), rounds.bytes(), b"\n"], pen, desk)
 }
@@ -152,14 +140,11 @@ fn put_open_rule<D: Desk>(
         result pen.old pen.new desk.old desk.new }
 {
     let clause = number(u64::from(clause) + 1);
-    match put_pieces(
+    put_pieces(
         &[b"RULE ".as_slice(), rule_id(project, rule), b" CLAUSE "],
         pen,
         desk,
-    ) {
-        Ok(()) => {}
-        Err(fault) => return Err(fault),
-    }
+    )?;
     put_between(b"", clause.bytes(), lo, hi, pen, desk)
 }
 
@@ -310,7 +295,7 @@ pub fn put_stop<D: Desk>(
 {
     let period = number(u64::from(period_of(cause)));
     let time = clock(u64::from(time));
-    match put_pieces(
+    put_pieces(
         &[
             b"STOP period ".as_slice(),
             period.bytes(),
@@ -320,9 +305,6 @@ pub fn put_stop<D: Desk>(
         ],
         pen,
         desk,
-    ) {
-        Ok(()) => {}
-        Err(fault) => return Err(fault),
-    }
+    )?;
     put_cause(project, cause, pen, desk)
 }

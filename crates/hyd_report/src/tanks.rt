@@ -132,7 +132,7 @@ pub fn put_tanks<D: Desk>(
         result pen.old pen.new desk.old desk.new }
 {
     for k in 0..project.tanks.len() {
-        match put_tank(
+        put_tank(
             project,
             k as u32,
             &levels[k],
@@ -140,10 +140,7 @@ pub fn put_tanks<D: Desk>(
             &states[k],
             pen,
             desk,
-        ) {
-            Ok(()) => {}
-            Err(fault) => return Err(fault),
-        }
+        )?;
     }
     Ok(())
 }

@@ -47,10 +47,7 @@ pub(crate) fn put_front<D: Desk>(
         (moment certificate.new report.new
         (told D.files D.rest D.written D.printed D.target D.ready D.counts D.openings desk.new)) }
 {
-    match put_header(row, certificate, desk) {
-        Ok(()) => {}
-        Err(fault) => return Err(fault),
-    }
+    put_header(row, certificate, desk)?;
     put_first(report, desk)
 }
 
@@ -70,9 +67,6 @@ pub fn empty_both<D: Desk>(
     ensures certificate { OnOk result (certificate.new.held ≡ []) }
     ensures report { OnOk result (report.new.held ≡ []) }
 {
-    match empty(certificate, desk) {
-        Ok(()) => {}
-        Err(fault) => return Err(fault),
-    }
+    empty(certificate, desk)?;
     empty(report, desk)
 }

@@ -54,10 +54,7 @@ fn put_lines<D: Desk>(
         (texts project.now (lines_of project.now (grid_of net.now) (states_of net.now) (row_of row.now) facts.now))
         result pen.old pen.new desk.old desk.new }
 {
-    match put_report(project, net, row, facts, pen, desk) {
-        Ok(()) => {}
-        Err(fault) => return Err(fault),
-    }
+    put_report(project, net, row, facts, pen, desk)?;
     signs.empty_when_due(pen, desk)
 }
 
@@ -92,10 +89,7 @@ pub(crate) fn put_period<D: Desk>(
 {
     // Certificates are ordered where the net is steady.
     let _junctions = net.junctions();
-    match put_record(row, certificate, desk) {
-        Ok(()) => {}
-        Err(fault) => return Err(fault),
-    }
+    put_record(row, certificate, desk)?;
     put_lines(project, net, row, facts, signs, report, desk)
 }
 
@@ -132,10 +126,7 @@ fn write_end<D: Desk>(
         (end_line records finished) result pen.old pen.new desk.old desk.new }
     ensures empty { OnOk result (pen.new.held ≡ []) }
 {
-    match put_end(records, finished, pen, desk) {
-        Ok(()) => {}
-        Err(fault) => return Err(fault),
-    }
+    put_end(records, finished, pen, desk)?;
     empty(pen, desk)
 }
 
@@ -161,9 +152,6 @@ pub fn put_last<D: Desk>(
         (moment certificate.new report.new
         (told D.files D.rest D.written D.printed D.target D.ready D.counts D.openings desk.new)) }
 {
-    match write_end(records, is_finished(end), certificate, desk) {
-        Ok(()) => {}
-        Err(fault) => return Err(fault),
-    }
+    write_end(records, is_finished(end), certificate, desk)?;
     put_last_line(project, time, records, end, report, desk)
 }

@@ -60,10 +60,7 @@ fn put_lines<D: Desk>(
     let net = sim.net();
     let row = sim.row();
     let _junctions = net.junctions();
-    match put_report(project, net, row, sim.facts(), pen, desk) {
-        Ok(()) => {}
-        Err(fault) => return Err(fault),
-    }
+    put_report(project, net, row, sim.facts(), pen, desk)?;
     match put_flow_lines(project, net, row, part, pen, desk) {
         Ok(()) => signs.empty_when_due(pen, desk),
         Err(fault) => Err(fault),

@@ -97,7 +97,7 @@ pub(crate) fn put_steps<D: Desk, F: Finder>(
 {
     let mut signs = Signs::new(desk);
     loop {
-        match put_step(
+        if let Some(end) = put_step(
             sim,
             finder,
             search,
@@ -106,10 +106,8 @@ pub(crate) fn put_steps<D: Desk, F: Finder>(
             certificate,
             report,
             desk,
-        ) {
-            Ok(None) => {}
-            Ok(Some(end)) => return Ok(end),
-            Err(fault) => return Err(fault),
+        )? {
+            return Ok(end);
         }
     }
 }

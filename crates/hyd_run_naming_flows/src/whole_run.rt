@@ -113,10 +113,7 @@ fn put_run<D: Desk, F: Finder>(
 {
     // The record stands under the header of the network.
     let _project = sim.project();
-    match put_front(sim.row(), certificate, report, desk) {
-        Ok(()) => {}
-        Err(fault) => return Err(fault),
-    }
+    put_front(sim.row(), certificate, report, desk)?;
     match put_steps(sim, finder, search, part, certificate, report, desk) {
         Ok(end) => put_ending(sim, end, certificate, report, desk),
         Err(fault) => Err(fault),

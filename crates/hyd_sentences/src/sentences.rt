@@ -1305,13 +1305,13 @@ impl Display for Meaning<'_> {
             Meaning::Rounds { bounded, rounds } => {
                 write!(
                     f,
-                    "{rounds} rounds didn't find heads that bound the solutions {bounded}: give a greater --sweeps; with --tight, try it without. So it looks too where two junctions or more are cut off together, where a demand is more than the links carry, or where a tank has just become empty"
+                    "{rounds} rounds didn't find heads that bound the solutions {bounded}: give a greater --sweeps, or without --tight a greater --width; with --tight, try it without. So it looks too where two junctions or more are cut off together, where a demand is more than the links carry, or where a tank has just become empty"
                 )
             }
             Meaning::Demand { junction, demand } => {
                 write!(
                     f,
-                    "the demand of junction {} is {demand}, which is above 10^8 m3 a day in magnitude: look at its demands, their patterns and DEMAND MULTIPLIER",
+                    "the demand of junction {} is {demand} by the network, and this, or with --spread an end of its interval, is above 10^8 m3 a day in magnitude: look at its demands, their patterns and DEMAND MULTIPLIER, or at the row of FILE for it",
                     Name(junction)
                 )
             }
@@ -1324,7 +1324,7 @@ impl Display for Meaning<'_> {
 
 // What helps where it isn't decided when a period ends.
 const END_ADVICE: &str =
-    ": --slack 3600 goes on where an end is open by up to an hour; start from another level, or at another clock time; another level of a control does it too, by a millimetre. Where a pump stands before junctions without a demand, a small demand there (0.001) makes intervals narrower; --tight or a smaller --width may do so, and may not";
+    ": --slack 3600 goes on where an end is open by up to an hour; start from another level, or at another clock time; another level of a control does it too, by a millimetre. Where a pump stands before junctions without a demand, a small demand there (0.001) makes intervals narrower; --tight or a smaller --width may do so, and may not. With --spread the limits leave it open: take the instant you ask about alone, with the levels of tanks as LEVEL rows (docs/SPREADS.md), or narrower limits";
 
 /// What is said of a tank that lets no water out, or takes none.
 pub(crate) fn tank_at_bound(full: bool) -> &'static str {
@@ -1517,7 +1517,7 @@ fn write_grammar<W: fmt::Write>(line: u64, f: &mut Formatter<W>) -> fmt::Result 
 
 // What is said of a file that doesn't begin as a certificate.
 const NO_CERTIFICATE: &str =
-    "a certificate begins with a line HYDCERT and its counts, and this file doesn't. Either it is empty; or it is a report, which begins with HYD 1, or a network, where CERT should stand; or its lines end by a carriage return and a line feed, where a certificate has line feeds alone; or it is cut off there";
+    "a certificate begins with a line HYDCERT, a version that goes here and its counts, and this file doesn't. A check with --spread takes version 4 alone, which runs with --spread or --slack write, and a search for a witness takes versions 1 to 3. Or the file is empty; or it is a report, which begins with HYD 1, or a network, where CERT should stand; or its lines end by a carriage return and a line feed, where a certificate has line feeds alone; or it is cut off there";
 
 impl Display for FaultyLine {
     fn fmt<W: fmt::Write>(&self, f: &mut Formatter<W>) -> fmt::Result {

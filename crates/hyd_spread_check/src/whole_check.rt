@@ -44,10 +44,7 @@ fn put_check<D: Desk>(
     ensures settings { sim.new.settings ≡ sim.old.settings }
     ensures spread { sim.new.nets.spread ≡ sim.old.nets.spread }
 {
-    match begin_check(sim.project(), sim.nets().spread(), pen, desk) {
-        Ok(()) => {}
-        Err(fault) => return Err(fault),
-    }
+    begin_check(sim.project(), sim.nets().spread(), pen, desk)?;
     match take_records(sim, reader, row, pen, desk) {
         Ok(conclusion) => end_check(sim.project(), sim.number(), conclusion, pen, desk),
         Err(fault) => Err(fault),

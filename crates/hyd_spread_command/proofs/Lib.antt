@@ -1,4 +1,3 @@
-pub mod OpenedRuns
 pub mod PutOutRuns
 pub mod SpreadLemmas
 pub mod SpreadCheckLemmas

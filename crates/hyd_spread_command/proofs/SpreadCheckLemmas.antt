@@ -13,15 +13,16 @@ use Rattle.hyd_spec_check_ends.specs.declared.CheckEnd.{CheckEnd}
 use Rattle.hyd_spec_check_ends.specs.declared.CheckEnd.TheVariants.{Accepted, Refused}
 use Rattle.hyd_cert_check.specs.declared.outcome.CheckFault.{CheckFault}
 use Rattle.hyd_cert_check.specs.declared.outcome.CheckFault.TheVariants.{Read, Output}
-use Rattle.hyd_command_answers.specs.DeskContents.{Seen, OnlyPrinted, OnlyPrintedFront, OnlyPrintedSome}
+use Rattle.hyd_command_answers.specs.DeskContents.{Seen}
 use Rattle.hyd_command_answers.specs.declared.status.Status.{Status}
 use Rattle.hyd_command_answers.specs.declared.status.Status.TheVariants.{Done, OutOfMemory, Usage, ReadFault}
 use Rattle.hyd_command_answers.specs.declared.status.Status.TheVariants.{WriteFault}
 use Rattle.hyd_command_answers.specs.declared.status.Status.TheVariants.{InputRefused, Undecided, RoundsSpent, Demand}
 use Rattle.hyd_command_answers.specs.declared.status.Status.TheVariants.{CertificateRefused, Stalled}
 use Rattle.hyd_check_command.specs.CheckAnswers.{status_of_check, status_of_break, LeavesCheck, ReadsCert, ReadsBoth}
-use Rattle.hyd_spread_command.specs.RefusedSpreads.{AnswersSpreadRefused}
+use Rattle.hyd_spread_files.specs.RefusedSpreads.{AnswersSpreadRefused}
 use Rattle.hyd_spread_command.specs.SpreadChecks.{AnswersCertOver, LeavesCertOver, ReadsCertOver}
+use Rattle.hyd_spread_files.proofs.RefusalLemmas.{front_prints}
 
 -- ---- the end of a check
 
@@ -74,31 +75,6 @@ cert_reads CertificateRefused opened end h = h
 cert_reads Stalled opened end h = inr h
 
 -- ---- a spread that is refused
-
-line_prints : (line : List ℕ) (before now : Seen) → OnlyPrinted line before now → OnlyPrintedSome before now
-line_prints line before now h = record { files = h.files; written = h.written; text = line; printed = h.printed }
-
-front_prints : (line : List ℕ) (before now : Seen) → OnlyPrintedFront line before now → OnlyPrintedSome before now
-front_prints line before now h = record {
-  files = h.files;
-  written = h.written;
-  text = h.printed.1.front;
-  printed = h.printed.1.out;
-}
-
-pub refusal_prints : (line : ℕ) (cause : Cause) (status : Status) (before now : Seen)
-    → AnswersSpreadRefused line cause status before now → OnlyPrintedSome before now
-refusal_prints line cause Done before now h = absurd h
-refusal_prints line cause OutOfMemory before now h = absurd h
-refusal_prints line cause Usage before now h = absurd h
-refusal_prints line cause ReadFault before now h = absurd h
-refusal_prints line cause WriteFault before now h = front_prints _ before now h
-refusal_prints line cause InputRefused before now h = line_prints _ before now h
-refusal_prints line cause Undecided before now h = absurd h
-refusal_prints line cause RoundsSpent before now h = absurd h
-refusal_prints line cause Demand before now h = absurd h
-refusal_prints line cause CertificateRefused before now h = absurd h
-refusal_prints line cause Stalled before now h = front_prints _ before now h
 
 pub refusal_leaves_cert : (line : ℕ) (cause : Cause) (status : Status) (before now : Seen)
     → AnswersSpreadRefused line cause status before now → LeavesCertOver status before now

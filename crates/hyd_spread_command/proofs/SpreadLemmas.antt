@@ -11,7 +11,7 @@ use Rattle.hyd_command_answers.specs.declared.status.Status.TheVariants.{Done, O
 use Rattle.hyd_command_answers.specs.declared.status.Status.TheVariants.{WriteFault}
 use Rattle.hyd_command_answers.specs.declared.status.Status.TheVariants.{InputRefused, Undecided, RoundsSpent, Demand}
 use Rattle.hyd_command_answers.specs.declared.status.Status.TheVariants.{CertificateRefused, Stalled}
-use Rattle.hyd_spread_command.specs.RefusedSpreads.{AnswersSpreadRefused}
+use Rattle.hyd_spread_files.specs.RefusedSpreads.{AnswersSpreadRefused}
 use Rattle.hyd_spread_command.specs.SpreadAnswers.{CutShortOver, AnswersRunOver, AnswersWithin, LeavesRunOver}
 use Rattle.hyd_spread_command.specs.SpreadAnswers.{refuses, runs, lacks_memory}
 

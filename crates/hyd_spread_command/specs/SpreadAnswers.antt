@@ -13,7 +13,7 @@ use Rattle.hyd_command_answers.specs.declared.status.Status.TheVariants.{InputRe
 use Rattle.hyd_command_answers.specs.declared.status.Status.TheVariants.{Stalled, Usage}
 use Rattle.hyd_command_answers.specs.FaultsAndRefusals.{PrintsRefusal}
 use Rattle.hyd_command_answers.specs.DeskContents.{Seen, IsUntouched}
-use Rattle.hyd_spread_command.specs.RefusedSpreads.{GivesRun, RefusesSpread, PrintsSpreadRefusal}
+use Rattle.hyd_spread_files.specs.RefusedSpreads.{GivesRun, RefusesSpread, PrintsSpreadRefusal}
 
 -- ---- a network that is run
 

@@ -18,7 +18,7 @@ use Rattle.hyd_command_answers.specs.declared.status.Status.TheVariants.{Done, O
 use Rattle.hyd_command_answers.specs.declared.status.Status.TheVariants.{CertificateRefused, InputRefused, Stalled}
 use Rattle.hyd_command_answers.specs.declared.status.Status.TheVariants.{Usage}
 use Rattle.hyd_check_command.specs.CheckAnswers.{ReadsCert}
-use Rattle.hyd_spread_command.specs.RefusedSpreads.{GivesRun, RefusesSpread, PrintsSpreadRefusal}
+use Rattle.hyd_spread_files.specs.RefusedSpreads.{GivesRun, RefusesSpread, PrintsSpreadRefusal}
 
 -- What an answer says of the text of CERT, which is checked as that of a run of the network for the spread: it was
 -- accepted, and its report printed; or it was refused, the report up to its refusal printed, and it isn't the

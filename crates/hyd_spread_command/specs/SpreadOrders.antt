@@ -12,24 +12,15 @@ use Rattle.hyd_command_words.specs.CommandGrammar.{SpreadCheckOrder}
 use Rattle.hyd_command_answers.specs.DeskContents.{Seen, IsUntouched, OnlyPrintedSome}
 use Rattle.hyd_command_answers.specs.FaultsAndRefusals.{AnswersRefused, OfNetwork}
 use Rattle.hyd_command_answers.specs.declared.status.Status.{Status}
-use Rattle.hyd_command_answers.specs.declared.status.Status.TheVariants.{OutOfMemory, ReadFault, WriteFault}
-use Rattle.hyd_command_answers.specs.declared.status.Status.TheVariants.{InputRefused, Stalled}
+use Rattle.hyd_command_answers.specs.declared.status.Status.TheVariants.{InputRefused, OutOfMemory, ReadFault}
 use Rattle.hyd_check_command.specs.CheckAnswers.{AnswersCert, ReadsBoth}
 use Rattle.hyd_check_command.specs.OpenCheckAnswers.{AnswersOpenCert}
-use Rattle.hyd_spread_command.specs.RefusedSpreads.{PrintsSpreadRefusal}
-use Rattle.hyd_spread_command.specs.SpreadFiles.{IsNoSpread}
+use Rattle.hyd_spread_files.specs.RefusedSpreads.{PrintsSpreadRefusal}
+use Rattle.hyd_spread_files.specs.SpreadFiles.{IsNoSpread}
+use Rattle.hyd_spread_files.specs.NetsRead.{EndsAtNet}
 use Rattle.hyd_spread_command.specs.SpreadChecks.{AnswersCheckWithin}
 
 -- ---- files that are opened
-
--- The command ended when NET was read: no other file was opened or created.
-abbrev pub EndsAtNet : Status → Openings → Openings → Type 0
-EndsAtNet OutOfMemory before now = (now ≡ before) ⊎ (now ≡ with_opened before)
-EndsAtNet ReadFault before now = now ≡ with_opened before
-EndsAtNet WriteFault before now = now ≡ with_opened before
-EndsAtNet InputRefused before now = now ≡ with_opened before
-EndsAtNet Stalled before now = now ≡ with_opened before
-EndsAtNet status before now = ⊥
 
 -- How often a check for a spread opens NET, then the file of the spread, then CERT: each once at most.
 abbrev pub ReadsThree : Status → Openings → Openings → Type 0

@@ -11,8 +11,6 @@ ghost use Rattle.hyd_check_command.specs.CheckAnswers.{ReadsBoth};
 ghost use Rattle.hyd_spread_command.specs.SpreadChecks.{LeavesCertOver, LeavesCheckOver};
 ghost use Rattle.hyd_spread_command.specs.SpreadOrders.{AnswersSpreadCert, DoesSpreadCheck};
 
-use crate::refused_spread::refuse_spread;
-use crate::spread_file::{SpreadFile, read_spread_file};
 use crate::whole_check::check_within;
 use crate::whole_run::SpreadNames;
 use hyd_check_command::check_network;
@@ -20,6 +18,7 @@ use hyd_command_answers::{Status, Unread, read_network, refuse_text};
 use hyd_command_words::SpreadCheckWords;
 use hyd_io::Desk;
 use hyd_net::Project;
+use hyd_spread_files::{SpreadFile, read_spread_file, refuse_spread};
 use hyd_spread_rows::TEXT_TOO_LONG;
 use std::alloc::Global;
 

@@ -5,18 +5,13 @@
 #![tactic(auto)]
 
 mod check_command;
-mod nets_refused;
 mod opened_run;
-mod refused_spread;
 mod run_ends;
-mod sentence;
-mod spread_file;
 mod whole_check;
 mod whole_run;
 
 pub use check_command::check_for_spread;
 pub use hyd_check_command::check_files;
+pub use hyd_spread_files::{SpreadFile, read_spread_file, refuse_spread};
 pub use hyd_spread_rows::{SpreadFault, TEXT_TOO_LONG};
-pub use refused_spread::refuse_spread;
-pub use spread_file::{SpreadFile, read_spread_file};
 pub use whole_run::{SpreadNames, run_within};

@@ -6,11 +6,11 @@ ghost use Rattle.hyd_spec_open_spreads.specs.OpenRunsForSpreads.{open_standing_w
 ghost use Rattle.hyd_spec_spread_rows.specs.TextsOfSpreads.{spread_in};
 ghost use Rattle.hyd_spread_rows.specs.SpreadsRead.{IfFault};
 ghost use Rattle.hyd_spread_check.specs.PassedOn.{standing_of};
-ghost use Rattle.hyd_spread_command.specs.RefusedSpreads.{GivesRun, IsSpreadFault};
+ghost use Rattle.hyd_spread_files.specs.RefusedSpreads.{GivesRun, IsSpreadFault};
 
-use crate::nets_refused::nets_fault;
 use hyd_net::Project;
 use hyd_spread_check::{OpenSettings, SpreadSim};
+use hyd_spread_files::nets_fault;
 use hyd_spread_rows::SpreadRefused;
 use hyd_spread_start::read_start;
 use std::alloc::Global;

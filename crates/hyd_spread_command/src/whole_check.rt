@@ -19,7 +19,6 @@ ghost use Rattle.hyd_spread_command.specs.SpreadChecks.{LeavesCertOver};
 ghost use Rattle.hyd_check_command.specs.CheckAnswers.{LeavesCheck, ReadsCert};
 
 use crate::opened_run::open_run;
-use crate::refused_spread::refuse_spread;
 use crate::whole_run::SpreadNames;
 use hyd_check_command::{NO_OPEN_SEARCH, status_of_end, status_of_fault};
 use hyd_command_answers::Status;
@@ -27,6 +26,7 @@ use hyd_io::{Channel, Desk, Pen};
 use hyd_net::{OutOfMemory, Project};
 use hyd_open_certificates::{OpenCertReader, OpenRow};
 use hyd_spread_check::{SpreadSim, check_over};
+use hyd_spread_files::refuse_spread;
 use hyd_spread_rows::SpreadRefused;
 use std::alloc::Global;
 

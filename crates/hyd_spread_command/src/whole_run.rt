@@ -12,7 +12,6 @@ ghost use Rattle.hyd_command_answers.specs.OpeningsOfRuns.{OpensCert};
 ghost use Rattle.hyd_spread_command.specs.SpreadAnswers.{AnswersRunOver, AnswersWithin};
 
 use crate::opened_run::open_run;
-use crate::refused_spread::refuse_spread;
 use crate::run_ends::say_end;
 use hyd_command_answers::{Status, fault_status};
 use hyd_finders::{Finder, Gradient};
@@ -21,6 +20,7 @@ use hyd_naming_command::status_of_end;
 use hyd_net::{OutOfMemory, Project};
 use hyd_spec_certificates::Side;
 use hyd_spread_check::{OpenSettings, SpreadSim, run_over};
+use hyd_spread_files::refuse_spread;
 use hyd_spread_networks::SpreadNets;
 use hyd_spread_rows::SpreadRefused;
 use std::alloc::Global;

@@ -9,6 +9,7 @@ use Rattle.hyd_spec_certificates.specs.declared.Side.{Side}
 use Rattle.hyd_spec_certificates.specs.declared.Side.TheVariants.{Upper, Lower}
 use Rattle.hyd_spec_certificates.specs.declared.LevelSpan.{LevelSpan}
 use Rattle.hyd_spec_certificates.specs.SpansAsIntervals.{levels_of}
+use Rattle.hyd_spec_certificates.specs.Interval.{Interval}
 use Rattle.hyd_spec_certificates.specs.PeriodNetwork.{end_on}
 use Rattle.hyd_spec_certificates.specs.RecordAndStanding.{Standing}
 use Rattle.hyd_spec_certificates.specs.Decided.{links_at}
@@ -97,21 +98,8 @@ pub nets_stay : (project : Project) (old new : SpreadNetsView) → AreNetsOf pro
 nets_stay project old new of same upper lower first second = are_nets project new upper lower
     (rw (same, first) (of.emitters Upper)) (rw (same, second) (of.emitters Lower)) (rw same of.heads)
 
--- both of them are the pair of a standing
-pub pair_at : (project : Project) (nets : SpreadNetsView) (time : ℕ) (levels : List LevelSpan)
-    (tanks : List TankState) (links : List LinkState) (standing : Standing)
-    → IsStandingOf project time links (map levels_of levels) tanks standing
-    → IsOutermostGrid project nets.spread Upper time (map levels_of levels) tanks links (grid_of nets.upper)
-    → IsOutermostGrid project nets.spread Lower time (map levels_of levels) tanks links (grid_of nets.lower)
-    → ArePairAt project nets.spread standing (pair_of nets)
-pair_at project nets time levels tanks links standing is upper lower =
-    both (λ (side : Side). IsOutermostGrid project nets.spread side standing.time standing.levels standing.tanks
-    (links_at project standing) (grid_on side (pair_of nets)))
-    (rw (is.links_are, is.time_is, is.levels_are, is.tanks_are) upper)
-    (rw (is.links_are, is.time_is, is.levels_are, is.tanks_are) lower)
-
--- nets that were put into a period, each with the ends of its side, are the pair of each standing at which it begins
-pub pair_put : (project : Project) (nets : SpreadNetsView) (time : ℕ) (least greatest lowest highest : List ℤ)
+-- nets that were put into a period, each with the ends of its side, are the outermost grids of it
+pub grids_put : (project : Project) (nets : SpreadNetsView) (time : ℕ) (least greatest lowest highest : List ℤ)
     (levels : List LevelSpan) (tanks : List TankState) (links : List LinkState) → AreNetsOf project nets
     → IsPutWith project least highest levels tanks links nets.upper
     → IsPutWith project greatest lowest levels tanks links nets.lower
@@ -119,11 +107,24 @@ pub pair_put : (project : Project) (nets : SpreadNetsView) (time : ℕ) (least g
     → greatest ≡ map (outermost_demand Lower) (known_junctions project nets.spread time)
     → lowest ≡ map (end_on Lower) (known_heads project nets.spread time)
     → highest ≡ map (end_on Upper) (known_heads project nets.spread time)
-    → (standing : Standing) → IsStandingOf project time links (map levels_of levels) tanks standing
-    → ArePairAt project nets.spread standing (pair_of nets)
-pair_put project nets time least greatest lowest highest levels tanks links of up down ls gs ws hs standing is =
-    pair_at project nets time levels tanks links standing is
+    → (side : Side) → IsOutermostGrid project nets.spread side time (map levels_of levels) tanks links
+    (grid_of (net_on side nets))
+grids_put project nets time least greatest lowest highest levels tanks links of up down ls gs ws hs =
+    both (λ (side : Side). IsOutermostGrid project nets.spread side time (map levels_of levels) tanks links
+    (grid_of (net_on side nets)))
     (outermost_grid project nets.spread Upper time least highest levels tanks links nets.upper (of.each Upper)
     (of.emitters Upper) up ls hs)
     (outermost_grid project nets.spread Lower time greatest lowest levels tanks links nets.lower (of.each Lower)
     (of.emitters Lower) down gs ws)
+
+-- so they are the pair of each standing at which it begins
+pub pair_at : (project : Project) (spread : Spread) (nets : SpreadNetsView) (time : ℕ) (levels : List Interval)
+    (tanks : List TankState) (links : List LinkState)
+    → ((side : Side) → IsOutermostGrid project spread side time levels tanks links (grid_of (net_on side nets)))
+    → (standing : Standing) → IsStandingOf project time links levels tanks standing
+    → ArePairAt project spread standing (pair_of nets)
+pair_at project spread nets time levels tanks links grids standing is =
+    both (λ (side : Side). IsOutermostGrid project spread side standing.time standing.levels standing.tanks
+    (links_at project standing) (grid_on side (pair_of nets)))
+    (rw (is.links_are, is.time_is, is.levels_are, is.tanks_are) (grids Upper))
+    (rw (is.links_are, is.time_is, is.levels_are, is.tanks_are) (grids Lower))

@@ -4,13 +4,13 @@
 ghost use Rattle.std.specs.Prelude.{◌≡◌, length, map, IfErr, OnOk, OnErr};
 ghost use Rattle.hyd_net.specs.Sound.{IsSound};
 ghost use Rattle.hyd_spec_certificates.specs.SpansAsIntervals.{levels_of};
-ghost use Rattle.hyd_spec_certificates.specs.RecordAndStanding.{Standing};
 ghost use Rattle.hyd_spec_certificates.specs.declared.Side.{Side};
-ghost use Rattle.hyd_spec_spread_runs.specs.RunsForSpreads.{AreDemandsInRange, ArePairAt};
+ghost use Rattle.hyd_spec_spread.specs.OutermostGrids.{IsOutermostGrid};
+ghost use Rattle.hyd_spec_spread_runs.specs.RunsForSpreads.{AreDemandsInRange};
 ghost use Rattle.hyd_period_network.specs.LawsInSettings.{AreStates};
-ghost use Rattle.hyd_period_network.specs.NetAsPeriodNetwork.{states_of, own_laws};
+ghost use Rattle.hyd_period_network.specs.NetAsPeriodNetwork.{grid_of, states_of, own_laws};
 ghost use Rattle.hyd_period_network.specs.NetsSetToPeriods.{AreLevels, AreShut, own_laws_of};
-ghost use Rattle.hyd_spread_networks.specs.NetsOfSpreads.{AreNetsOf, pair_of, net_on, IsStandingOf};
+ghost use Rattle.hyd_spread_networks.specs.NetsOfSpreads.{AreNetsOf, net_on};
 ghost use Rattle.hyd_spec_spread_stops.specs.StopsOfSpreads.{IsFirstDemandOver};
 
 use crate::demands::put_demands;
@@ -42,9 +42,8 @@ impl SpreadNets {
         requires tanks { length tanks.now ≡ length project.now.tanks.list }
         ensures stays { AreNetsOf project.now self.new }
         ensures spread { self.new.spread ≡ self.old.spread }
-        ensures pair { OnOk result ((standing : Standing)
-            → IsStandingOf project.now time links.now (map levels_of levels.now) tanks.now standing
-            → ArePairAt project.now self.old.spread standing (pair_of self.new)) }
+        ensures grids { OnOk result ((side : Side) → IsOutermostGrid project.now self.old.spread side time
+            (map levels_of levels.now) tanks.now links.now (grid_of (net_on side self.new))) }
         ensures states { OnOk result ((side : Side) → states_of (net_on side self.new) ≡ links.now) }
         ensures own { OnOk result ((side : Side) → own_laws (net_on side self.new)
             ≡ own_laws_of project.now project.now.links.list links.now) }

@@ -81,7 +81,7 @@ pub(crate) fn put_junctions<D: Desk>(
 {
     let _below = lower.junctions();
     for j in 0..upper.junctions() {
-        match put_junction(
+        put_junction(
             project,
             upper,
             lower,
@@ -90,10 +90,7 @@ pub(crate) fn put_junctions<D: Desk>(
             &high[j as usize],
             pen,
             desk,
-        ) {
-            Ok(()) => {}
-            Err(fault) => return Err(fault),
-        }
+        )?;
     }
     Ok(())
 }

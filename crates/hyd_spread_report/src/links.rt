@@ -82,10 +82,7 @@ pub(crate) fn put_links<D: Desk>(
         result pen.old pen.new desk.old desk.new }
 {
     for l in 0..upper.links() {
-        match put_link(project, upper, lower, l, low, high, pen, desk) {
-            Ok(()) => {}
-            Err(fault) => return Err(fault),
-        }
+        put_link(project, upper, lower, l, low, high, pen, desk)?;
     }
     Ok(())
 }

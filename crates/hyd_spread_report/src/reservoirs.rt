@@ -69,10 +69,7 @@ pub(crate) fn put_reservoirs<D: Desk>(
 {
     let count = upper.nodes() - upper.junctions() - upper.tanks();
     for r in 0..count {
-        match put_reservoir(project, upper, lower, r, pen, desk) {
-            Ok(()) => {}
-            Err(fault) => return Err(fault),
-        }
+        put_reservoir(project, upper, lower, r, pen, desk)?;
     }
     Ok(())
 }

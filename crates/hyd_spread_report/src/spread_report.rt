@@ -98,13 +98,7 @@ pub fn put_spread_report<D: Desk>(
         events.now))
         result pen.old pen.new desk.old desk.new }
 {
-    match put_start(project, facts, late.start, pen, desk) {
-        Ok(()) => {}
-        Err(fault) => return Err(fault),
-    }
-    match put_told(project, nets, row, facts, late.start, pen, desk) {
-        Ok(()) => {}
-        Err(fault) => return Err(fault),
-    }
+    put_start(project, facts, late.start, pen, desk)?;
+    put_told(project, nets, row, facts, late.start, pen, desk)?;
     put_end(project, facts, late.end, events, pen, desk)
 }

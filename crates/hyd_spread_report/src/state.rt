@@ -49,17 +49,14 @@ fn put_tanks_and_links<D: Desk>(
         ++ link_lines_over project.now (pair_of upper.now lower.now) (states_of upper.now) (row_of row.now)))
         result pen.old pen.new desk.old desk.new }
 {
-    match put_tanks(
+    put_tanks(
         project,
         facts.levels.as_slice(),
         facts.inflows.as_slice(),
         facts.tanks.as_slice(),
         pen,
         desk,
-    ) {
-        Ok(()) => {}
-        Err(fault) => return Err(fault),
-    }
+    )?;
     let low = row.vector(Problem::Main, Side::Lower);
     let high = row.vector(Problem::Main, Side::Upper);
     put_links(project, upper, lower, low, high, pen, desk)
@@ -91,18 +88,9 @@ fn put_state<D: Desk>(
     let _below = lower.junctions();
     let low = row.vector(Problem::Main, Side::Lower);
     let high = row.vector(Problem::Main, Side::Upper);
-    match put_time(facts.time, pen, desk) {
-        Ok(()) => {}
-        Err(fault) => return Err(fault),
-    }
-    match put_junctions(project, upper, lower, low, high, pen, desk) {
-        Ok(()) => {}
-        Err(fault) => return Err(fault),
-    }
-    match put_reservoirs(project, upper, lower, pen, desk) {
-        Ok(()) => {}
-        Err(fault) => return Err(fault),
-    }
+    put_time(facts.time, pen, desk)?;
+    put_junctions(project, upper, lower, low, high, pen, desk)?;
+    put_reservoirs(project, upper, lower, pen, desk)?;
     put_tanks_and_links(project, upper, lower, row, facts, pen, desk)
 }
 

@@ -87,10 +87,8 @@ pub(crate) fn put_steps<D: Desk, F: Finder, G: Finder>(
 {
     let mut signs = OpenSigns::new(desk);
     loop {
-        match put_step(sim, above, below, &mut signs, certificate, report, desk) {
-            Ok(None) => {}
-            Ok(Some(end)) => return Ok(end),
-            Err(fault) => return Err(fault),
+        if let Some(end) = put_step(sim, above, below, &mut signs, certificate, report, desk)? {
+            return Ok(end);
         }
     }
 }

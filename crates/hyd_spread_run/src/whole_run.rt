@@ -47,10 +47,7 @@ fn put_run<D: Desk, F: Finder, G: Finder>(
     // The record stands under the header of the network, and the spread leaves no doubt at the start.
     let project = sim.project();
     let rows = sim.nets().spread();
-    match begin_run(project, rows, sim.found(), certificate, report, desk) {
-        Ok(()) => {}
-        Err(fault) => return Err(fault),
-    }
+    begin_run(project, rows, sim.found(), certificate, report, desk)?;
     match put_steps(sim, above, below, certificate, report, desk) {
         Ok(end) => end_run(
             sim.project(),

@@ -39,10 +39,7 @@ pub fn put_first_lines<D: Desk>(
     ensures { Puts D.files D.rest D.written D.printed D.target D.ready D.counts D.openings
         (first_line ++ second_line project.now (spread_of rows.now)) result pen.old pen.new desk.old desk.new }
 {
-    match put_first(pen, desk) {
-        Ok(()) => {}
-        Err(fault) => return Err(fault),
-    }
+    put_first(pen, desk)?;
     put_second_line(project, rows, pen, desk)
 }
 
@@ -65,10 +62,7 @@ fn put_front<D: Desk>(
         (moment certificate.new report.new
         (told D.files D.rest D.written D.printed D.target D.ready D.counts D.openings desk.new)) }
 {
-    match put_open_header(found, certificate, desk) {
-        Ok(()) => {}
-        Err(fault) => return Err(fault),
-    }
+    put_open_header(found, certificate, desk)?;
     put_first_lines(project, rows, report, desk)
 }
 

@@ -27,7 +27,7 @@ fn runs_behind_name(alloc: Global, text: &[u8], expected: &[u8]) -> Result<bool,
 
 /// What is printed where words are no command.
 const USAGE: &str =
-    "USAGE hyd run NET CERT [--sweeps N] [--width W] [--tight] [--flows IDS] [--slack N] [--spread FILE] or check NET CERT [--spread FILE] or gen SEED JUNCTIONS NET CERT or fire NET J P [--sweeps N] or closures NET P [--sweeps N] or witness NET CERT OUT or meet NET FILE\n";
+    "USAGE hyd run NET CERT [--sweeps N] [--width W] [--tight] [--flows IDS] [--slack N] [--spread FILE] or check NET CERT [--spread FILE] or gen SEED JUNCTIONS NET CERT or fire NET J P [--sweeps N] [--spread FILE] or closures NET P [--sweeps N] [--spread FILE] or witness NET CERT OUT or meet NET FILE\n";
 
 /// Whether words that failed as a whole are those of no command.
 fn fail_as_usage(alloc: Global) -> bool {

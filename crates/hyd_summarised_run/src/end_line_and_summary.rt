@@ -38,10 +38,7 @@ fn close_certificate<D: Desk>(
         (told D.files D.rest D.written D.printed D.target D.ready D.counts D.openings desk.new)) }
     ensures empty { OnOk result (certificate.new.held ≡ []) }
 {
-    match put_end(records, finished, certificate, desk) {
-        Ok(()) => {}
-        Err(fault) => return Err(fault),
-    }
+    put_end(records, finished, certificate, desk)?;
     empty(certificate, desk)
 }
 
@@ -71,14 +68,8 @@ fn print_summary<D: Desk>(
         periods: records,
         events: ended.events,
     };
-    match put_counts(counts, report, desk) {
-        Ok(()) => {}
-        Err(fault) => return Err(fault),
-    }
-    match put_last_line(project, time, records, ended.end, report, desk) {
-        Ok(()) => {}
-        Err(fault) => return Err(fault),
-    }
+    put_counts(counts, report, desk)?;
+    put_last_line(project, time, records, ended.end, report, desk)?;
     empty(report, desk)
 }
 
@@ -104,10 +95,7 @@ pub(crate) fn put_ending<D: Desk>(
     ensures report { OnOk result (report.new.held ≡ []) }
 {
     let records = sim.number();
-    match close_certificate(records, is_finished(ended.end), certificate, desk) {
-        Ok(()) => {}
-        Err(fault) => return Err(fault),
-    }
+    close_certificate(records, is_finished(ended.end), certificate, desk)?;
     match print_summary(sim.project(), sim.time(), records, ended, report, desk) {
         Ok(()) => Ok(ended.end),
         Err(fault) => Err(fault),

@@ -92,13 +92,12 @@ pub(crate) fn put_steps<D: Desk, F: Finder>(
 {
     let mut events = 0;
     loop {
-        match put_step(sim, finder, certificate, desk) {
-            Ok(Turn::Period(more)) => {
+        match put_step(sim, finder, certificate, desk)? {
+            Turn::Period(more) => {
                 is_count(more);
                 events += more as u128;
             }
-            Ok(Turn::Over(end)) => return Ok(Ended { end, events }),
-            Err(fault) => return Err(fault),
+            Turn::Over(end) => return Ok(Ended { end, events }),
         }
     }
 }

@@ -18,10 +18,7 @@ fn put_counted<D: Desk>(
     ensures { Puts D.files D.rest D.written D.printed D.target D.ready D.counts D.openings
         (text.now ++ decimal number) result pen.old pen.new desk.old desk.new }
 {
-    match pen.put(desk, text) {
-        Ok(()) => {}
-        Err(fault) => return Err(fault),
-    }
+    pen.put(desk, text)?;
     put_number(number, pen, desk)
 }
 
@@ -38,10 +35,7 @@ fn put_two_counted<D: Desk>(
     ensures { Puts D.files D.rest D.written D.printed D.target D.ready D.counts D.openings
         ((first.now ++ decimal one) ++ (second.now ++ decimal other)) result pen.old pen.new desk.old desk.new }
 {
-    match put_counted(first, one, pen, desk) {
-        Ok(()) => {}
-        Err(fault) => return Err(fault),
-    }
+    put_counted(first, one, pen, desk)?;
     put_counted(second, other, pen, desk)
 }
 
@@ -57,17 +51,14 @@ fn put_run_counts<D: Desk>(
         (((codes " periods " ++ decimal periods) ++ (codes " events " ++ decimal events)) ++ codes "\n")
         result pen.old pen.new desk.old desk.new }
 {
-    match put_two_counted(
+    put_two_counted(
         b" periods ",
         u128::from(periods),
         b" events ",
         events,
         pen,
         desk,
-    ) {
-        Ok(()) => {}
-        Err(fault) => return Err(fault),
-    }
+    )?;
     pen.put(desk, b"\n")
 }
 
@@ -91,16 +82,13 @@ pub(crate) fn put_counts<D: Desk>(
         (summary_line counts.junctions counts.links counts.periods counts.events)
         result pen.old pen.new desk.old desk.new }
 {
-    match put_two_counted(
+    put_two_counted(
         b"SUMMARY junctions ",
         counts.junctions as u128,
         b" links ",
         counts.links as u128,
         pen,
         desk,
-    ) {
-        Ok(()) => {}
-        Err(fault) => return Err(fault),
-    }
+    )?;
     put_run_counts(counts.periods, counts.events, pen, desk)
 }

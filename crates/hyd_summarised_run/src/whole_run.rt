@@ -40,10 +40,7 @@ fn put_run<D: Desk, F: Finder>(
 {
     // The record stands under the header of the network.
     let _project = sim.project();
-    match put_header(sim.row(), certificate, desk) {
-        Ok(()) => {}
-        Err(fault) => return Err(fault),
-    }
+    put_header(sim.row(), certificate, desk)?;
     match put_steps(sim, finder, certificate, desk) {
         Ok(ended) => put_ending(sim, ended, certificate, report, desk),
         Err(fault) => Err(fault),

@@ -66,10 +66,10 @@ front_prints line before now h = record {
   printed = h.printed.1.out;
 }
 
-some_prints : (P : List ℕ → Type 0) (before now : Seen) → Prints P before now → OnlyPrintedSome before now
+pub some_prints : (P : List ℕ → Type 0) (before now : Seen) → Prints P before now → OnlyPrintedSome before now
 some_prints P before now h = line_prints h.text before now h.only
 
-some_front_prints : (P : List ℕ → Type 0) (before now : Seen) → PrintsFront P before now → OnlyPrintedSome before now
+pub some_front_prints : (P : List ℕ → Type 0) (before now : Seen) → PrintsFront P before now → OnlyPrintedSome before now
 some_front_prints P before now h = front_prints h.text before now h.only
 
 -- ---- statuses that a command has once NET was read

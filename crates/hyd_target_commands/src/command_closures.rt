@@ -46,10 +46,7 @@ fn print_closures<D: Desk>(
     ensures openings_stay { D.openings desk.new ≡ D.openings desk.old }
 {
     let mut pen = Pen::new(Channel::Report);
-    match put_closures(project, inquiry, rounds, &mut pen, desk) {
-        Ok(()) => {}
-        Err(fault) => return Err(fault),
-    }
+    put_closures(project, inquiry, rounds, &mut pen, desk)?;
     pen.flush(desk)
 }
 
@@ -113,8 +110,13 @@ fn closures_of<D: Desk>(
     }
 }
 
-/// The same of a network that isn't needed any more.
-fn closures_in<D: Desk>(
+/// Shuts each pipe of a network that was read, which isn't needed any more, and prints the lines of the closures; or
+/// stops at a demand out of range.
+///
+/// - `Done`, `Demand`: which of these were printed.
+/// - `OutOfMemory`: nothing was printed.
+/// - `WriteFault`, `Stalled`: a call on the desk failed or took nothing.
+pub fn closures_in<D: Desk>(
     alloc: Global,
     project: Project,
     words: &ClosuresWords<'_>,

@@ -20,13 +20,12 @@ ghost use Rattle.hyd_target_commands.specs.PrintedTexts.{Prints, PrintsFront};
 ghost use Rattle.hyd_target_commands.specs.BracketAnswers.{AnswersFire, AnswersFireText, target_in};
 ghost use Rattle.hyd_target_commands.specs.CommandsOnTargets.{LeavesNet, OpensNet};
 
-use crate::junction_names::junction_named;
+use crate::junction_names::{junction_named, refuse_name};
 use crate::printed_demand::stop_by_demand;
 use hyd_command_answers::{Status, Unread, fault_status, read_network, refuse_text};
 use hyd_command_words::FireWords;
 use hyd_io::{Channel, Desk, OutFault, Pen};
-use hyd_net::{Cause, Project};
-use hyd_sentences::NoJunction;
+use hyd_net::Project;
 use hyd_targets::{Inquiry, put_bracket};
 use std::alloc::Global;
 
@@ -53,10 +52,7 @@ fn print_bracket<D: Desk>(
     ensures openings_stay { D.openings desk.new ≡ D.openings desk.old }
 {
     let mut pen = Pen::new(Channel::Report);
-    match put_bracket(project, inquiry, junction, rounds, &mut pen, desk) {
-        Ok(()) => {}
-        Err(fault) => return Err(fault),
-    }
+    put_bracket(project, inquiry, junction, rounds, &mut pen, desk)?;
     pen.flush(desk)
 }
 
@@ -146,18 +142,17 @@ fn bracket_of_name<D: Desk>(
 {
     match junction_named(project, words.junction) {
         Some(junction) => bracket_at(alloc, project, junction, words, desk),
-        None => {
-            desk.say(&NoJunction {
-                file: words.net,
-                name: words.junction,
-            });
-            refuse_text(0, Cause::UnknownName, desk)
-        }
+        None => refuse_name(words, desk),
     }
 }
 
-/// The same of a network that isn't needed any more.
-fn bracket_in<D: Desk>(
+/// Finds the bracket of a junction of a network that was read, which isn't needed any more, and prints its line; or
+/// refuses the junction's name, or stops at a demand out of range.
+///
+/// - `Done`, `InputRefused`, `Demand`: which of these lines was printed.
+/// - `OutOfMemory`: nothing was printed.
+/// - `WriteFault`, `Stalled`: a call on the desk failed or took nothing.
+pub fn bracket_in<D: Desk>(
     alloc: Global,
     project: Project,
     words: &FireWords<'_>,

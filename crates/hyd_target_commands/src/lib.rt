@@ -9,5 +9,7 @@ mod command_fire;
 mod junction_names;
 mod printed_demand;
 
-pub use command_closures::close_pipes;
-pub use command_fire::find_bracket;
+pub use command_closures::{close_pipes, closures_in};
+pub use command_fire::{bracket_in, find_bracket};
+pub use junction_names::{junction_named, refuse_name};
+pub use printed_demand::{print_demand, say_demand};

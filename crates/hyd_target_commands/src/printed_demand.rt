@@ -31,8 +31,8 @@ fn demand_cause(demand: PeriodDemand) -> StopCause
     }
 }
 
-/// Prints the line of a demand out of range in the first period.
-fn print_demand<D: Desk>(
+/// Prints the line of a demand out of range in the first period. Its faults are those of `Pen::put` and `Pen::flush`.
+pub fn print_demand<D: Desk>(
     project: &Project,
     demand: PeriodDemand,
     desk: &mut D,
@@ -50,15 +50,12 @@ fn print_demand<D: Desk>(
 {
     let cause = demand_cause(demand);
     let mut pen = Pen::new(Channel::Report);
-    match put_stop(project, 0, &cause, &mut pen, desk) {
-        Ok(()) => {}
-        Err(fault) => return Err(fault),
-    }
+    put_stop(project, 0, &cause, &mut pen, desk)?;
     pen.flush(desk)
 }
 
-// Says what a demand out of range in the first period means.
-fn say_demand<D: Desk>(project: &Project, demand: PeriodDemand, desk: &D)
+/// Says to a person what a demand out of range in the first period means.
+pub fn say_demand<D: Desk>(project: &Project, demand: PeriodDemand, desk: &D)
     requires { IsSound project.now }
 {
     desk.say(&Stopped {

@@ -27,15 +27,9 @@ pub(crate) fn put_pieces<D: Desk>(
         (joined (map (λ piece. piece.now) pieces.now)) result pen.old pen.new desk.old desk.new }
 {
     // A pen that has a fault answers it also where there are no pieces.
-    match put_piece(b"", pen, desk) {
-        Ok(()) => {}
-        Err(fault) => return Err(fault),
-    }
+    put_piece(b"", pen, desk)?;
     for piece in pieces {
-        match put_piece(piece, pen, desk) {
-            Ok(()) => {}
-            Err(fault) => return Err(fault),
-        }
+        put_piece(piece, pen, desk)?;
     }
     Ok(())
 }

@@ -17,6 +17,9 @@ use Rattle.hyd_spec_pressure_targets.specs.FirstPeriod.{IsFirstGridWithShut}
 use Rattle.hyd_spec_pressure_targets.specs.TargetHeads.{target_low, target_high}
 use Rattle.hyd_spec_pressure_targets.specs.ClosureWords.{IsWord}
 use Rattle.hyd_spec_pressure_targets.specs.PromisesOfTargets.{Closure, IsClosure, FindsClosures}
+use Rattle.hyd_spec_spread_runs.specs.OutermostPairs.{Pair}
+use Rattle.hyd_spec_spread_targets.specs.WordsOverPairs.{IsWordOver}
+use Rattle.hyd_spec_spread_targets.proofs.OneGridOnBothSides.{both, word-alone}
 use Rattle.hyd_theorems_on_pressure_targets.proofs.WordsHold.{word-holds}
 use Rattle.hyd_fire.proofs.WordsBySides.{left-word}
 use Rattle.hyd_fire.specs.SidesOfClosures.{IsLeft}
@@ -175,11 +178,29 @@ target-item project target targets is j here at =
     let f = item_is targets j there.0 there.0 there.1 in
     there.1 ∙ ap (λ (t : LevelSpan). Some t) (sym f ∙ e)
 
--- what a closure left is a closure with its words
+-- the words that a closure left are those for its grids
+pub words-left : (project : Project) (target : Rational) (rounds : ℕ) (pair : Pair)
+    → length pair.upper.junctions ≡ length project.junctions.list
+    → length pair.lower.junctions ≡ length project.junctions.list
+    → (left : StudyView) (sides : Sides) (targets : List LevelSpan)
+    → targets ≡ map (target_of target) project.junctions.list → IsLeft pair rounds targets left sides
+    → (j : ℕ) (junction : Junction) (word : ClosureWord) → slice_get project.junctions.list j ≡ Some junction
+    → slice_get (words_by left sides targets) j ≡ Some word
+    → IsWordOver pair rounds j (target_low junction.elevation target) (target_high junction.elevation target) word
+words-left project target rounds pair above below left sides targets is-targets is j junction word at there =
+    let within = slice_get_within project.junctions.list j junction at in
+    let item = target-item project target targets is-targets j junction at in
+    let e = word-there left sides targets j (target_of target junction) word item there in
+    subst (λ (w : ClosureWord). IsWordOver pair rounds j (target_low junction.elevation target)
+    (target_high junction.elevation target) w) (sym e)
+    (left-word pair rounds j (target_of target junction) left (omega (arith, within, above))
+    (omega (arith, within, below)) targets sides is item)
+
+-- what a closure left of one grid is a closure with its words
 pub closure-is : (project : Project) → IsSound project → (target : Rational) → 0 < target.den → (rounds pipe : ℕ)
     (grid : Grid) → IsFirstGridWithShut project pipe grid → length grid.junctions ≡ length project.junctions.list
     → (left : StudyView) (sides : Sides) (targets : List LevelSpan)
-    → targets ≡ map (target_of target) project.junctions.list → IsLeft grid rounds targets left sides
+    → targets ≡ map (target_of target) project.junctions.list → IsLeft (both grid) rounds targets left sides
     → IsClosure project target rounds pipe
     (record { pipe = pipe; grid = grid; words = words_by left sides targets })
 closure-is project sound target some rounds pipe grid is-grid long left sides targets is-targets is = record {
@@ -187,7 +208,7 @@ closure-is project sound target some rounds pipe grid is-grid long left sides ta
   is_grid = is-grid;
   one_each = as_long (λ j target. word_by left sides j target) 0 targets
       ∙ (ap length is-targets ∙ length-map project.junctions.list (target_of target));
-  words = λ j junction word at there. own j junction word at there;
+  words = own;
   holds = λ S assignment obeys j junction word at there.
       word-holds project sound pipe grid is-grid rounds j junction.elevation target some word
       (own j junction word at there) S assignment obeys
@@ -198,12 +219,9 @@ closure-is project sound target some rounds pipe grid is-grid long left sides ta
         → slice_get (words_by left sides targets) j ≡ Some word
         → IsWord grid rounds j (target_low junction.elevation target) (target_high junction.elevation target) word
     own j junction word at there =
-        let within = slice_get_within project.junctions.list j junction at in
-        let item = target-item project target targets is-targets j junction at in
-        let e = word-there left sides targets j (target_of target junction) word item there in
-        subst (λ (w : ClosureWord). IsWord grid rounds j (target_low junction.elevation target)
-        (target_high junction.elevation target) w) (sym e)
-        (left-word grid rounds j (target_of target junction) left (omega (arith, within, long)) targets sides is item)
+        (word-alone grid rounds j (target_low junction.elevation target) (target_high junction.elevation target) word).0
+        (words-left project target rounds (both grid) long long left sides targets is-targets is j junction word at
+        there)
 
 -- a closure is one for each inquiry of the same pressure
 pub still-closure : (project : Project) (a b : Inquiry) (rounds pipe : ℕ) (closure : Closure)

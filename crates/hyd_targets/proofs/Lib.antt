@@ -1,3 +1,3 @@
-mod TargetsOfJunctions
+pub mod TargetsOfJunctions
 mod PiecesInOrder
 pub mod ClosuresOfPipes

@@ -38,8 +38,10 @@ pub fn put_bracket<D: Desk>(
         text result pen.old pen.new desk.old desk.new) }
 {
     let target = inquiry.target(project, junction);
+    let net = inquiry.first.net();
     let bracket = available(
-        inquiry.first.net(),
+        net,
+        net,
         &mut inquiry.study,
         &mut inquiry.finder,
         junction,

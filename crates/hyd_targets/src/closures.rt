@@ -18,8 +18,8 @@ use hyd_io::{Desk, OutFault, Pen};
 use hyd_net::{Link, LinkKind, Project};
 use hyd_report::put_done;
 
-// Whether a link is a pipe.
-fn is_pipe(kind: &LinkKind) -> bool
+/// Whether a link is a pipe, which closures shut: one with a check valve is too.
+pub fn is_pipe(kind: &LinkKind) -> bool
     ensures { result ≡ is_pipe kind.now }
 {
     match kind {
@@ -28,8 +28,8 @@ fn is_pipe(kind: &LinkKind) -> bool
     }
 }
 
-// How many pipes there are, for what is shown of them.
-fn pipe_count(links: &[Link]) -> u32 {
+/// How many pipes there are among links, for what `Signs` shows of them.
+pub fn pipe_count(links: &[Link]) -> u32 {
     let mut count = 0u32;
     for link in links {
         if is_pipe(&link.kind) {
@@ -68,10 +68,7 @@ pub fn put_closures<D: Desk>(
     for link in 0..links.len() as u32 {
         if is_pipe(&links[link as usize].kind) {
             signs.show(count, desk);
-            match put_closure(project, inquiry, link, rounds, pen, desk) {
-                Ok(()) => {}
-                Err(fault) => return Err(fault),
-            }
+            put_closure(project, inquiry, link, rounds, pen, desk)?;
             count += 1;
         }
     }

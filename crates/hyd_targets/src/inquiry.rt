@@ -48,8 +48,9 @@ fn target_at(junction: &Junction, pressures: Span) -> LevelSpan
     heads_at(junction.elevation, pressures)
 }
 
-// The whole heads around a pressure at each junction.
-fn targets_at(
+/// The whole heads (head ticks) around a pressure at each junction, in order. The pressure is at most 10^4 in
+/// magnitude, in the file's unit. Fails where memory is wanting.
+pub fn targets_at(
     alloc: Global,
     project: &Project,
     pressure: Decimal,

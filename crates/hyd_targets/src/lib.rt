@@ -9,5 +9,7 @@ mod signs_of_life;
 mod target_heads;
 
 pub use bracket::put_bracket;
-pub use closures::put_closures;
-pub use inquiry::Inquiry;
+pub use closures::{is_pipe, pipe_count, put_closures};
+pub use inquiry::{Inquiry, targets_at};
+pub use one_closure::put_words;
+pub use signs_of_life::Signs;

@@ -19,8 +19,9 @@ use hyd_net::Project;
 use hyd_spec_certificates::LevelSpan;
 use hyd_target_lines::{put_shut, put_word};
 
-// Puts the lines of junctions by what a closure left.
-fn put_words<D: Desk>(
+/// Puts the lines of junctions, in order, by what a closure left with these targets, one for each junction: those of
+/// the words of `word_of`. Its faults and its needs are those of `Pen::put`; besides no put at the pen has failed yet.
+pub fn put_words<D: Desk>(
     project: &Project,
     study: &Study,
     sides: Sides,
@@ -40,10 +41,7 @@ fn put_words<D: Desk>(
     let count = project.junctions.len() as u32;
     for junction in 0..count {
         let word = word_of(study, sides, junction, targets[junction as usize]);
-        match put_word(project, junction, word, pen, desk) {
-            Ok(()) => {}
-            Err(fault) => return Err(fault),
-        }
+        put_word(project, junction, word, pen, desk)?;
     }
     Ok(())
 }
@@ -71,16 +69,15 @@ pub(crate) fn put_closure<D: Desk>(
     ensures pressure { inquiry.new.pressure ≡ inquiry.old.pressure }
 {
     inquiry.first.start_with_shut(project, pipe);
+    let net = inquiry.first.net();
     let sides = close(
-        inquiry.first.net(),
+        net,
+        net,
         &mut inquiry.study,
         &mut inquiry.finder,
         &inquiry.targets,
         rounds,
     );
-    match put_shut(project, pipe, pen, desk) {
-        Ok(()) => {}
-        Err(fault) => return Err(fault),
-    }
+    put_shut(project, pipe, pen, desk)?;
     put_words(project, &inquiry.study, sides, &inquiry.targets, pen, desk)
 }

@@ -8,7 +8,7 @@ const SHOWN: u64 = 200;
 
 /// How many pipes there are, and when it was shown last how many were shut.
 #[derive(Clone, Copy)]
-pub(crate) struct Signs {
+pub struct Signs {
     shown: Pace,
     pipes: u32,
 }
@@ -27,16 +27,16 @@ impl Display for Progress {
 }
 
 impl Signs {
-    /// The signs of closures that begin now.
-    pub(crate) fn new<D: Desk>(pipes: u32, desk: &D) -> Signs {
+    /// The signs of closures of so many pipes, which begin now.
+    pub fn new<D: Desk>(pipes: u32, desk: &D) -> Signs {
         Signs {
             shown: Pace::new(SHOWN, desk.milliseconds()),
             pipes,
         }
     }
 
-    /// Shows how many pipes were shut, where that is due.
-    pub(crate) fn show<D: Desk>(&mut self, shut: u32, desk: &D) {
+    /// Shows a person how many pipes were shut, where that is due. Nothing is put out.
+    pub fn show<D: Desk>(&mut self, shut: u32, desk: &D) {
         if self.shown.is_due(desk.milliseconds()) {
             desk.show(&Progress {
                 shut,

@@ -1,4 +1,4 @@
--- Without a spread the first period, brackets and words are those of the file's network.
+-- Without a spread the first period is that of the file's network, and what edges say they say of it.
 use Rattle.std.proofs.Common.{◌≡◌, ℕ, suc, ℤ, ◌≤ℤ◌, sym, subst, arith, List, [], ◌∷◌, refl}
 use Rattle.std.specs.Prelude.{map, slice_set, ◌↔◌}
 use Rattle.std.specs.List.{AllZip}
@@ -17,14 +17,9 @@ use Rattle.hyd_spec_certificates.specs.Decided.{links_at}
 use Rattle.hyd_spec_certificates.specs.Valid.{IsGridAt}
 use Rattle.hyd_spec_pressure_targets.specs.declared.Edge.{Edge}
 use Rattle.hyd_spec_pressure_targets.specs.declared.Edge.TheVariants.{Flow, NoCertificate, RoundsSpent}
-use Rattle.hyd_spec_pressure_targets.specs.declared.Bracket.{Bracket}
-use Rattle.hyd_spec_pressure_targets.specs.declared.ClosureWord.{ClosureWord}
-use Rattle.hyd_spec_pressure_targets.specs.declared.ClosureWord.TheVariants.{Safe, Low, NoCertificate as WordNone}
-use Rattle.hyd_spec_pressure_targets.specs.declared.ClosureWord.TheVariants.{RoundsSpent as WordSpent, Unsure}
 use Rattle.hyd_spec_pressure_targets.specs.FirstPeriod.{IsFirstDrawing, IsFirstWithShut}
 use Rattle.hyd_spec_pressure_targets.specs.FirstPeriod.{IsFirstGrid, IsFirstGridWithShut}
-use Rattle.hyd_spec_pressure_targets.specs.BracketOfDraws.{IsBracket, IsEnough, IsTooMuch}
-use Rattle.hyd_spec_pressure_targets.specs.ClosureWords.{IsWord}
+use Rattle.hyd_spec_pressure_targets.specs.BracketOfDraws.{IsEnough, IsTooMuch}
 use Rattle.hyd_spec_spread.specs.Spreads.{Spread, IsSpread, level_interval, no_spread}
 use Rattle.hyd_spec_spread.specs.HistoriesWithin.{HoldsParts}
 use Rattle.hyd_spec_spread_runs.specs.OutermostPairs.{Pair}
@@ -32,54 +27,13 @@ use Rattle.hyd_spec_spread_runs.specs.RunsForSpreads.{standing_within}
 use Rattle.hyd_spec_spread_targets.specs.FirstPeriodWithin.{tanks_from, links_from}
 use Rattle.hyd_spec_spread_targets.specs.FirstPeriodWithin.{IsFirstDrawingWithin, IsFirstWithShutWithin}
 use Rattle.hyd_spec_spread_targets.specs.FirstPeriodWithin.{IsFirstPair, IsFirstPairWithShut}
-use Rattle.hyd_spec_spread_targets.specs.BracketsOverPairs.{IsBracketOver, IsEnoughWithin, IsTooMuchWithin}
-use Rattle.hyd_spec_spread_targets.specs.WordsOverPairs.{IsWordOver}
+use Rattle.hyd_spec_spread_targets.specs.BracketsOverPairs.{IsEnoughWithin, IsTooMuchWithin}
 use Rattle.hyd_theorems_on_spread.proofs.NoSpread.{none-is-spread}
 use Rattle.hyd_theorems_on_spread.proofs.OwnNetwork.{grid-alone, grid-outermost}
 use Rattle.hyd_theorems_on_spread.proofs.PeriodsAlike.{assignment-alike}
 use Rattle.hyd_theorems_on_spread_runs.proofs.RunsAlone.{standing-alone}
 use Rattle.hyd_theorems_on_spread_targets.proofs.DrawingsAlike.{drawing-alike, alike-without}
 use Rattle.hyd_theorems_on_spread_targets.proofs.OwnNetwork.{own-drawing, own-with-shut}
-
--- ---- brackets and words, with one grid on both sides
-
-abbrev pub both : Grid → Pair
-both grid = record { upper = grid; lower = grid }
-
-pub bracket-alone : (grid : Grid) (place : ℕ) (low high : ℤ) (rounds : ℕ) (bracket : Bracket)
-    → IsBracketOver (both grid) place low high rounds bracket ↔ IsBracket grid place low high rounds bracket
-bracket-alone grid place low high rounds bracket = (
-  λ is. record { below = is.below; above = is.above },
-  λ is. record { below = is.below; above = is.above },
-)
-
-pub word-alone : (grid : Grid) (rounds j : ℕ) (low high : ℤ) (word : ClosureWord)
-    → IsWordOver (both grid) rounds j low high word ↔ IsWord grid rounds j low high word
-word-alone grid rounds j low high Safe = (λ is. is, λ is. is)
-word-alone grid rounds j low high Low = (λ is. is, λ is. is)
-word-alone grid rounds j low high WordNone = (
-  λ is. record {
-    is_open = record { not_safe = is.is_open.not_safe; not_low = is.is_open.not_low };
-    none = is.none;
-  },
-  λ is. record {
-    is_open = record { not_safe = is.is_open.not_safe; not_low = is.is_open.not_low };
-    none = is.none;
-  },
-)
-word-alone grid rounds j low high WordSpent = (λ is. is, λ is. is)
-word-alone grid rounds j low high Unsure = (
-  λ is. record {
-    is_open = record { not_safe = is.is_open.not_safe; not_low = is.is_open.not_low };
-    upper = is.upper;
-    lower = is.lower;
-  },
-  λ is. record {
-    is_open = record { not_safe = is.is_open.not_safe; not_low = is.is_open.not_low };
-    upper = is.upper;
-    lower = is.lower;
-  },
-)
 
 -- ---- what edges say of the file's own network
 

@@ -41,10 +41,7 @@ fn print_finding<D: Desk>(project: &Project, finding: Finding, desk: &mut D) -> 
     ensures openings_stay { D.openings desk.new ≡ D.openings desk.old }
 {
     let mut pen = Pen::new(Channel::Report);
-    match put_finding(project, finding, &mut pen, desk) {
-        Ok(()) => {}
-        Err(fault) => return Err(fault),
-    }
+    put_finding(project, finding, &mut pen, desk)?;
     pen.flush(desk)
 }
 

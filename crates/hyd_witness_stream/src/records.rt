@@ -240,10 +240,8 @@ pub(crate) fn take_records<D: Desk>(
 {
     let mut signs = Signs::new(desk);
     loop {
-        match take_record(sim, reader, entry, moments, pen, desk) {
-            Ok(None) => {}
-            Ok(Some(end)) => return Ok(end),
-            Err(fault) => return Err(fault),
+        if let Some(end) = take_record(sim, reader, entry, moments, pen, desk)? {
+            return Ok(end);
         }
         signs.show(sim, desk);
     }

@@ -94,10 +94,7 @@ impl Lines {
             desk.old desk.new }
     {
         has_small_counts(counts);
-        let n = match self.next_line(desk) {
-            Ok(n) => n,
-            Err(fault) => return Err(fault),
-        };
+        let n = self.next_line(desk)?;
         let Some(scale) = header_scale(&self.source.held()[..n], counts) else {
             return Err(WitnessFault::Grammar {
                 line: self.line.saturating_add(1),
@@ -123,10 +120,7 @@ impl Lines {
         ensures stays { KeepsOutput D.files D.written D.printed D.target D.ready D.counts D.openings
             desk.old desk.new }
     {
-        let n = match self.next_line(desk) {
-            Ok(n) => n,
-            Err(fault) => return Err(fault),
-        };
+        let n = self.next_line(desk)?;
         let Some(next) = period_or_end(&self.source.held()[..n], periods) else {
             return Err(WitnessFault::Grammar {
                 line: self.line.saturating_add(1),
@@ -150,10 +144,7 @@ impl Lines {
         ensures stays { KeepsOutput D.files D.written D.printed D.target D.ready D.counts D.openings
             desk.old desk.new }
     {
-        let n = match self.next_line(desk) {
-            Ok(n) => n,
-            Err(fault) => return Err(fault),
-        };
+        let n = self.next_line(desk)?;
         let Some(value) = value_line(&self.source.held()[..n], key) else {
             return Err(WitnessFault::Grammar {
                 line: self.line.saturating_add(1),
@@ -182,10 +173,8 @@ impl Lines {
             desk.old desk.new }
     {
         for i in 0..into.len() {
-            match self.value(desk, key) {
-                Ok(value) => store(into, i, value),
-                Err(fault) => return Err(fault),
-            }
+            let value = self.value(desk, key)?;
+            store(into, i, value);
         }
         Ok(())
     }
@@ -202,10 +191,7 @@ impl Lines {
         ensures stays { KeepsOutput D.files D.written D.printed D.target D.ready D.counts D.openings
             desk.old desk.new }
     {
-        let n = match self.next_line(desk) {
-            Ok(n) => n,
-            Err(fault) => return Err(fault),
-        };
+        let n = self.next_line(desk)?;
         let Some(stock) = stock_line(&self.source.held()[..n]) else {
             return Err(WitnessFault::Grammar {
                 line: self.line.saturating_add(1),
@@ -235,13 +221,9 @@ impl Lines {
             desk.old desk.new }
     {
         for i in 0..levels.len() {
-            match self.stock(desk) {
-                Ok((level, volume)) => {
-                    store(levels, i, level);
-                    store(volumes, i, volume);
-                }
-                Err(fault) => return Err(fault),
-            }
+            let (level, volume) = self.stock(desk)?;
+            store(levels, i, level);
+            store(volumes, i, volume);
         }
         Ok(())
     }

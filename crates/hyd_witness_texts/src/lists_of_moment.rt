@@ -41,22 +41,10 @@ pub(crate) fn read_lists<D: Desk>(
     ensures stays { KeepsOutput D.files D.written D.printed D.target D.ready D.counts D.openings
         desk.old desk.new }
 {
-    match read_values(lines, desk, b'H', &mut into.heads) {
-        Ok(()) => {}
-        Err(fault) => return Err(fault),
-    }
-    match read_values(lines, desk, b'Q', &mut into.flows) {
-        Ok(()) => {}
-        Err(fault) => return Err(fault),
-    }
-    match read_values(lines, desk, b'D', &mut into.demands) {
-        Ok(()) => {}
-        Err(fault) => return Err(fault),
-    }
-    match read_values(lines, desk, b'E', &mut into.emitters) {
-        Ok(()) => {}
-        Err(fault) => return Err(fault),
-    }
+    read_values(lines, desk, b'H', &mut into.heads)?;
+    read_values(lines, desk, b'Q', &mut into.flows)?;
+    read_values(lines, desk, b'D', &mut into.demands)?;
+    read_values(lines, desk, b'E', &mut into.emitters)?;
     read_stocks(lines, desk, &mut into.levels, &mut into.volumes)
 }
 

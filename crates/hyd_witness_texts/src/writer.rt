@@ -179,14 +179,9 @@ fn put_lists<D: Desk>(moment: &Moment, pen: &mut Pen, desk: &mut D) -> Result<()
         ++ (value_lines (codes "D") moment.now.demands.list ++ (value_lines (codes "E") moment.now.emitters.list
         ++ stock_lines moment.now.levels.list moment.now.volumes.list)))) result pen.old pen.new desk.old desk.new }
 {
-    match put_values(b'H', moment.heads.as_slice(), pen, desk) {
-        Ok(()) => {}
-        Err(fault) => return Err(fault),
-    }
-    match put_values(b'Q', moment.flows.as_slice(), pen, desk) {
-        Ok(()) => put_outflows_and_stocks(moment, pen, desk),
-        Err(fault) => Err(fault),
-    }
+    put_values(b'H', moment.heads.as_slice(), pen, desk)?;
+    put_values(b'Q', moment.flows.as_slice(), pen, desk)?;
+    put_outflows_and_stocks(moment, pen, desk)
 }
 
 /// Puts the lines of demand flows, of emitter flows, and of levels and volumes.
@@ -202,19 +197,14 @@ fn put_outflows_and_stocks<D: Desk>(
         (value_lines (codes "D") moment.now.demands.list ++ (value_lines (codes "E") moment.now.emitters.list
         ++ stock_lines moment.now.levels.list moment.now.volumes.list)) result pen.old pen.new desk.old desk.new }
 {
-    match put_values(b'D', moment.demands.as_slice(), pen, desk) {
-        Ok(()) => {}
-        Err(fault) => return Err(fault),
-    }
-    match put_values(b'E', moment.emitters.as_slice(), pen, desk) {
-        Ok(()) => put_stocks(
-            moment.levels.as_slice(),
-            moment.volumes.as_slice(),
-            pen,
-            desk,
-        ),
-        Err(fault) => Err(fault),
-    }
+    put_values(b'D', moment.demands.as_slice(), pen, desk)?;
+    put_values(b'E', moment.emitters.as_slice(), pen, desk)?;
+    put_stocks(
+        moment.levels.as_slice(),
+        moment.volumes.as_slice(),
+        pen,
+        desk,
+    )
 }
 
 /// Puts the lines of values, each behind the key.
@@ -230,10 +220,7 @@ fn put_values<D: Desk>(
         (value_lines (key ∷ []) values.now) result pen.old pen.new desk.old desk.new }
 {
     for i in 0..values.len() {
-        match put_value_line(key, &values[i], pen, desk) {
-            Ok(()) => {}
-            Err(fault) => return Err(fault),
-        }
+        put_value_line(key, &values[i], pen, desk)?;
     }
     Ok(())
 }
@@ -268,10 +255,7 @@ fn put_stocks<D: Desk>(
         (stock_lines levels.now volumes.now) result pen.old pen.new desk.old desk.new }
 {
     for i in 0..levels.len() {
-        match put_stock_line(&levels[i], &volumes[i], pen, desk) {
-            Ok(()) => {}
-            Err(fault) => return Err(fault),
-        }
+        put_stock_line(&levels[i], &volumes[i], pen, desk)?;
     }
     Ok(())
 }

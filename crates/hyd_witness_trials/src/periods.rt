@@ -134,10 +134,8 @@ pub fn find<D: Desk>(
         desk.old desk.new }
 {
     loop {
-        match take_moment(project, reader, course, moment, desk) {
-            Ok(None) => {}
-            Ok(Some(finding)) => return Ok(finding),
-            Err(failed) => return Err(failed),
+        if let Some(finding) = take_moment(project, reader, course, moment, desk)? {
+            return Ok(finding);
         }
     }
 }

@@ -30,10 +30,7 @@ fn print_halt<D: Desk>(project: &Project, end: SearchEnd, desk: &mut D) -> Resul
     ensures openings_stay { D.openings desk.new ≡ D.openings desk.old }
 {
     let mut pen = Pen::new(Channel::Report);
-    match put_halt(project, end, &mut pen, desk) {
-        Ok(()) => {}
-        Err(fault) => return Err(fault),
-    }
+    put_halt(project, end, &mut pen, desk)?;
     pen.flush(desk)
 }
 

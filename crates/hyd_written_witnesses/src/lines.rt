@@ -25,14 +25,8 @@ fn put_numbered<D: Desk>(
     ensures { Puts D.files D.rest D.written D.printed D.target D.ready D.counts D.openings
         (front.now ++ (decimal number ++ back.now)) result pen.old pen.new desk.old desk.new }
 {
-    match pen.put(desk, front) {
-        Ok(()) => {}
-        Err(fault) => return Err(fault),
-    }
-    match put_number(u128::from(number), pen, desk) {
-        Ok(()) => {}
-        Err(fault) => return Err(fault),
-    }
+    pen.put(desk, front)?;
+    put_number(u128::from(number), pen, desk)?;
     pen.put(desk, back)
 }
 

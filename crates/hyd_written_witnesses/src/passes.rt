@@ -79,10 +79,7 @@ fn write_finer<D: Desk>(
     ensures bench { IsBench bench.new }
     ensures project { bench.new.sim.project ≡ bench.old.sim.project }
 {
-    let end = match write_pass(bench, fine(), cert, out, desk) {
-        Ok(end) => end,
-        Err(status) => return Err(status),
-    };
+    let end = write_pass(bench, fine(), cert, out, desk)?;
     if !lacks_moment(end.halt) {
         return Ok(end);
     }
@@ -113,10 +110,7 @@ pub(crate) fn write_passes<D: Desk>(
     ensures project { bench.new.sim.project ≡ bench.old.sim.project }
     ensures sound { IsBench bench.new }
 {
-    let end = match write_pass(bench, halves(), cert, out, desk) {
-        Ok(end) => end,
-        Err(status) => return Err(status),
-    };
+    let end = write_pass(bench, halves(), cert, out, desk)?;
     if !lacks_moment(end.halt) {
         return Ok(end);
     }

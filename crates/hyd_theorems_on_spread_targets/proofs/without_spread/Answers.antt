@@ -1,6 +1,6 @@
+use Rattle.hyd_spec_spread_targets.proofs.OneGridOnBothSides.{bracket-alone, word-alone}
 use Rattle.hyd_theorems_on_spread_targets.proofs.WithoutSpread.{pair-alone, shut-pair-alone, drawing-alone}
-use Rattle.hyd_theorems_on_spread_targets.proofs.WithoutSpread.{with-shut-alone, bracket-alone, word-alone}
-use Rattle.hyd_theorems_on_spread_targets.proofs.WithoutSpread.{enough-alone, too-much-alone}
+use Rattle.hyd_theorems_on_spread_targets.proofs.WithoutSpread.{with-shut-alone, enough-alone, too-much-alone}
 use Rattle.hyd_theorems_on_spread_targets.proofs.without_spread.Goals as goal
 
 pub returns-clause-pairs : goal.returns-clause-pairs

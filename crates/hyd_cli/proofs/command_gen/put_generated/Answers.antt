@@ -1,4 +1,5 @@
 -- The text was written, and then a run was put out.
+use Rattle.std.proofs.lemmas.Result.{err_from_is_err_and}
 use Rattle.std.proofs.Common.{rules, inl, inr, sym, ap, ◌∙◌}
 use Rattle.std.proofs.lemmas.Result.{IfOk-weaker, IfErr-weaker}
 use Rattle.hyd_io.specs.declared.desk.Openings.{Openings}
@@ -13,21 +14,22 @@ use Rattle.hyd_cli.proofs.command_gen.put_generated.Goals as goal
 
 -- ---- NET couldn't be created or written
 
-pub returns-in-Err-clause-broken_off : goal.returns-in-Err-clause-broken_off
-returns-in-Err-clause-broken_off g c =
-    text_breaks_off c.args.sim.now.project c.args.text.now (files_seen c.args.files) _ _ _ _ _
+pub returns-in_err-write_text-clause-broken_off : goal.returns-in_err-write_text-clause-broken_off
+returns-in_err-write_text-clause-broken_off g c =
+    let p = err_from_is_err_and c.from_residual.result c.from_residual.ensures.1 in
+    rw p.1 (text_breaks_off c.args.sim.now.project c.args.text.now (files_seen c.args.files) _ _ _ _ _
     (c.write_text.ensures.others c.args.files.cert.now (λ same. c.requires.apart (sym same)))
-    c.write_text.ensures.creates c.in-Err.ensures.cut_off
+    c.write_text.ensures.creates c.in_err-write_text.ensures.cut_off)
 
-pub returns-in-Err-clause-keeps_cert : goal.returns-in-Err-clause-keeps_cert
-returns-in-Err-clause-keeps_cert g c =
+pub returns-in_err-write_text-clause-keeps_cert : goal.returns-in_err-write_text-clause-keeps_cert
+returns-in_err-write_text-clause-keeps_cert g c =
     inl (c.write_text.ensures.others c.args.files.cert.now (λ same. c.requires.apart (sym same)))
 
 -- ---- CERT couldn't be created
 
 pub returns-then-is_err-clause-broken_off : goal.returns-then-is_err-clause-broken_off
 returns-then-is_err-clause-broken_off g c =
-    text_alone c.args.sim.now.project c.args.text.now (files_seen c.args.files) _ _ _ _ _ _ c.in-Ok.ensures.whole
+    text_alone c.args.sim.now.project c.args.text.now (files_seen c.args.files) _ _ _ _ _ _ c.in_ok-write_text.ensures.whole
     (c.write_text.ensures.others c.args.files.cert.now (λ same. c.requires.apart (sym same)))
     (record { files = search rules; written = search rules; printed = c.create.ensures.printed_stays })
     (c.create.ensures.creates_once ∙ ap (λ (o : Openings). with_created o) c.write_text.ensures.creates) (search rules)
@@ -36,7 +38,7 @@ pub returns-then-is_err-clause-keeps_cert : goal.returns-then-is_err-clause-keep
 returns-then-is_err-clause-keeps_cert g c =
     inr (
       c.create.ensures.creates_once ∙ ap (λ (o : Openings). with_created o) c.write_text.ensures.creates,
-      c.create.ensures.others c.args.files.net.now c.requires.apart ∙ c.in-Ok.ensures.whole.held,
+      c.create.ensures.others c.args.files.net.now c.requires.apart ∙ c.in_ok-write_text.ensures.whole.held,
     )
 
 -- ---- both were created
@@ -58,7 +60,7 @@ returns-clause-whole g c =
     } in
     IfOk-weaker c.run_summed.result _ _ (λ end out. generated c.args.sim.now.project c.args.sim.now.settings
     c.args.text.now (files_seen c.args.files) before between created after (outcome_of end) c.requires.usual
-    c.requires.apart c.in-Ok.ensures.whole made c.run_summed.ensures.leaves (search rules) out)
+    c.requires.apart c.in_ok-write_text.ensures.whole made c.run_summed.ensures.leaves (search rules) out)
     c.run_summed.ensures.whole
 
 pub returns-clause-broken_off : goal.returns-clause-broken_off
@@ -80,7 +82,7 @@ returns-clause-broken_off g c =
     c.args.sim.now.settings c.args.text.now (files_seen c.args.files) before between created after
     (g.D.Desk.openings c.args.desk.now) (c.run_summed.ensures.leaves.openings_stay ∙ (c.create.ensures.creates_once
     ∙ ap (λ (o : Openings). with_created o) c.write_text.ensures.creates)) c.requires.usual
-    c.requires.apart c.in-Ok.ensures.whole made c.run_summed.ensures.leaves (search rules) out)
+    c.requires.apart c.in_ok-write_text.ensures.whole made c.run_summed.ensures.leaves (search rules) out)
     c.run_summed.ensures.broken_off
 
 pub returns-clause-keeps_cert : goal.returns-clause-keeps_cert
@@ -102,5 +104,5 @@ returns-clause-keeps_cert g c =
       c.run_summed.ensures.leaves.openings_stay ∙ (c.create.ensures.creates_once
           ∙ ap (λ (o : Openings). with_created o) c.write_text.ensures.creates),
       text_stays c.args.text.now (files_seen c.args.files) before between created after c.requires.apart
-          c.in-Ok.ensures.whole made c.run_summed.ensures.leaves,
+          c.in_ok-write_text.ensures.whole made c.run_summed.ensures.leaves,
     )

@@ -7,8 +7,8 @@ use Rattle.hyd_command_words.specs.CommandView.{run_seen}
 use Rattle.hyd_command_answers.specs.DeskContents.{seen}
 use Rattle.hyd_command_answers.proofs.AnswerLemmas.{opens_once}
 use Rattle.hyd_open_command.specs.OpenAnswers.{Asked}
-use Rattle.hyd_spread_command.specs.SpreadFiles.{IsNoSpread, IsText}
-use Rattle.hyd_spread_command.specs.declared.spread_file.SpreadFile.TheVariants.{Rows}
+use Rattle.hyd_spread_command.specs.PassedOn.{IsNoSpread, IsText}
+use Rattle.hyd_spread_command.specs.PassedOn.{Rows}
 use Rattle.hyd_spread_command.specs.SpreadAnswers.{AnswersWithin}
 use Rattle.hyd_cli.proofs.SpreadRunLemmas.{alone_since, alone_leaves_since, alone_holds_since, over, within_since}
 use Rattle.hyd_cli.proofs.SpreadRunLemmas.{within_leaves_since, within_holds_since, refusal_since}

@@ -2,11 +2,12 @@
 use Rattle.std.proofs.Common.{◌≡◌, Option, Some, option_map, sym, ap, ◌∙◌, subst}
 use Rattle.hyd_command_words.specs.CommandGrammar.{Order, run, check, gen, fire, closures, witness, meet}
 use Rattle.hyd_command_words.specs.CommandView.{order_seen, run_seen, gen_seen, files_seen, fire_seen, closures_seen}
-use Rattle.hyd_command_words.specs.CommandGrammar.{run_over, check_over}
+use Rattle.hyd_command_words.specs.CommandGrammar.{run_over, check_over, fire_over, closures_over}
 use Rattle.hyd_command_words.specs.CommandView.{witness_seen, meet_seen, spread_run_seen, spread_check_seen}
+use Rattle.hyd_command_words.specs.CommandView.{spread_fire_seen, spread_closures_seen}
 use Rattle.hyd_command_words.specs.declared.command.Command.{Command}
 use Rattle.hyd_command_words.specs.declared.command.Command.TheVariants.{Run, Check, Gen, Fire, Closures, Witness, Meet}
-use Rattle.hyd_command_words.specs.declared.command.Command.TheVariants.{RunOver, CheckOver}
+use Rattle.hyd_command_words.specs.declared.command.Command.TheVariants.{RunOver, CheckOver, FireOver, ClosuresOver}
 use Rattle.hyd_command_answers.specs.DeskContents.{seen}
 use Rattle.hyd_cli.specs.Answers.{Leaves}
 use Rattle.hyd_cli.specs.Commands.{DoesOrder}
@@ -269,3 +270,57 @@ returns-in-Some-CheckOver-clause-does g c =
     subst (λ (o : Option Order). DoesOrder o c.check_for_spread.result before now (g.D.Desk.openings c.args.desk.now)
     (g.D.Desk.openings c.check_for_spread.new.desk) (g.D.Desk.ready c.check_for_spread.new.desk)) (sym known)
     c.check_for_spread.ensures.does
+
+pub returns-in-Some-FireOver-clause-leaves : goal.returns-in-Some-FireOver-clause-leaves
+returns-in-Some-FireOver-clause-leaves g c =
+    let words = c.in-Some-FireOver.words in
+    let kind : c.in-Some-FireOver.field-0 ≡ FireOver words =
+    rw c.in-Some-FireOver.is at c.in-Some-FireOver.field-0-is in
+    let found : c.args.found ≡ Some (FireOver words) = c.in-Some-FireOver.is ∙ ap Some kind in
+    let before = seen g.D.Desk.files g.D.Desk.written g.D.Desk.printed c.args.desk.now in
+    let now = seen g.D.Desk.files g.D.Desk.written g.D.Desk.printed c.find_bracket_for_spread.new.desk in
+    let known : option_map order_seen c.args.found ≡ Some (fire_over (spread_fire_seen words)) =
+    ap (λ (f : Option Command). option_map order_seen f) found in
+    subst (λ (o : Option Order). Leaves o c.find_bracket_for_spread.result before now) (sym known)
+    c.find_bracket_for_spread.ensures.leaves
+
+pub returns-in-Some-FireOver-clause-does : goal.returns-in-Some-FireOver-clause-does
+returns-in-Some-FireOver-clause-does g c =
+    let words = c.in-Some-FireOver.words in
+    let kind : c.in-Some-FireOver.field-0 ≡ FireOver words =
+    rw c.in-Some-FireOver.is at c.in-Some-FireOver.field-0-is in
+    let found : c.args.found ≡ Some (FireOver words) = c.in-Some-FireOver.is ∙ ap Some kind in
+    let before = seen g.D.Desk.files g.D.Desk.written g.D.Desk.printed c.args.desk.now in
+    let now = seen g.D.Desk.files g.D.Desk.written g.D.Desk.printed c.find_bracket_for_spread.new.desk in
+    let known : option_map order_seen c.args.found ≡ Some (fire_over (spread_fire_seen words)) =
+    ap (λ (f : Option Command). option_map order_seen f) found in
+    subst (λ (o : Option Order). DoesOrder o c.find_bracket_for_spread.result before now
+    (g.D.Desk.openings c.args.desk.now) (g.D.Desk.openings c.find_bracket_for_spread.new.desk)
+    (g.D.Desk.ready c.find_bracket_for_spread.new.desk)) (sym known) c.find_bracket_for_spread.ensures.does
+
+pub returns-in-Some-ClosuresOver-clause-leaves : goal.returns-in-Some-ClosuresOver-clause-leaves
+returns-in-Some-ClosuresOver-clause-leaves g c =
+    let words = c.in-Some-ClosuresOver.words in
+    let kind : c.in-Some-ClosuresOver.field-0 ≡ ClosuresOver words =
+    rw c.in-Some-ClosuresOver.is at c.in-Some-ClosuresOver.field-0-is in
+    let found : c.args.found ≡ Some (ClosuresOver words) = c.in-Some-ClosuresOver.is ∙ ap Some kind in
+    let before = seen g.D.Desk.files g.D.Desk.written g.D.Desk.printed c.args.desk.now in
+    let now = seen g.D.Desk.files g.D.Desk.written g.D.Desk.printed c.close_pipes_for_spread.new.desk in
+    let known : option_map order_seen c.args.found ≡ Some (closures_over (spread_closures_seen words)) =
+    ap (λ (f : Option Command). option_map order_seen f) found in
+    subst (λ (o : Option Order). Leaves o c.close_pipes_for_spread.result before now) (sym known)
+    c.close_pipes_for_spread.ensures.leaves
+
+pub returns-in-Some-ClosuresOver-clause-does : goal.returns-in-Some-ClosuresOver-clause-does
+returns-in-Some-ClosuresOver-clause-does g c =
+    let words = c.in-Some-ClosuresOver.words in
+    let kind : c.in-Some-ClosuresOver.field-0 ≡ ClosuresOver words =
+    rw c.in-Some-ClosuresOver.is at c.in-Some-ClosuresOver.field-0-is in
+    let found : c.args.found ≡ Some (ClosuresOver words) = c.in-Some-ClosuresOver.is ∙ ap Some kind in
+    let before = seen g.D.Desk.files g.D.Desk.written g.D.Desk.printed c.args.desk.now in
+    let now = seen g.D.Desk.files g.D.Desk.written g.D.Desk.printed c.close_pipes_for_spread.new.desk in
+    let known : option_map order_seen c.args.found ≡ Some (closures_over (spread_closures_seen words)) =
+    ap (λ (f : Option Command). option_map order_seen f) found in
+    subst (λ (o : Option Order). DoesOrder o c.close_pipes_for_spread.result before now
+    (g.D.Desk.openings c.args.desk.now) (g.D.Desk.openings c.close_pipes_for_spread.new.desk)
+    (g.D.Desk.ready c.close_pipes_for_spread.new.desk)) (sym known) c.close_pipes_for_spread.ensures.does

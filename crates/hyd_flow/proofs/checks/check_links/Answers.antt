@@ -1,3 +1,4 @@
+use Rattle.std.proofs.lemmas.Result.{err_from_is_err_and}
 use Rattle.std.proofs.Common.{List, All, sym, subst, arith}
 use Rattle.std.proofs.lemmas.List.{take_all}
 use Rattle.hyd_cert.specs.RecordView.{row_of}
@@ -24,16 +25,17 @@ check_link-requires-clause-joins c =
     (link_at (λ (named : NamedLink). JoinsJunctions grid named.link) c.args.links.now c.loop-i.i
     c.index-links-i.result c.loop-i-test.true (all_join grid (links_in c.args.links.now) c.requires.names))
 
-pub returns-in-Err-clause-refused : goal.returns-in-Err-clause-refused
-returns-in-Err-clause-refused c =
-    refused_at (grid_of c.args.net.now) (row_of c.args.row.now) c.args.links.now c.loop-i.i c.index-links-i.result
-    c.loop-i-test.true c.index-links-i.is c.loop-i.invariant c.in-Err.cause c.requires.names c.in-Err.ensures.fails
+pub returns-in_err-check_link-clause-refused : goal.returns-in_err-check_link-clause-refused
+returns-in_err-check_link-clause-refused c =
+    let p = err_from_is_err_and c.from_residual.result c.from_residual.ensures.1 in
+    rw (p.1, p.2) (refused_at (grid_of c.args.net.now) (row_of c.args.row.now) c.args.links.now c.loop-i.i c.index-links-i.result
+    c.loop-i-test.true c.index-links-i.is c.loop-i.invariant c.in_err-check_link.field-0.0 c.requires.names c.in_err-check_link.ensures.fails)
 
 pub loop-i-preserved : goal.loop-i-preserved
 loop-i-preserved c =
     one_more (λ (named : NamedLink). (side : Side) → HasItsVector (grid_of c.args.net.now) (row_of c.args.row.now)
     named side) c.loop-i.i c.args.links.now c.index-links-i.result c.loop-i-test.true c.index-links-i.is
-    c.loop-i.invariant c.in-Ok.ensures.good
+    c.loop-i.invariant c.in_ok-check_link.ensures.good
 
 pub returns-clause-good : goal.returns-clause-good
 returns-clause-good c =

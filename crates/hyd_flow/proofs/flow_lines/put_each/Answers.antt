@@ -1,3 +1,4 @@
+use Rattle.std.proofs.lemmas.Result.{err_from_is_err_and}
 use Rattle.std.proofs.Common.{[], ◌∷◌, ◌++◌, ◌+◌, drop, sym, subst}
 use Rattle.hyd_io.proofs.PutLemmas.{puts_then, puts_cut_off, puts_same, puts_nothing}
 use Rattle.hyd_cert.specs.RecordView.{row_of}
@@ -27,9 +28,10 @@ flow_of-flow-requires-clause-vectors g c =
     (link_at (λ (named : NamedLink). (side : Side) → HasItsVector grid row named side) c.args.links.now c.loop-i.i
     c.index-links-i.result c.loop-i-test.true c.requires.vectors)
 
-pub returns-in-Err : goal.returns-in-Err
-returns-in-Err g c =
-    let project = c.args.project.now in
+pub returns-in_err-put_flow_line : goal.returns-in_err-put_flow_line
+returns-in_err-put_flow_line g c =
+    let p = err_from_is_err_and c.from_residual.result c.from_residual.ensures.1 in
+    rw (p.1, p.2) (let project = c.args.project.now in
     let grid = grid_of c.args.net.now in
     let time = c.args.row.now.time in
     let links = c.args.links.now in
@@ -47,11 +49,11 @@ returns-in-Err g c =
       (
         lines_whole project grid time (i + 1) links (so_far.0 ++ (line ∷ [])) others.0 more others.1,
         puts_same _ _ _ _ _ _ _ (text_whole project so_far.0 others.0 line)
-            (puts_cut_off _ _ c.in-Err.fault _ _ _ _ (puts_then _ _ _ _ _ _ _ _ _ so_far.1.1
-            (c.in-Err.ensures (ends_of project joins.0 (named_of x)) (span_prints project c.flow_of-flow.result joins.0
+            (puts_cut_off _ _ c.in_err-put_flow_line.field-0.0 _ _ _ _ (puts_then _ _ _ _ _ _ _ _ _ so_far.1.1
+            (c.in_err-put_flow_line.ensures (ends_of project joins.0 (named_of x)) (span_prints project c.flow_of-flow.result joins.0
             (named_of x) (c.flow_of-flow.ensures.flow joins.0 joins.1.0))))),
       ),
-    )
+    ))
 
 pub loop-i-preserved : goal.loop-i-preserved
 loop-i-preserved g c =
@@ -70,7 +72,7 @@ loop-i-preserved g c =
         lines_more project grid time i links x so_far.0 line c.loop-i-test.true c.index-links-i.is so_far.1.0
             (its_line project grid time (named_of x) joins),
         puts_same _ _ _ _ _ _ _ (text_more project so_far.0 line)
-            (puts_then _ _ _ _ _ _ _ _ _ so_far.1.1 (c.in-Ok.ensures (ends_of project joins.0 (named_of x))
+            (puts_then _ _ _ _ _ _ _ _ _ so_far.1.1 (c.in_ok-put_flow_line.ensures (ends_of project joins.0 (named_of x))
             (span_prints project c.flow_of-flow.result joins.0 (named_of x)
             (c.flow_of-flow.ensures.flow joins.0 joins.1.0)))),
       ),

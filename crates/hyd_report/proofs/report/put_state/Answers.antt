@@ -1,4 +1,5 @@
 -- One part after another.
+use Rattle.std.proofs.lemmas.Result.{err_from_is_err_and}
 use Rattle.std.proofs.Common.{◌++◌, ◌∙◌, List, ℤ, pos, sym, subst}
 use Rattle.hyd_spec.specs.Lists.{map_from}
 use Rattle.hyd_spec_certificates.specs.Decided.{heads_below, heads_above}
@@ -25,27 +26,30 @@ put_junctions-requires-clause-ordered g c =
     (bounds.lower.one_each ∙ sym bounds.upper.one_each) bounds.ordered))
 
 pub put_junctions-requires-clause-ready : goal.put_junctions-requires-clause-ready
-put_junctions-requires-clause-ready g c = puts_ready _ _ _ _ _ _ (c.in-Ok.ensures c.args.project.now) c.requires.ready
+put_junctions-requires-clause-ready g c = puts_ready _ _ _ _ _ _ (c.in_ok-put_time.ensures c.args.project.now) c.requires.ready
 
 pub put_junctions-requires-clause-unbroken : goal.put_junctions-requires-clause-unbroken
-put_junctions-requires-clause-unbroken g c = (c.in-Ok.ensures c.args.project.now).no_fault
+put_junctions-requires-clause-unbroken g c = (c.in_ok-put_time.ensures c.args.project.now).no_fault
 
 pub put_reservoirs-requires-clause-ready : goal.put_reservoirs-requires-clause-ready
 put_reservoirs-requires-clause-ready g c =
-    puts_ready _ _ _ _ _ _ c.in-Ok-put_junctions.ensures (puts_ready _ _ _ _ _ _
-    (c.in-Ok.ensures c.args.project.now) c.requires.ready)
+    puts_ready _ _ _ _ _ _ c.in_ok-put_junctions.ensures (puts_ready _ _ _ _ _ _
+    (c.in_ok-put_time.ensures c.args.project.now) c.requires.ready)
 
 pub put_tanks_and_links-requires-clause-ready : goal.put_tanks_and_links-requires-clause-ready
 put_tanks_and_links-requires-clause-ready g c =
-    puts_ready _ _ _ _ _ _ c.in-Ok-put_reservoirs.ensures (puts_ready _ _ _ _ _ _ c.in-Ok-put_junctions.ensures
-    (puts_ready _ _ _ _ _ _ (c.in-Ok.ensures c.args.project.now) c.requires.ready))
+    puts_ready _ _ _ _ _ _ c.in_ok-put_reservoirs.ensures (puts_ready _ _ _ _ _ _ c.in_ok-put_junctions.ensures
+    (puts_ready _ _ _ _ _ _ (c.in_ok-put_time.ensures c.args.project.now) c.requires.ready))
 
-pub returns-in-Err : goal.returns-in-Err
-returns-in-Err g c = puts_cut_off _ _ c.in-Err.fault _ _ _ _ (c.in-Err.ensures c.args.project.now)
+pub returns-in_err-put_time : goal.returns-in_err-put_time
+returns-in_err-put_time g c =
+    let p = err_from_is_err_and c.from_residual.result c.from_residual.ensures.1 in
+    rw (p.1, p.2) (puts_cut_off _ _ c.in_err-put_time.field-0.0 _ _ _ _ (c.in_err-put_time.ensures c.args.project.now))
 
-pub returns-in-Err-put_junctions : goal.returns-in-Err-put_junctions
-returns-in-Err-put_junctions g c =
-    let net = c.args.net.now in
+pub returns-in_err-put_junctions : goal.returns-in_err-put_junctions
+returns-in_err-put_junctions g c =
+    let p = err_from_is_err_and c.from_residual-in_err-put_junctions.result c.from_residual-in_err-put_junctions.ensures.1 in
+    rw (p.1, p.2) (let net = c.args.net.now in
     let project = c.args.project.now in
     let row = row_of c.args.row.now in
     let facts = c.args.facts.now in
@@ -57,13 +61,14 @@ returns-in-Err-put_junctions g c =
     (state_text project (TimeLine facts.time) c.vector-lower.result.now row.main.lower c.vector-upper.result.now
     row.main.upper (grid_of net).junctions rs tls
     c.vector-lower.ensures c.vector-upper.ensures)
-    (puts_then _ _ _ _ _ _ _ _ _ (c.in-Ok.ensures project)
-    (puts_cut_off _ (texts project rs ++ texts project tls) c.in-Err-put_junctions.fault _ _ _ _
-    c.in-Err-put_junctions.ensures))
+    (puts_then _ _ _ _ _ _ _ _ _ (c.in_ok-put_time.ensures project)
+    (puts_cut_off _ (texts project rs ++ texts project tls) c.in_err-put_junctions.field-0.0 _ _ _ _
+    c.in_err-put_junctions.ensures)))
 
-pub returns-in-Err-put_reservoirs : goal.returns-in-Err-put_reservoirs
-returns-in-Err-put_reservoirs g c =
-    let net = c.args.net.now in
+pub returns-in_err-put_reservoirs : goal.returns-in_err-put_reservoirs
+returns-in_err-put_reservoirs g c =
+    let p = err_from_is_err_and c.from_residual-in_err-put_reservoirs.result c.from_residual-in_err-put_reservoirs.ensures.1 in
+    rw (p.1, p.2) (let net = c.args.net.now in
     let project = c.args.project.now in
     let row = row_of c.args.row.now in
     let facts = c.args.facts.now in
@@ -75,9 +80,9 @@ returns-in-Err-put_reservoirs g c =
     (state_text project (TimeLine facts.time) c.vector-lower.result.now row.main.lower c.vector-upper.result.now
     row.main.upper (grid_of net).junctions rs tls
     c.vector-lower.ensures c.vector-upper.ensures)
-    (puts_then _ _ _ _ _ _ _ _ _ (c.in-Ok.ensures project)
-    (puts_then _ _ _ _ _ _ _ _ _ c.in-Ok-put_junctions.ensures
-    (puts_cut_off _ (texts project tls) c.in-Err-put_reservoirs.fault _ _ _ _ c.in-Err-put_reservoirs.ensures)))
+    (puts_then _ _ _ _ _ _ _ _ _ (c.in_ok-put_time.ensures project)
+    (puts_then _ _ _ _ _ _ _ _ _ c.in_ok-put_junctions.ensures
+    (puts_cut_off _ (texts project tls) c.in_err-put_reservoirs.field-0.0 _ _ _ _ c.in_err-put_reservoirs.ensures))))
 
 pub returns : goal.returns
 returns g c =
@@ -93,6 +98,6 @@ returns g c =
     (state_text project (TimeLine facts.time) c.vector-lower.result.now row.main.lower c.vector-upper.result.now
     row.main.upper (grid_of net).junctions rs tls
     c.vector-lower.ensures c.vector-upper.ensures)
-    (puts_then _ _ _ _ _ _ _ _ _ (c.in-Ok.ensures project)
-    (puts_then _ _ _ _ _ _ _ _ _ c.in-Ok-put_junctions.ensures
-    (puts_then _ _ _ _ _ _ _ _ _ c.in-Ok-put_reservoirs.ensures c.put_tanks_and_links.ensures)))
+    (puts_then _ _ _ _ _ _ _ _ _ (c.in_ok-put_time.ensures project)
+    (puts_then _ _ _ _ _ _ _ _ _ c.in_ok-put_junctions.ensures
+    (puts_then _ _ _ _ _ _ _ _ _ c.in_ok-put_reservoirs.ensures c.put_tanks_and_links.ensures)))

@@ -1,19 +1,21 @@
 -- One line more, or a line that is cut off.
+use Rattle.std.proofs.lemmas.Result.{err_from_is_err_and}
 use Rattle.std.proofs.Common.{◌<◌, length, arith}
 use Rattle.hyd_report.specs.NodeAndLinkLines.{reservoir_line}
 use Rattle.hyd_report.proofs.LoopLemmas.{line_put, line_cut_off}
 use Rattle.hyd_report.proofs.reservoirs.put_reservoirs.Goals as goal
 
-pub returns-in-Err : goal.returns-in-Err
-returns-in-Err g c =
-    let within : c.loop-r.r < length c.args.net.now.reservoirs = omega (
+pub returns-in_err-put_reservoir : goal.returns-in_err-put_reservoir
+returns-in_err-put_reservoir g c =
+    let p = err_from_is_err_and c.from_residual.result c.from_residual.ensures.1 in
+    rw (p.1, p.2) (let within : c.loop-r.r < length c.args.net.now.reservoirs = omega (
       arith,
       c.nodes.ensures.count,
       c.junctions.ensures.count,
       c.tanks.ensures.count,
     ) in
     line_cut_off c.args.project.now (reservoir_line c.args.project.now) c.args.net.now.reservoirs
-    c.loop-r.r _ _ _ _ _ _ c.in-Err.fault within c.loop-r.invariant c.in-Err.ensures
+    c.loop-r.r _ _ _ _ _ _ c.in_err-put_reservoir.field-0.0 within c.loop-r.invariant c.in_err-put_reservoir.ensures)
 
 pub loop-r-preserved : goal.loop-r-preserved
 loop-r-preserved g c =
@@ -24,4 +26,4 @@ loop-r-preserved g c =
       c.tanks.ensures.count,
     ) in
     line_put c.args.project.now (reservoir_line c.args.project.now) c.args.net.now.reservoirs
-    c.loop-r.r _ _ _ _ _ _ within c.loop-r.invariant c.in-Ok.ensures
+    c.loop-r.r _ _ _ _ _ _ within c.loop-r.invariant c.in_ok-put_reservoir.ensures

@@ -1,4 +1,5 @@
 -- The record, and then the report.
+use Rattle.std.proofs.lemmas.Result.{err_from_is_err_and}
 use Rattle.std.proofs.Common.{subst, sym}
 use Rattle.std.specs.Prelude.{IsTrue}
 use Rattle.hyd_cert.specs.RecordView.{row_of}
@@ -16,12 +17,14 @@ put_lines-requires-clause-bounds g c =
     c.requires.certificates
 
 pub put_lines-requires-clause-ready : goal.put_lines-requires-clause-ready
-put_lines-requires-clause-ready g c = on_any _ _ (subst IsTrue (sym c.in-Ok.ensures.ready_stays)
+put_lines-requires-clause-ready g c = on_any _ _ (subst IsTrue (sym c.in_ok-put_record.ensures.ready_stays)
     c.requires.unbroken.ready)
 
-pub returns-in-Err : goal.returns-in-Err
-returns-in-Err g c = cut-off-in-order _ _ c.in-Err.fault _ _ _ _ _ c.requires.unbroken c.in-Err.ensures
+pub returns-in_err-put_record : goal.returns-in_err-put_record
+returns-in_err-put_record g c =
+    let p = err_from_is_err_and c.from_residual.result c.from_residual.ensures.1 in
+    rw (p.1, p.2) (cut-off-in-order _ _ c.in_err-put_record.field-0.0 _ _ _ _ _ c.requires.unbroken c.in_err-put_record.ensures)
 
 pub returns : goal.returns
 returns g c =
-    both-put-in-order _ _ _ _ _ _ _ _ _ _ c.requires.unbroken c.in-Ok.ensures c.put_lines.ensures
+    both-put-in-order _ _ _ _ _ _ _ _ _ _ c.requires.unbroken c.in_ok-put_record.ensures c.put_lines.ensures

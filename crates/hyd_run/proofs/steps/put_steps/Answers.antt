@@ -1,14 +1,15 @@
 -- One step after another.
+use Rattle.std.proofs.lemmas.Result.{err_from_is_err_and}
 use Rattle.std.proofs.Common.{◌∙◌}
 use Rattle.hyd_run.proofs.StepLemmas.{steps-more, steps-cut-off, steps-end, steps-names, steps-over}
 use Rattle.hyd_run.proofs.steps.put_steps.Goals as goal
 
-pub returns-in-Ok-Some-clause-puts : goal.returns-in-Ok-Some-clause-puts
-returns-in-Ok-Some-clause-puts g c =
+pub returns-in-Some-clause-puts : goal.returns-in-Some-clause-puts
+returns-in-Some-clause-puts g c =
     let i = c.loop-end.invariant in
     let p = c.put_step.ensures.project ∙ i.project in
     let s = c.put_step.ensures.settings ∙ i.settings in
-    let over = rw c.in-Ok-Some.field-0-is at c.in-Ok-Some.ensures.puts in (
+    let over = rw c.in-Some.is at c.in_ok-end.ensures.puts in (
       steps-end _ _ _ _ _ _ _ p s over,
       (
         steps-names _ _ _ _ _ _ _ p s over,
@@ -16,19 +17,20 @@ returns-in-Ok-Some-clause-puts g c =
       ),
     )
 
-pub returns-in-Err-clause-puts : goal.returns-in-Err-clause-puts
-returns-in-Err-clause-puts g c =
-    let i = c.loop-end.invariant in
+pub returns-in_err-end-clause-puts : goal.returns-in_err-end-clause-puts
+returns-in_err-end-clause-puts g c =
+    let out = err_from_is_err_and c.from_residual.result c.from_residual.ensures.1 in
+    rw (out.1, out.2) (let i = c.loop-end.invariant in
     let p = c.put_step.ensures.project ∙ i.project in
     let s = c.put_step.ensures.settings ∙ i.settings in
-    λ start so_far. steps-cut-off _ _ c.in-Err.fault _ _ start _ _ p s c.in-Err.ensures.puts (i.so_far start so_far)
+    λ start so_far. steps-cut-off _ _ c.in_err-end.field-0.0 _ _ start _ _ p s c.in_err-end.ensures.puts (i.so_far start so_far))
 
 pub loop-end-preserved : goal.loop-end-preserved
 loop-end-preserved g c =
     let i = c.loop-end.invariant in
     let p = c.put_step.ensures.project ∙ i.project in
     let s = c.put_step.ensures.settings ∙ i.settings in
-    let did = rw c.in-Ok-None.field-0-is at c.in-Ok-None.ensures.puts in
+    let did = rw c.in_default.is at c.in_ok-end.ensures.puts in
     record {
       project = p;
       settings = s;
@@ -40,5 +42,5 @@ pub loop-end-smaller : goal.loop-end-smaller
 loop-end-smaller g c =
     let i = c.loop-end.invariant in
     let p = c.put_step.ensures.project ∙ i.project in
-    let did = rw c.in-Ok-None.field-0-is at c.in-Ok-None.ensures.puts in
+    let did = rw c.in_default.is at c.in_ok-end.ensures.puts in
     rw p at did.fewer

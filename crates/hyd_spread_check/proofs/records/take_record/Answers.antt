@@ -1,4 +1,5 @@
 -- What was read, and what was found of it.
+use Rattle.std.proofs.lemmas.Result.{err_from_is_err_and}
 use Rattle.std.proofs.Common.{refl, sym, ◌∙◌}
 use Rattle.hyd_spread_run.specs.PeriodsOfSpreadRuns.{standing_of}
 use Rattle.hyd_run.specs.Pens.{told}
@@ -15,19 +16,20 @@ try_record-requires-clause-header g c = c.read_record.ensures.header ∙ c.requi
 pub try_record-requires-clause-unbroken : goal.try_record-requires-clause-unbroken
 try_record-requires-clause-unbroken g c = c.requires.going.pen
 
-pub returns-in-Ok-Some-clause-gives : goal.returns-in-Ok-Some-clause-gives
-returns-in-Ok-Some-clause-gives g c =
+pub returns-in-Some-clause-gives : goal.returns-in-Some-clause-gives
+returns-in-Some-clause-gives g c =
     let sim = c.args.sim.now in
-    let found = rw c.in-Ok-Some.field-0-is at (c.in-Ok-Some.ensures.gives sim.project sim.nets.spread
+    let found = rw c.in-Some.is at (c.in_ok-conclusion.ensures.gives sim.project sim.nets.spread
     (standing_of sim) c.args.pen.now c.requires.header (sym c.number.ensures) (sym c.is_finished.ensures)
     c.requires.going.pen) in
     record { is_so = found.0; stays = refl; put = found.1 }
 
-pub returns-in-Err-clause-gives : goal.returns-in-Err-clause-gives
-returns-in-Err-clause-gives g c =
-    let sim = c.args.sim.now in
-    in_reading (c.in-Err.ensures.gives sim.project sim.nets.spread (standing_of sim) c.args.pen.now
-    c.requires.header (sym c.number.ensures) (sym c.is_finished.ensures) c.requires.going.pen)
+pub returns-in_err-conclusion-clause-gives : goal.returns-in_err-conclusion-clause-gives
+returns-in_err-conclusion-clause-gives g c =
+    let p = err_from_is_err_and c.from_residual.result c.from_residual.ensures.1 in
+    rw (p.1, p.2) (let sim = c.args.sim.now in
+    in_reading (c.in_err-conclusion.ensures.gives sim.project sim.nets.spread (standing_of sim) c.args.pen.now
+    c.requires.header (sym c.number.ensures) (sym c.is_finished.ensures) c.requires.going.pen))
 
 pub returns-clause-gives : goal.returns-clause-gives
 returns-clause-gives g c =
@@ -35,7 +37,7 @@ returns-clause-gives g c =
     let sim = c.args.sim.now in
     let before = moment c.args.reader.now c.args.pen.now
     (told D.files D.rest D.written D.printed D.target D.ready D.counts D.openings c.args.desk.now) in
-    let found = rw c.in-Ok-None.field-0-is at (c.in-Ok-None.ensures.gives sim.project sim.nets.spread
+    let found = rw c.in_default.is at (c.in_ok-conclusion.ensures.gives sim.project sim.nets.spread
     (standing_of sim) c.args.pen.now c.requires.header (sym c.number.ensures) (sym c.is_finished.ensures)
     c.requires.going.pen) in
     c.try_record.ensures.tries before c.read_record.new.reader found.0 found.1

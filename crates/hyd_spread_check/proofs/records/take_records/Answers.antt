@@ -1,4 +1,5 @@
 -- One record after another.
+use Rattle.std.proofs.lemmas.Result.{err_from_is_err_and}
 use Rattle.std.proofs.Common.{◌∙◌, sym, ap}
 use Rattle.std.specs.Prelude.{Ok, Err, Some, None}
 use Rattle.hyd_spec_open_checks.specs.OpenChecks.{open_header_for}
@@ -11,31 +12,32 @@ take_record-requires-clause-header g c =
     let i = c.loop-conclusion.invariant in
     i.header ∙ ap open_header_for (sym i.project)
 
-pub returns-in-Ok-Some-clause-give : goal.returns-in-Ok-Some-clause-give
-returns-in-Ok-Some-clause-give g c =
+pub returns-in-Some-clause-give : goal.returns-in-Some-clause-give
+returns-in-Some-clause-give g c =
     let i = c.loop-conclusion.invariant in
-    let over = turn-as (Ok (Some c.in-Ok-Some.conclusion)) _ _ _ _ _ _ _ _ i.project i.spread
-    (rw c.in-Ok-Some.field-0-is at c.in-Ok-Some.ensures.gives) in
-    λ start so_far. turn-over _ _ c.in-Ok-Some.conclusion _ _ start _ _ over (i.so_far start so_far)
+    let over = turn-as (Ok (Some c.in-Some.conclusion)) _ _ _ _ _ _ _ _ i.project i.spread
+    (rw c.in-Some.is at c.in_ok-conclusion.ensures.gives) in
+    λ start so_far. turn-over _ _ c.in-Some.conclusion _ _ start _ _ over (i.so_far start so_far)
 
-pub returns-in-Ok-Some-clause-unbroken : goal.returns-in-Ok-Some-clause-unbroken
-returns-in-Ok-Some-clause-unbroken g c =
-    let over = rw c.in-Ok-Some.field-0-is at c.in-Ok-Some.ensures.gives in
+pub returns-in-Some-clause-unbroken : goal.returns-in-Some-clause-unbroken
+returns-in-Some-clause-unbroken g c =
+    let over = rw c.in-Some.is at c.in_ok-conclusion.ensures.gives in
     over.put.open_still
 
-pub returns-in-Err-clause-give : goal.returns-in-Err-clause-give
-returns-in-Err-clause-give g c =
-    let i = c.loop-conclusion.invariant in
+pub returns-in_err-conclusion-clause-give : goal.returns-in_err-conclusion-clause-give
+returns-in_err-conclusion-clause-give g c =
+    let p = err_from_is_err_and c.from_residual.result c.from_residual.ensures.1 in
+    rw (p.1, p.2) (let i = c.loop-conclusion.invariant in
     let sim = c.project-project.ensures.is_sim in
-    let lost = turn-as (Err c.in-Err.fault) _ _ _ _ _ _ _ _ i.project i.spread c.in-Err.ensures.gives in
-    λ start so_far. turn-lost _ _ c.in-Err.fault _ _ start _ _ sim.sound sim.spread lost (i.so_far start so_far)
+    let lost = turn-as (Err c.in_err-conclusion.field-0.0) _ _ _ _ _ _ _ _ i.project i.spread c.in_err-conclusion.ensures.gives in
+    λ start so_far. turn-lost _ _ c.in_err-conclusion.field-0.0 _ _ start _ _ sim.sound sim.spread lost (i.so_far start so_far))
 
 pub loop-conclusion-preserved : goal.loop-conclusion-preserved
 loop-conclusion-preserved g c =
     let i = c.loop-conclusion.invariant in
     let sim = c.project-project.ensures.is_sim in
     let did = turn-as (Ok None) _ _ _ _ _ _ _ _ i.project i.spread
-    (rw c.in-Ok-None.field-0-is at c.in-Ok-None.ensures.gives) in
+    (rw c.in_default.is at c.in_ok-conclusion.ensures.gives) in
     record {
       project = c.take_record.ensures.project ∙ i.project;
       settings = c.take_record.ensures.settings ∙ i.settings;
@@ -50,4 +52,4 @@ pub loop-conclusion-smaller : goal.loop-conclusion-smaller
 loop-conclusion-smaller g c =
     let i = c.loop-conclusion.invariant in
     let did = turn-as (Ok None) _ _ _ _ _ _ _ _ i.project i.spread
-    (rw c.in-Ok-None.field-0-is at c.in-Ok-None.ensures.gives) in did.fewer
+    (rw c.in_default.is at c.in_ok-conclusion.ensures.gives) in did.fewer

@@ -1,4 +1,5 @@
 -- The first lines, the records, and the last line.
+use Rattle.std.proofs.lemmas.Result.{err_from_is_err_and}
 use Rattle.std.proofs.Common.{sym, subst, ap, ◌∙◌, refl}
 use Rattle.hyd_cert.specs.ReaderView.{IsGoing}
 use Rattle.hyd_cert.specs.declared.answers_of_reader.Stand.{Stand}
@@ -26,38 +27,39 @@ take_records-requires g c = record {
   header = c.requires.header;
   going = record {
     going = subst (λ (s : Stand). IsGoing s) (sym c.requires.reader) tt;
-    pen = c.in-Ok.ensures.unbroken;
+    pen = c.in_ok-begin_check.ensures.unbroken;
   };
 }
 
 pub end_check-requires : goal.end_check-requires
 end_check-requires g c =
-    let own = c.project-in-Ok-take_records.ensures in
+    let own = c.project-in-Ok.ensures in
     record {
       sound = sound-there _ own.is_sim _ _ own.project refl;
-      unbroken = c.in-Ok-take_records.ensures.unbroken;
+      unbroken = c.in-Ok.ensures.unbroken;
     }
+
+pub returns-in_err-begin_check-clause-puts : goal.returns-in_err-begin_check-clause-puts
+returns-in_err-begin_check-clause-puts g c =
+    let p = err_from_is_err_and c.from_residual.result c.from_residual.ensures.1 in
+    rw (p.1, p.2) (begun-short _ _ _ _ c.in_err-begin_check.field-0.0 _ _ c.project.ensures.project
+    (c.spread.ensures ∙ ap (λ (n : SpreadNetsView). n.spread) c.nets.ensures)
+    (c.in_err-begin_check.ensures.begins c.args.reader.now c.requires.reader c.requires.line))
 
 pub returns-in-Err-clause-puts : goal.returns-in-Err-clause-puts
 returns-in-Err-clause-puts g c =
-    begun-short _ _ _ _ c.in-Err.fault _ _ c.project.ensures.project
-    (c.spread.ensures ∙ ap (λ (n : SpreadNetsView). n.spread) c.nets.ensures)
-    (c.in-Err.ensures.begins c.args.reader.now c.requires.reader c.requires.line)
-
-pub returns-in-Err-take_records-clause-puts : goal.returns-in-Err-take_records-clause-puts
-returns-in-Err-take_records-clause-puts g c =
-    c.in-Err-take_records.ensures.give _ (begun-at _ _ _ _ _ _ _ c.project.ensures.project
+    c.in-Err.ensures.give _ (begun-at _ _ _ _ _ _ _ c.project.ensures.project
     (c.spread.ensures ∙ ap (λ (n : SpreadNetsView). n.spread) c.nets.ensures) (sym c.requires.start)
-    (c.in-Ok.ensures.begins c.args.reader.now c.requires.reader c.requires.line))
+    (c.in_ok-begin_check.ensures.begins c.args.reader.now c.requires.reader c.requires.line))
 
-pub returns-in-Ok-take_records-clause-puts : goal.returns-in-Ok-take_records-clause-puts
-returns-in-Ok-take_records-clause-puts g c =
+pub returns-in-Ok-clause-puts : goal.returns-in-Ok-clause-puts
+returns-in-Ok-clause-puts g c =
     let sim = c.args.sim.now in
     let begun = begun-at _ _ _ _ _ _ _ c.project.ensures.project
     (c.spread.ensures ∙ ap (λ (n : SpreadNetsView). n.spread) c.nets.ensures) (sym c.requires.start)
-    (c.in-Ok.ensures.begins c.args.reader.now c.requires.reader c.requires.line) in
-    let same = c.project-in-Ok-take_records.ensures.project ∙ c.take_records.ensures.project in
-    ended-as _ _ sim.nets.spread c.in-Ok-take_records.conclusion (standing_of c.take_records.new.sim) _ _ _ _ same
+    (c.in_ok-begin_check.ensures.begins c.args.reader.now c.requires.reader c.requires.line) in
+    let same = c.project-in-Ok.ensures.project ∙ c.take_records.ensures.project in
+    ended-as _ _ sim.nets.spread c.in-Ok.conclusion (standing_of c.take_records.new.sim) _ _ _ _ same
     (λ start read. c.end_check.ensures sim.nets.spread (standing_of c.take_records.new.sim) start
     c.take_records.new.reader (spread-there sim c.project.ensures.is_sim _ sim.nets.spread same refl)
-    (sym c.number.ensures) read) (c.in-Ok-take_records.ensures.give _ begun)
+    (sym c.number.ensures) read) (c.in-Ok.ensures.give _ begun)

@@ -13,8 +13,8 @@ use Rattle.hyd_check_command.proofs.CheckLemmas.{prints_since, refused_prints_si
 use Rattle.hyd_check_command.proofs.CheckLemmas.{untouched_prints, ended_leaves, ended_refused, ended_not_refused}
 use Rattle.hyd_spread_command.specs.SpreadChecks.{LeavesCertOver}
 use Rattle.hyd_spread_command.specs.SpreadOrders.{AnswersSpreadCert}
-use Rattle.hyd_spread_command.proofs.SpreadTextLemmas.{net-answers, cert-leaves-over, check-leaves-over, refusal-ends}
-use Rattle.hyd_spread_command.proofs.SpreadTextLemmas.{ended-at-net, ended-check}
+use Rattle.hyd_spread_files.proofs.RefusalLemmas.{ended-at-net, refusal-ends}
+use Rattle.hyd_spread_command.proofs.SpreadTextLemmas.{net-answers, cert-leaves-over, check-leaves-over, ended-check}
 use Rattle.hyd_spread_command.proofs.check_command.check_for_spread.Goals as goal
 
 -- ---- a network was read

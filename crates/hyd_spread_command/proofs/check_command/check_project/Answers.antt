@@ -7,12 +7,12 @@ use Rattle.hyd_command_answers.proofs.AnswerLemmas.{since_before}
 use Rattle.hyd_check_command.specs.CheckAnswers.{AnswersCert}
 use Rattle.hyd_check_command.specs.OpenCheckAnswers.{AnswersOpenCert}
 use Rattle.hyd_check_command.proofs.CheckLemmas.{prints_since, untouched_prints, leaves_since, check_never_refused}
-use Rattle.hyd_spread_command.specs.RefusedSpreads.{AnswersSpreadRefused}
-use Rattle.hyd_spread_command.specs.SpreadFiles.{IsNoSpread}
+use Rattle.hyd_spread_files.specs.RefusedSpreads.{AnswersSpreadRefused}
+use Rattle.hyd_spread_files.specs.SpreadFiles.{IsNoSpread}
 use Rattle.hyd_spread_command.specs.SpreadChecks.{LeavesCertOver, refuses}
-use Rattle.hyd_spread_command.proofs.SpreadCheckLemmas.{refusal_prints, refusal_leaves_cert, cert_leaves}
-use Rattle.hyd_spread_command.proofs.SpreadTextLemmas.{long-is-some, refuses-long, never-memory, cert-by-text}
-use Rattle.hyd_spread_command.proofs.SpreadTextLemmas.{memory-untouched}
+use Rattle.hyd_spread_files.proofs.RefusalLemmas.{long-is-some, never-memory, refusal_prints, refuses-long}
+use Rattle.hyd_spread_command.proofs.SpreadCheckLemmas.{refusal_leaves_cert, cert_leaves}
+use Rattle.hyd_spread_command.proofs.SpreadTextLemmas.{cert-by-text, memory-untouched}
 use Rattle.hyd_spread_command.proofs.check_command.check_project.Goals as goal
 
 -- ---- no spread

@@ -3,8 +3,8 @@ use Rattle.std.proofs.Common.{◌∙◌, subst}
 use Rattle.hyd_spec.specs.ProgramTypes.{Project}
 use Rattle.hyd_spread_networks.specs.NetsOfSpreads.{AreNetsOf}
 use Rattle.hyd_spread_rows.specs.SpreadsRead.{IfFault}
-use Rattle.hyd_spread_command.specs.RefusedSpreads.{IsSpreadFault}
-use Rattle.hyd_spread_command.proofs.OpenedRuns.{gives}
+use Rattle.hyd_spread_files.specs.RefusedSpreads.{IsSpreadFault}
+use Rattle.hyd_spread_files.proofs.OpenedRuns.{gives}
 use Rattle.hyd_spread_command.proofs.opened_run.open_run.Goals as goal
 
 pub returns-in-Ok-clause-gives : goal.returns-in-Ok-clause-gives

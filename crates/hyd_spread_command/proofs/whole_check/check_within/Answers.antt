@@ -5,7 +5,8 @@ use Rattle.hyd_spec_spread.specs.Spreads.{Spread}
 use Rattle.hyd_command_answers.specs.DeskContents.{seen}
 use Rattle.hyd_check_command.proofs.CheckLemmas.{check_never_refused}
 use Rattle.hyd_spread_command.specs.SpreadChecks.{AnswersCertOver, checks}
-use Rattle.hyd_spread_command.proofs.SpreadCheckLemmas.{refusal_prints, refusal_leaves_cert}
+use Rattle.hyd_spread_files.proofs.RefusalLemmas.{refusal_prints}
+use Rattle.hyd_spread_command.proofs.SpreadCheckLemmas.{refusal_leaves_cert}
 use Rattle.hyd_spread_command.proofs.whole_check.check_within.Goals as goal
 
 pub returns-in-Ok-clause-answers : goal.returns-in-Ok-clause-answers

@@ -3,7 +3,7 @@ use Rattle.std.proofs.Common.{◌∙◌, ap, refl}
 use Rattle.hyd_spec_spread_rows.specs.TextsOfSpreads.{spread_in}
 use Rattle.hyd_spread_check.specs.PassedOn.{asked_of}
 use Rattle.hyd_command_answers.specs.DeskContents.{seen}
-use Rattle.hyd_spread_command.specs.RefusedSpreads.{IsSpreadFault, AnswersSpreadRefused}
+use Rattle.hyd_spread_files.specs.RefusedSpreads.{IsSpreadFault, AnswersSpreadRefused}
 use Rattle.hyd_spread_command.specs.SpreadAnswers.{refuses, runs, lacks_memory}
 use Rattle.hyd_spread_command.proofs.SpreadLemmas.{run_of}
 use Rattle.hyd_spread_command.proofs.whole_run.run_within.Goals as goal

@@ -1,4 +1,5 @@
 -- One line more, or a line that is cut off.
+use Rattle.std.proofs.lemmas.Result.{err_from_is_err_and}
 use Rattle.std.proofs.Common.{◌<◌, ◌∙◌, ap, length, arith}
 use Rattle.std.proofs.lemmas.List.{length-map}
 use Rattle.hyd_spec_certificates.specs.declared.Problem.TheVariants.{Main}
@@ -10,9 +11,10 @@ use Rattle.hyd_report.specs.NodeAndLinkLines.{link_line}
 use Rattle.hyd_report.proofs.LoopLemmas.{line_put, line_cut_off}
 use Rattle.hyd_spread_report.proofs.links.put_links.Goals as goal
 
-pub returns-in-Err : goal.returns-in-Err
-returns-in-Err g c =
-    let pair = pair_of c.args.upper.now c.args.lower.now in
+pub returns-in_err-put_link : goal.returns-in_err-put_link
+returns-in_err-put_link g c =
+    let p = err_from_is_err_and c.from_residual.result c.from_residual.ensures.1 in
+    rw (p.1, p.2) (let pair = pair_of c.args.upper.now c.args.lower.now in
     let line = link_line c.args.project.now (spanned pair) (all_below pair Main c.args.low.now)
     (all_above pair Main c.args.high.now) (states_of c.args.upper.now) in
     let within : c.loop-l.l < length c.args.project.now.links.list = omega (
@@ -22,7 +24,7 @@ returns-in-Err g c =
           ∙ length-map c.args.project.now.links.list ends_of,
     ) in
     line_cut_off c.args.project.now line c.args.project.now.links.list
-    c.loop-l.l _ _ _ _ _ _ c.in-Err.fault within c.loop-l.invariant c.in-Err.ensures
+    c.loop-l.l _ _ _ _ _ _ c.in_err-put_link.field-0.0 within c.loop-l.invariant c.in_err-put_link.ensures)
 
 pub loop-l-preserved : goal.loop-l-preserved
 loop-l-preserved g c =
@@ -36,4 +38,4 @@ loop-l-preserved g c =
           ∙ length-map c.args.project.now.links.list ends_of,
     ) in
     line_put c.args.project.now line c.args.project.now.links.list
-    c.loop-l.l _ _ _ _ _ _ within c.loop-l.invariant c.in-Ok.ensures
+    c.loop-l.l _ _ _ _ _ _ within c.loop-l.invariant c.in_ok-put_link.ensures

@@ -1,4 +1,5 @@
 -- One part after another.
+use Rattle.std.proofs.lemmas.Result.{err_from_is_err_and}
 use Rattle.std.proofs.Common.{◌++◌, ℤ, pos, List, sym, subst}
 use Rattle.hyd_spec.specs.Lists.{map_from}
 use Rattle.hyd_spec_certificates.specs.PeriodNetwork.{fixed_heads}
@@ -29,27 +30,30 @@ put_junctions-requires-clause-ordered g c =
     (fixed_heads (spanned pair) Main Lower) (fixed_heads (spanned pair) Main Upper) alike.0 alike.1 bounds.ordered))
 
 pub put_junctions-requires-clause-ready : goal.put_junctions-requires-clause-ready
-put_junctions-requires-clause-ready g c = puts_ready _ _ _ _ _ _ (c.in-Ok.ensures c.args.project.now) c.requires.ready
+put_junctions-requires-clause-ready g c = puts_ready _ _ _ _ _ _ (c.in_ok-put_time.ensures c.args.project.now) c.requires.ready
 
 pub put_junctions-requires-clause-unbroken : goal.put_junctions-requires-clause-unbroken
-put_junctions-requires-clause-unbroken g c = (c.in-Ok.ensures c.args.project.now).no_fault
+put_junctions-requires-clause-unbroken g c = (c.in_ok-put_time.ensures c.args.project.now).no_fault
 
 pub put_reservoirs-requires-clause-ready : goal.put_reservoirs-requires-clause-ready
 put_reservoirs-requires-clause-ready g c =
-    puts_ready _ _ _ _ _ _ c.in-Ok-put_junctions.ensures (puts_ready _ _ _ _ _ _
-    (c.in-Ok.ensures c.args.project.now) c.requires.ready)
+    puts_ready _ _ _ _ _ _ c.in_ok-put_junctions.ensures (puts_ready _ _ _ _ _ _
+    (c.in_ok-put_time.ensures c.args.project.now) c.requires.ready)
 
 pub put_tanks_and_links-requires-clause-ready : goal.put_tanks_and_links-requires-clause-ready
 put_tanks_and_links-requires-clause-ready g c =
-    puts_ready _ _ _ _ _ _ c.in-Ok-put_reservoirs.ensures (puts_ready _ _ _ _ _ _ c.in-Ok-put_junctions.ensures
-    (puts_ready _ _ _ _ _ _ (c.in-Ok.ensures c.args.project.now) c.requires.ready))
+    puts_ready _ _ _ _ _ _ c.in_ok-put_reservoirs.ensures (puts_ready _ _ _ _ _ _ c.in_ok-put_junctions.ensures
+    (puts_ready _ _ _ _ _ _ (c.in_ok-put_time.ensures c.args.project.now) c.requires.ready))
 
-pub returns-in-Err : goal.returns-in-Err
-returns-in-Err g c = puts_cut_off _ _ c.in-Err.fault _ _ _ _ (c.in-Err.ensures c.args.project.now)
+pub returns-in_err-put_time : goal.returns-in_err-put_time
+returns-in_err-put_time g c =
+    let p = err_from_is_err_and c.from_residual.result c.from_residual.ensures.1 in
+    rw (p.1, p.2) (puts_cut_off _ _ c.in_err-put_time.field-0.0 _ _ _ _ (c.in_err-put_time.ensures c.args.project.now))
 
-pub returns-in-Err-put_junctions : goal.returns-in-Err-put_junctions
-returns-in-Err-put_junctions g c =
-    let project = c.args.project.now in
+pub returns-in_err-put_junctions : goal.returns-in_err-put_junctions
+returns-in_err-put_junctions g c =
+    let p = err_from_is_err_and c.from_residual-in_err-put_junctions.result c.from_residual-in_err-put_junctions.ensures.1 in
+    rw (p.1, p.2) (let project = c.args.project.now in
     let row = row_of c.args.row.now in
     let pair = pair_of c.args.upper.now c.args.lower.now in
     let reservoirs = map_from (reservoir_line_over project pair) 0 pair.upper.reservoirs in
@@ -59,13 +63,14 @@ returns-in-Err-put_junctions g c =
     (state_text project pair (TimeLine c.args.facts.now.time) c.vector-low.result.now row.main.lower
     c.vector-high.result.now row.main.upper pair.upper.junctions reservoirs rest c.vector-low.ensures
     c.vector-high.ensures)
-    (puts_then _ _ _ _ _ _ _ _ _ (c.in-Ok.ensures project)
-    (puts_cut_off _ (texts project reservoirs ++ texts project rest) c.in-Err-put_junctions.fault _ _ _ _
-    c.in-Err-put_junctions.ensures))
+    (puts_then _ _ _ _ _ _ _ _ _ (c.in_ok-put_time.ensures project)
+    (puts_cut_off _ (texts project reservoirs ++ texts project rest) c.in_err-put_junctions.field-0.0 _ _ _ _
+    c.in_err-put_junctions.ensures)))
 
-pub returns-in-Err-put_reservoirs : goal.returns-in-Err-put_reservoirs
-returns-in-Err-put_reservoirs g c =
-    let project = c.args.project.now in
+pub returns-in_err-put_reservoirs : goal.returns-in_err-put_reservoirs
+returns-in_err-put_reservoirs g c =
+    let p = err_from_is_err_and c.from_residual-in_err-put_reservoirs.result c.from_residual-in_err-put_reservoirs.ensures.1 in
+    rw (p.1, p.2) (let project = c.args.project.now in
     let row = row_of c.args.row.now in
     let pair = pair_of c.args.upper.now c.args.lower.now in
     let reservoirs = map_from (reservoir_line_over project pair) 0 pair.upper.reservoirs in
@@ -75,9 +80,9 @@ returns-in-Err-put_reservoirs g c =
     (state_text project pair (TimeLine c.args.facts.now.time) c.vector-low.result.now row.main.lower
     c.vector-high.result.now row.main.upper pair.upper.junctions reservoirs rest c.vector-low.ensures
     c.vector-high.ensures)
-    (puts_then _ _ _ _ _ _ _ _ _ (c.in-Ok.ensures project)
-    (puts_then _ _ _ _ _ _ _ _ _ c.in-Ok-put_junctions.ensures
-    (puts_cut_off _ (texts project rest) c.in-Err-put_reservoirs.fault _ _ _ _ c.in-Err-put_reservoirs.ensures)))
+    (puts_then _ _ _ _ _ _ _ _ _ (c.in_ok-put_time.ensures project)
+    (puts_then _ _ _ _ _ _ _ _ _ c.in_ok-put_junctions.ensures
+    (puts_cut_off _ (texts project rest) c.in_err-put_reservoirs.field-0.0 _ _ _ _ c.in_err-put_reservoirs.ensures))))
 
 pub returns : goal.returns
 returns g c =
@@ -91,6 +96,6 @@ returns g c =
     (state_text project pair (TimeLine c.args.facts.now.time) c.vector-low.result.now row.main.lower
     c.vector-high.result.now row.main.upper pair.upper.junctions reservoirs rest c.vector-low.ensures
     c.vector-high.ensures)
-    (puts_then _ _ _ _ _ _ _ _ _ (c.in-Ok.ensures project)
-    (puts_then _ _ _ _ _ _ _ _ _ c.in-Ok-put_junctions.ensures
-    (puts_then _ _ _ _ _ _ _ _ _ c.in-Ok-put_reservoirs.ensures c.put_tanks_and_links.ensures)))
+    (puts_then _ _ _ _ _ _ _ _ _ (c.in_ok-put_time.ensures project)
+    (puts_then _ _ _ _ _ _ _ _ _ c.in_ok-put_junctions.ensures
+    (puts_then _ _ _ _ _ _ _ _ _ c.in_ok-put_reservoirs.ensures c.put_tanks_and_links.ensures)))

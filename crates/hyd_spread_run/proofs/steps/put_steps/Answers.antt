@@ -1,4 +1,5 @@
 -- One step after another.
+use Rattle.std.proofs.lemmas.Result.{err_from_is_err_and}
 use Rattle.std.proofs.Common.{◌∙◌, ap, sym}
 use Rattle.std.specs.Prelude.{Ok, Err, Some, None}
 use Rattle.hyd_spec_spread_reports.specs.TextsOfSpreadReports.{says_nothing}
@@ -7,25 +8,26 @@ use Rattle.hyd_spread_run_so_far.proofs.SpreadRunLemmas.{so-far-more, so-far-cut
 use Rattle.hyd_spread_run_so_far.proofs.WholeSpreadRunLemmas.{steps-over}
 use Rattle.hyd_spread_run.proofs.steps.put_steps.Goals as goal
 
-pub returns-in-Ok-Some-clause-puts : goal.returns-in-Ok-Some-clause-puts
-returns-in-Ok-Some-clause-puts g c =
+pub returns-in-Some-clause-puts : goal.returns-in-Some-clause-puts
+returns-in-Some-clause-puts g c =
     let i = c.loop-end.invariant in
-    let over = steps-as (Ok (Some c.in-Ok-Some.end)) _ _ _ _ _ _ _ _ _ _ i.project i.settings i.spread
-    (rw c.in-Ok-Some.field-0-is at c.in-Ok-Some.ensures.puts) in
+    let over = steps-as (Ok (Some c.in-Some.end)) _ _ _ _ _ _ _ _ _ _ i.project i.settings i.spread
+    (rw c.in-Some.is at c.in_ok-end.ensures.puts) in
     (over.end, λ start so_far. steps-over _ _ _ _ _ start _ _ over (i.so_far start so_far))
 
-pub returns-in-Err-clause-puts : goal.returns-in-Err-clause-puts
-returns-in-Err-clause-puts g c =
-    let i = c.loop-end.invariant in
-    let lost = steps-as (Err c.in-Err.fault) _ _ _ _ _ _ _ _ _ _ i.project i.settings i.spread
-    c.in-Err.ensures.puts in
-    λ start so_far. so-far-cut-off _ _ c.in-Err.fault _ _ start _ _ lost (i.so_far start so_far)
+pub returns-in_err-end-clause-puts : goal.returns-in_err-end-clause-puts
+returns-in_err-end-clause-puts g c =
+    let p = err_from_is_err_and c.from_residual.result c.from_residual.ensures.1 in
+    rw (p.1, p.2) (let i = c.loop-end.invariant in
+    let lost = steps-as (Err c.in_err-end.field-0.0) _ _ _ _ _ _ _ _ _ _ i.project i.settings i.spread
+    c.in_err-end.ensures.puts in
+    λ start so_far. so-far-cut-off _ _ c.in_err-end.field-0.0 _ _ start _ _ lost (i.so_far start so_far))
 
 pub loop-end-preserved : goal.loop-end-preserved
 loop-end-preserved g c =
     let i = c.loop-end.invariant in
     let did = steps-as (Ok None) _ _ _ _ _ _ _ _ _ _ i.project i.settings i.spread
-    (rw c.in-Ok-None.field-0-is at c.in-Ok-None.ensures.puts) in
+    (rw c.in_default.is at c.in_ok-end.ensures.puts) in
     record {
       project = c.put_step.ensures.project ∙ i.project;
       settings = c.put_step.ensures.settings ∙ i.settings;
@@ -40,4 +42,4 @@ pub loop-end-smaller : goal.loop-end-smaller
 loop-end-smaller g c =
     let i = c.loop-end.invariant in
     let did = steps-as (Ok None) _ _ _ _ _ _ _ _ _ _ i.project i.settings i.spread
-    (rw c.in-Ok-None.field-0-is at c.in-Ok-None.ensures.puts) in did.1
+    (rw c.in_default.is at c.in_ok-end.ensures.puts) in did.1

@@ -1,4 +1,5 @@
 -- The header, and then the first lines.
+use Rattle.std.proofs.lemmas.Result.{err_from_is_err_and}
 use Rattle.std.proofs.Common.{subst, sym}
 use Rattle.std.specs.Prelude.{IsTrue}
 use Rattle.hyd_run.proofs.PenLemmas.{on_any, both-put-in-order, cut-off-in-order}
@@ -9,11 +10,13 @@ put_open_header-requires g c = on_any _ _ c.requires.unbroken.ready
 
 pub put_first_lines-requires-clause-ready : goal.put_first_lines-requires-clause-ready
 put_first_lines-requires-clause-ready g c =
-    on_any _ _ (subst IsTrue (sym c.in-Ok.ensures.ready_stays) c.requires.unbroken.ready)
+    on_any _ _ (subst IsTrue (sym c.in_ok-put_open_header.ensures.ready_stays) c.requires.unbroken.ready)
 
-pub returns-in-Err : goal.returns-in-Err
-returns-in-Err g c = cut-off-in-order _ _ c.in-Err.fault _ _ _ _ _ c.requires.unbroken c.in-Err.ensures
+pub returns-in_err-put_open_header : goal.returns-in_err-put_open_header
+returns-in_err-put_open_header g c =
+    let p = err_from_is_err_and c.from_residual.result c.from_residual.ensures.1 in
+    rw (p.1, p.2) (cut-off-in-order _ _ c.in_err-put_open_header.field-0.0 _ _ _ _ _ c.requires.unbroken c.in_err-put_open_header.ensures)
 
 pub returns : goal.returns
 returns g c =
-    both-put-in-order _ _ _ _ _ _ _ _ _ _ c.requires.unbroken c.in-Ok.ensures c.put_first_lines.ensures
+    both-put-in-order _ _ _ _ _ _ _ _ _ _ c.requires.unbroken c.in_ok-put_open_header.ensures c.put_first_lines.ensures

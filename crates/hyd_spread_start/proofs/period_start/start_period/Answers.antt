@@ -10,6 +10,7 @@ use Rattle.hyd_open_sim_start.specs.StandingsOfOpenRuns.{known_for, standing_for
 use Rattle.hyd_sim.specs.NarrowRecordsAndStops.{SaysNone}
 use Rattle.hyd_sim.proofs.LevelsInOrderAtStart.{levels-there}
 use Rattle.hyd_spread_networks.specs.NetsOfSpreads.{pair_of}
+use Rattle.hyd_spread_networks.proofs.NetsOfBothSides.{pair_at}
 use Rattle.hyd_spread_start.proofs.DemandsOver.{no-demand-over, pair-order}
 use Rattle.hyd_spread_start.proofs.period_start.start_period.Goals as goal
 
@@ -28,7 +29,8 @@ returns-in-Ok-clause-started c =
     let here = c.args.standing.now in
     let own : c.begin.new.links ≡ c.begin.new.facts.links.list = sym c.begin.ensures.links in
     let pair : ArePairAt project c.args.nets.now.spread (known_for here) (pair_of c.set_period.new.self) =
-    c.in-Ok.ensures.pair (known_for here) (record {
+    pair_at project c.args.nets.now.spread c.set_period.new.self here.time (map levels_of c.as_slice.result.now)
+    c.as_slice-2.result.now c.begin.new.links c.in-Ok.ensures.grids (known_for here) (record {
       time_is = refl;
       links_are = sym (own ∙ c.begin.ensures.begun.links);
       levels_are = ap (map levels_of) (sym c.as_slice.ensures);

@@ -9,4 +9,4 @@ pub returns-in-None-clause-answers : goal.returns-in-None-clause-answers
 returns-in-None-clause-answers g c =
     let words = c.args.words.now in
     refusal_fires c.args.project.now words.junction.now (target_in c.args.project.now words.pressure.nano) words.rounds
-    c.refuse_text.result _ _ _ _ c.in-None.ensures.none c.refuse_text.ensures.answers c.refuse_text.ensures.opens
+    c.refuse_name.result _ _ _ _ c.in-None.ensures.none c.refuse_name.ensures.answers c.refuse_name.ensures.opens

@@ -6,6 +6,7 @@ use Rattle.hyd_period_network.specs.NetView.{NetView}
 use Rattle.hyd_period_network.specs.NetAsPeriodNetwork.{grid_of}
 use Rattle.hyd_spec.specs.DemandsHeadsAndPumpLifts.{is_us}
 use Rattle.hyd_lemmas.proofs.ListsOptionsAndResults.{item_there}
+use Rattle.hyd_spec_spread_targets.proofs.OneGridOnBothSides.{bracket-alone}
 use Rattle.hyd_theorems_on_pressure_targets.proofs.EdgesHold.{edge-enough, edge-too-much}
 use Rattle.hyd_targets.specs.Inquiries.{target_for}
 use Rattle.hyd_targets.proofs.TargetsOfJunctions.{net-long, den-some}
@@ -13,13 +14,13 @@ use Rattle.hyd_targets.proofs.bracket.put_bracket.Goals as goal
 
 pub available-bracket-requires-clause-one_each : goal.available-bracket-requires-clause-one_each
 available-bracket-requires-clause-one_each g c =
-    c.requires.open.study ∙ sym (ap (λ (n : NetView). length n.junctions) c.net.ensures
+    c.requires.open.study ∙ sym (ap (λ (n : NetView). length n.junctions) c.net-net.ensures
     ∙ net-long c.args.project.now c.args.inquiry.now.first.net c.requires.open.ready.of)
 
 pub available-bracket-requires-clause-inside : goal.available-bracket-requires-clause-inside
 available-bracket-requires-clause-inside g c =
     let inside = c.requires.inside in
-    let long = ap (λ (n : NetView). length n.junctions) c.net.ensures
+    let long = ap (λ (n : NetView). length n.junctions) c.net-net.ensures
     ∙ net-long c.args.project.now c.args.inquiry.now.first.net c.requires.open.ready.of in
     omega (arith, inside, long)
 
@@ -32,11 +33,12 @@ returns g c name named =
     let j = c.args.junction in
     let here = item_there project.junctions.list j c.requires.inside in
     let same = c.target-target.ensures.value here.0 here.1 in
-    let grid = grid_of c.net.result.now in
+    let grid = grid_of c.net-net.result.now in
     let is : IsFirstGrid project grid =
-    subst (λ (n : NetView). IsFirstGrid project (grid_of n)) (sym c.net.ensures) c.requires.grid in
+    subst (λ (n : NetView). IsFirstGrid project (grid_of n)) (sym c.net-net.ensures) c.requires.grid in
     let bracket = subst (λ (t : LevelSpan). IsBracket grid j t.lo t.hi c.args.rounds c.available-bracket.result) same
-    c.available-bracket.ensures.bracket in (
+    ((bracket-alone grid j c.target-target.result.lo c.target-target.result.hi c.args.rounds
+    c.available-bracket.result).0 c.available-bracket.ensures.bracket) in (
       c.put_fire.ensures.0,
       (
         record {

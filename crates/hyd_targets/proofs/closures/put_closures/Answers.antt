@@ -1,3 +1,4 @@
+use Rattle.std.proofs.lemmas.Result.{err_from_is_err_and}
 use Rattle.std.proofs.Common.{◌∙◌, ◌++◌, ◌∷◌, [], ℕ, ◌+◌, sym, ap, subst, refl, arith, append-nil, true, false}
 use Rattle.std.proofs.Common.{length, take, List}
 use Rattle.std.proofs.lemmas.List.{length-append, take_all}
@@ -16,7 +17,7 @@ use Rattle.hyd_targets.specs.Inquiries.{IsOpen, target_for}
 use Rattle.hyd_targets.specs.ClosuresPutOut.{pipes_among}
 use Rattle.hyd_targets.proofs.ClosuresOfPipes.{zipped-more, zipped-long, zipped-pipes, pipe-more, no-pipe-more}
 use Rattle.hyd_targets.proofs.ClosuresOfPipes.{still-closure, on-ok-so, if-err-so}
-use Rattle.hyd_targets.proofs.closures.put_closures.Goals.{then-is_pipe+in-Ok, else-is_pipe}
+use Rattle.hyd_targets.proofs.closures.put_closures.Goals.{then-is_pipe+in_ok-put_closure, else-is_pipe}
 use Rattle.hyd_targets.proofs.closures.put_closures.Goals as goal
 
 pub loop-link-init : goal.loop-link-init
@@ -27,15 +28,16 @@ loop-link-init g c = record {
   most = omega arith;
 }
 
-pub returns-in-Err-clause-cut_off : goal.returns-in-Err-clause-cut_off
-returns-in-Err-clause-cut_off g c =
-    let project = c.args.project.now in
+pub returns-in_err-put_closure-clause-cut_off : goal.returns-in_err-put_closure-clause-cut_off
+returns-in_err-put_closure-clause-cut_off g c =
+    let p = err_from_is_err_and c.from_residual.result c.from_residual.ensures.1 in
+    rw (p.1, p.2) (let project = c.args.project.now in
     let target = target_for project c.args.inquiry.now in
     let rounds = c.args.rounds in
     let links = c.as_slice-links.result.now in
     let i = c.loop-link.link in
     let so = c.loop-link.invariant.so_far in
-    let one = c.in-Err.ensures.puts in
+    let one = c.in_err-put_closure.ensures.puts in
     let closures = so.0 ++ (one.0 ∷ []) in
     let closure = still-closure project c.loop-link.inquiry c.args.inquiry.now rounds i one.0
     c.loop-link.invariant.pressure one.1.0 in
@@ -52,7 +54,7 @@ returns-in-Err-clause-cut_off g c =
         puts_same _ _ _ _ _ _ _ (sym (join-more (closure_text project) so.0 one.0) ∙ sym (append-nil _))
             (puts_then _ _ _ _ _ _ _ _ _ so.1.1.1 one.1.1),
       ),
-    )
+    ))
 
 pub loop-link-preserved : goal.loop-link-preserved
 loop-link-preserved g c =
@@ -64,8 +66,8 @@ loop-link-preserved g c =
     let so = c.loop-link.invariant.so_far in
     let most = c.loop-link.invariant.most in
     elim c.if-is_pipe.branch [
-      | then-is_pipe+in-Ok w ↦
-          let one = w.in-Ok.ensures.puts in
+      | then-is_pipe+in_ok-put_closure w ↦
+          let one = w.in_ok-put_closure.ensures.puts in
           let closures = so.0 ++ (one.0 ∷ []) in
           let closure = still-closure project c.loop-link.inquiry c.args.inquiry.now rounds i one.0
           c.loop-link.invariant.pressure one.1.0 in
@@ -87,16 +89,16 @@ loop-link-preserved g c =
                       g.D.Desk.target g.D.Desk.ready g.D.Desk.counts g.D.Desk.openings
                       (joined (map (closure_text project) closures)) (Ok tt) c.args.pen.now pen c.args.desk.now
                       c.if-is_pipe.desk) (sym w.pen-is)
-                      (subst (λ (desk : g.row.D.Denot). Puts g.D.Desk.files g.D.Desk.rest g.D.Desk.written g.D.Desk.printed
-                      g.D.Desk.target g.D.Desk.ready g.D.Desk.counts g.D.Desk.openings
+                      (subst (λ (desk : g.row.D.Denot). Puts g.D.Desk.files g.D.Desk.rest g.D.Desk.written
+                      g.D.Desk.printed g.D.Desk.target g.D.Desk.ready g.D.Desk.counts g.D.Desk.openings
                       (joined (map (closure_text project) closures)) (Ok tt) c.args.pen.now w.put_closure.new.pen
                       c.args.desk.now desk) (sym w.desk-is) puts),
                 ),
               ),
             );
-            open_still = subst (IsOpen project) (sym w.inquiry-is) w.in-Ok.ensures.open;
+            open_still = subst (IsOpen project) (sym w.inquiry-is) w.in_ok-put_closure.ensures.open;
             pressure = ap (λ (inquiry : Inquiry). inquiry.pressure) w.inquiry-is
-                ∙ (w.in-Ok.ensures.pressure ∙ c.loop-link.invariant.pressure);
+                ∙ (w.in_ok-put_closure.ensures.pressure ∙ c.loop-link.invariant.pressure);
             most = omega (arith, counted, most);
           }
       | else-is_pipe w ↦

@@ -1,4 +1,5 @@
 -- The line that was put in at a new pen.
+use Rattle.std.proofs.lemmas.Result.{err_from_is_err_and}
 use Rattle.hyd_io.specs.Output.{PenState}
 use Rattle.std.proofs.Common.{ap, ◌∙◌}
 use Rattle.hyd_target_commands.proofs.TextsPrinted.{whole-of-flush, front-of-flush, cause-of-flush, steady-by-flush}
@@ -7,30 +8,34 @@ use Rattle.hyd_witness_commands.proofs.answer.print_finding.Goals as goal
 
 -- ---- the put failed
 
-pub returns-in-Err-clause-front : goal.returns-in-Err-clause-front
-returns-in-Err-clause-front g c = front-of-put _ _ _ _ _ c.new-pen.ensures c.in-Err.fault c.in-Err.ensures
+pub returns-in_err-put_finding-clause-front : goal.returns-in_err-put_finding-clause-front
+returns-in_err-put_finding-clause-front g c =
+    let p = err_from_is_err_and c.from_residual.result c.from_residual.ensures.1 in
+    rw p.1 (front-of-put _ _ _ _ _ c.new-pen.ensures c.in_err-put_finding.field-0.0 c.in_err-put_finding.ensures)
 
-pub returns-in-Err-clause-cause : goal.returns-in-Err-clause-cause
-returns-in-Err-clause-cause g c = cause-of-put _ _ _ _ _ c.new-pen.ensures c.in-Err.fault c.in-Err.ensures
+pub returns-in_err-put_finding-clause-cause : goal.returns-in_err-put_finding-clause-cause
+returns-in_err-put_finding-clause-cause g c =
+    let p = err_from_is_err_and c.from_residual.result c.from_residual.ensures.1 in
+    rw (p.1, p.2) (cause-of-put _ _ _ _ _ c.new-pen.ensures c.in_err-put_finding.field-0.0 c.in_err-put_finding.ensures)
 
 -- ---- the pen was flushed
 
 pub returns-clause-whole : goal.returns-clause-whole
 returns-clause-whole g c =
-    whole-of-flush _ _ _ _ _ c.new-pen.ensures _ _ c.flush.result c.in-Ok.ensures c.flush.ensures
+    whole-of-flush _ _ _ _ _ c.new-pen.ensures _ _ c.flush.result c.in_ok-put_finding.ensures c.flush.ensures
 
 pub returns-clause-front : goal.returns-clause-front
 returns-clause-front g c =
-    front-of-flush _ _ _ _ _ c.new-pen.ensures _ _ c.flush.result c.in-Ok.ensures c.flush.ensures
+    front-of-flush _ _ _ _ _ c.new-pen.ensures _ _ c.flush.result c.in_ok-put_finding.ensures c.flush.ensures
 
 pub returns-clause-cause : goal.returns-clause-cause
 returns-clause-cause g c =
-    cause-of-flush _ _ _ _ _ c.new-pen.ensures _ _ c.flush.result c.in-Ok.ensures c.flush.ensures
+    cause-of-flush _ _ _ _ _ c.new-pen.ensures _ _ c.flush.result c.in_ok-put_finding.ensures c.flush.ensures
 
 pub returns-clause-steady : goal.returns-clause-steady
 returns-clause-steady g c =
-    steady-by-flush _ _ _ _ _ c.new-pen.ensures _ _ c.flush.result c.in-Ok.ensures c.flush.ensures
+    steady-by-flush _ _ _ _ _ c.new-pen.ensures _ _ c.flush.result c.in_ok-put_finding.ensures c.flush.ensures
 
 pub returns-clause-openings_stay : goal.returns-clause-openings_stay
 returns-clause-openings_stay g c =
-    openings-by-flush _ _ _ _ _ c.new-pen.ensures _ _ c.flush.result c.in-Ok.ensures c.flush.ensures
+    openings-by-flush _ _ _ _ _ c.new-pen.ensures _ _ c.flush.result c.in_ok-put_finding.ensures c.flush.ensures

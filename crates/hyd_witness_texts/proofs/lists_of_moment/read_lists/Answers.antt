@@ -1,19 +1,24 @@
+use Rattle.std.proofs.lemmas.Result.{err_from_is_err_and}
 use Rattle.hyd_io.specs.DeskBytes.{prepend_known}
 use Rattle.hyd_witness_texts.proofs.ListsRead.{was_read, counted, counted_stocks, on_err, stuck_in_heads}
 use Rattle.hyd_witness_texts.proofs.ListsRead.{stuck_in_flows, stuck_in_demands, stuck_in_emitters, stuck_in_stocks}
 use Rattle.hyd_witness_texts.proofs.lists_of_moment.read_lists.Goals as goal
 
-pub returns-in-Err-clause-fault : goal.returns-in-Err-clause-fault
-returns-in-Err-clause-fault g c = λ counts has.
-    stuck_in_heads counts (g.D.Desk.counts c.read_values.new.desk) c.in-Err.fault c.args.lines.now.line
+pub returns-in_err-read_values-clause-fault : goal.returns-in_err-read_values-clause-fault
+returns-in_err-read_values-clause-fault g c =
+    let p = err_from_is_err_and c.from_residual.result c.from_residual.ensures.1 in
+    rw (p.1, p.2) (λ counts has.
+    stuck_in_heads counts (g.D.Desk.counts c.read_values.new.desk) c.in_err-read_values.field-0.0 c.args.lines.now.line
     (prepend_known c.args.lines.now.source (g.D.Desk.rest c.args.desk.now))
     (g.D.Desk.counts c.args.desk.now) (counted 72 c.args.into.now.heads.list _ c.args.lines.now.line
     (prepend_known c.args.lines.now.source (g.D.Desk.rest c.args.desk.now)) (g.D.Desk.counts c.args.desk.now)
-    (g.D.Desk.counts c.read_values.new.desk) c.in-Err.fault has.heads c.in-Err.ensures.fault)
+    (g.D.Desk.counts c.read_values.new.desk) c.in_err-read_values.field-0.0 has.heads c.in_err-read_values.ensures.fault))
 
-pub returns-in-Err-read_values-clause-fault : goal.returns-in-Err-read_values-clause-fault
-returns-in-Err-read_values-clause-fault g c = λ counts has.
-    stuck_in_flows counts (g.D.Desk.counts c.read_values-2.new.desk) c.in-Err-read_values.fault c.args.lines.now.line
+pub returns-in_err-read_values-2-clause-fault : goal.returns-in_err-read_values-2-clause-fault
+returns-in_err-read_values-2-clause-fault g c =
+    let p = err_from_is_err_and c.from_residual-in_err-read_values-2.result c.from_residual-in_err-read_values-2.ensures.1 in
+    rw (p.1, p.2) (λ counts has.
+    stuck_in_flows counts (g.D.Desk.counts c.read_values-2.new.desk) c.in_err-read_values-2.field-0.0 c.args.lines.now.line
     c.read_values.new.lines.line
     (prepend_known c.args.lines.now.source (g.D.Desk.rest c.args.desk.now))
     (prepend_known c.read_values.new.lines.source (g.D.Desk.rest c.read_values.new.desk))
@@ -22,16 +27,18 @@ returns-in-Err-read_values-clause-fault g c = λ counts has.
     (prepend_known c.args.lines.now.source (g.D.Desk.rest c.args.desk.now))
     (prepend_known c.read_values.new.lines.source (g.D.Desk.rest c.read_values.new.desk))
     (g.D.Desk.counts c.args.desk.now) (g.D.Desk.counts c.read_values.new.desk)
-    c.args.into.now.heads.list c.read_values.new.into.list has.heads c.read_values.ensures.count c.in-Ok.ensures.fits
-    c.in-Ok.ensures.text c.in-Ok.ensures.line c.in-Ok.ensures.steady)
+    c.args.into.now.heads.list c.read_values.new.into.list has.heads c.read_values.ensures.count c.in_ok-read_values.ensures.fits
+    c.in_ok-read_values.ensures.text c.in_ok-read_values.ensures.line c.in_ok-read_values.ensures.steady)
     (counted 81 c.args.into.now.flows.list _ c.read_values.new.lines.line
     (prepend_known c.read_values.new.lines.source (g.D.Desk.rest c.read_values.new.desk)) (g.D.Desk.counts
-    c.read_values.new.desk) (g.D.Desk.counts c.read_values-2.new.desk) c.in-Err-read_values.fault has.flows
-    c.in-Err-read_values.ensures.fault)
+    c.read_values.new.desk) (g.D.Desk.counts c.read_values-2.new.desk) c.in_err-read_values-2.field-0.0 has.flows
+    c.in_err-read_values-2.ensures.fault))
 
-pub returns-in-Err-read_values-2-clause-fault : goal.returns-in-Err-read_values-2-clause-fault
-returns-in-Err-read_values-2-clause-fault g c = λ counts has.
-    stuck_in_demands counts (g.D.Desk.counts c.read_values-3.new.desk) c.in-Err-read_values-2.fault
+pub returns-in_err-read_values-3-clause-fault : goal.returns-in_err-read_values-3-clause-fault
+returns-in_err-read_values-3-clause-fault g c =
+    let p = err_from_is_err_and c.from_residual-in_err-read_values-3.result c.from_residual-in_err-read_values-3.ensures.1 in
+    rw (p.1, p.2) (λ counts has.
+    stuck_in_demands counts (g.D.Desk.counts c.read_values-3.new.desk) c.in_err-read_values-3.field-0.0
     c.args.lines.now.line c.read_values.new.lines.line
     (prepend_known c.args.lines.now.source (g.D.Desk.rest c.args.desk.now))
     (prepend_known c.read_values.new.lines.source (g.D.Desk.rest c.read_values.new.desk))
@@ -40,8 +47,8 @@ returns-in-Err-read_values-2-clause-fault g c = λ counts has.
     (prepend_known c.args.lines.now.source (g.D.Desk.rest c.args.desk.now))
     (prepend_known c.read_values.new.lines.source (g.D.Desk.rest c.read_values.new.desk))
     (g.D.Desk.counts c.args.desk.now) (g.D.Desk.counts c.read_values.new.desk)
-    c.args.into.now.heads.list c.read_values.new.into.list has.heads c.read_values.ensures.count c.in-Ok.ensures.fits
-    c.in-Ok.ensures.text c.in-Ok.ensures.line c.in-Ok.ensures.steady)
+    c.args.into.now.heads.list c.read_values.new.into.list has.heads c.read_values.ensures.count c.in_ok-read_values.ensures.fits
+    c.in_ok-read_values.ensures.text c.in_ok-read_values.ensures.line c.in_ok-read_values.ensures.steady)
     c.read_values-2.new.lines.line (prepend_known c.read_values-2.new.lines.source (g.D.Desk.rest
     c.read_values-2.new.desk)) (g.D.Desk.counts c.read_values-2.new.desk)
     c.read_values-2.new.into.list
@@ -50,16 +57,18 @@ returns-in-Err-read_values-2-clause-fault g c = λ counts has.
     (prepend_known c.read_values-2.new.lines.source (g.D.Desk.rest c.read_values-2.new.desk))
     (g.D.Desk.counts c.read_values.new.desk) (g.D.Desk.counts c.read_values-2.new.desk)
     c.args.into.now.flows.list c.read_values-2.new.into.list has.flows c.read_values-2.ensures.count
-    c.in-Ok-read_values.ensures.fits
-    c.in-Ok-read_values.ensures.text c.in-Ok-read_values.ensures.line c.in-Ok-read_values.ensures.steady)
+    c.in_ok-read_values-2.ensures.fits
+    c.in_ok-read_values-2.ensures.text c.in_ok-read_values-2.ensures.line c.in_ok-read_values-2.ensures.steady)
     (counted 68 c.args.into.now.demands.list _ c.read_values-2.new.lines.line
     (prepend_known c.read_values-2.new.lines.source (g.D.Desk.rest c.read_values-2.new.desk)) (g.D.Desk.counts
-    c.read_values-2.new.desk) (g.D.Desk.counts c.read_values-3.new.desk) c.in-Err-read_values-2.fault has.demands
-    c.in-Err-read_values-2.ensures.fault)
+    c.read_values-2.new.desk) (g.D.Desk.counts c.read_values-3.new.desk) c.in_err-read_values-3.field-0.0 has.demands
+    c.in_err-read_values-3.ensures.fault))
 
-pub returns-in-Err-read_values-3-clause-fault : goal.returns-in-Err-read_values-3-clause-fault
-returns-in-Err-read_values-3-clause-fault g c = λ counts has.
-    stuck_in_emitters counts (g.D.Desk.counts c.read_values-4.new.desk) c.in-Err-read_values-3.fault
+pub returns-in_err-read_values-4-clause-fault : goal.returns-in_err-read_values-4-clause-fault
+returns-in_err-read_values-4-clause-fault g c =
+    let p = err_from_is_err_and c.from_residual-in_err-read_values-4.result c.from_residual-in_err-read_values-4.ensures.1 in
+    rw (p.1, p.2) (λ counts has.
+    stuck_in_emitters counts (g.D.Desk.counts c.read_values-4.new.desk) c.in_err-read_values-4.field-0.0
     c.args.lines.now.line c.read_values.new.lines.line
     (prepend_known c.args.lines.now.source (g.D.Desk.rest c.args.desk.now))
     (prepend_known c.read_values.new.lines.source (g.D.Desk.rest c.read_values.new.desk))
@@ -68,8 +77,8 @@ returns-in-Err-read_values-3-clause-fault g c = λ counts has.
     (prepend_known c.args.lines.now.source (g.D.Desk.rest c.args.desk.now))
     (prepend_known c.read_values.new.lines.source (g.D.Desk.rest c.read_values.new.desk))
     (g.D.Desk.counts c.args.desk.now) (g.D.Desk.counts c.read_values.new.desk)
-    c.args.into.now.heads.list c.read_values.new.into.list has.heads c.read_values.ensures.count c.in-Ok.ensures.fits
-    c.in-Ok.ensures.text c.in-Ok.ensures.line c.in-Ok.ensures.steady)
+    c.args.into.now.heads.list c.read_values.new.into.list has.heads c.read_values.ensures.count c.in_ok-read_values.ensures.fits
+    c.in_ok-read_values.ensures.text c.in_ok-read_values.ensures.line c.in_ok-read_values.ensures.steady)
     c.read_values-2.new.lines.line (prepend_known c.read_values-2.new.lines.source (g.D.Desk.rest
     c.read_values-2.new.desk)) (g.D.Desk.counts c.read_values-2.new.desk)
     c.read_values-2.new.into.list
@@ -78,8 +87,8 @@ returns-in-Err-read_values-3-clause-fault g c = λ counts has.
     (prepend_known c.read_values-2.new.lines.source (g.D.Desk.rest c.read_values-2.new.desk))
     (g.D.Desk.counts c.read_values.new.desk) (g.D.Desk.counts c.read_values-2.new.desk)
     c.args.into.now.flows.list c.read_values-2.new.into.list has.flows c.read_values-2.ensures.count
-    c.in-Ok-read_values.ensures.fits
-    c.in-Ok-read_values.ensures.text c.in-Ok-read_values.ensures.line c.in-Ok-read_values.ensures.steady)
+    c.in_ok-read_values-2.ensures.fits
+    c.in_ok-read_values-2.ensures.text c.in_ok-read_values-2.ensures.line c.in_ok-read_values-2.ensures.steady)
     c.read_values-3.new.lines.line (prepend_known c.read_values-3.new.lines.source (g.D.Desk.rest
     c.read_values-3.new.desk)) (g.D.Desk.counts c.read_values-3.new.desk)
     c.read_values-3.new.into.list
@@ -88,12 +97,12 @@ returns-in-Err-read_values-3-clause-fault g c = λ counts has.
     (prepend_known c.read_values-3.new.lines.source (g.D.Desk.rest c.read_values-3.new.desk))
     (g.D.Desk.counts c.read_values-2.new.desk) (g.D.Desk.counts c.read_values-3.new.desk)
     c.args.into.now.demands.list c.read_values-3.new.into.list has.demands c.read_values-3.ensures.count
-    c.in-Ok-read_values-2.ensures.fits
-    c.in-Ok-read_values-2.ensures.text c.in-Ok-read_values-2.ensures.line c.in-Ok-read_values-2.ensures.steady)
+    c.in_ok-read_values-3.ensures.fits
+    c.in_ok-read_values-3.ensures.text c.in_ok-read_values-3.ensures.line c.in_ok-read_values-3.ensures.steady)
     (counted 69 c.args.into.now.emitters.list _ c.read_values-3.new.lines.line
     (prepend_known c.read_values-3.new.lines.source (g.D.Desk.rest c.read_values-3.new.desk)) (g.D.Desk.counts
-    c.read_values-3.new.desk) (g.D.Desk.counts c.read_values-4.new.desk) c.in-Err-read_values-3.fault has.emitters
-    c.in-Err-read_values-3.ensures.fault)
+    c.read_values-3.new.desk) (g.D.Desk.counts c.read_values-4.new.desk) c.in_err-read_values-4.field-0.0 has.emitters
+    c.in_err-read_values-4.ensures.fault))
 
 pub returns-clause-fault : goal.returns-clause-fault
 returns-clause-fault g c = λ counts has. on_err c.read_stocks.result _ _
@@ -106,8 +115,8 @@ returns-clause-fault g c = λ counts has. on_err c.read_stocks.result _ _
     (prepend_known c.args.lines.now.source (g.D.Desk.rest c.args.desk.now))
     (prepend_known c.read_values.new.lines.source (g.D.Desk.rest c.read_values.new.desk))
     (g.D.Desk.counts c.args.desk.now) (g.D.Desk.counts c.read_values.new.desk)
-    c.args.into.now.heads.list c.read_values.new.into.list has.heads c.read_values.ensures.count c.in-Ok.ensures.fits
-    c.in-Ok.ensures.text c.in-Ok.ensures.line c.in-Ok.ensures.steady)
+    c.args.into.now.heads.list c.read_values.new.into.list has.heads c.read_values.ensures.count c.in_ok-read_values.ensures.fits
+    c.in_ok-read_values.ensures.text c.in_ok-read_values.ensures.line c.in_ok-read_values.ensures.steady)
     c.read_values-2.new.lines.line (prepend_known c.read_values-2.new.lines.source (g.D.Desk.rest
     c.read_values-2.new.desk)) (g.D.Desk.counts c.read_values-2.new.desk)
     c.read_values-2.new.into.list
@@ -116,8 +125,8 @@ returns-clause-fault g c = λ counts has. on_err c.read_stocks.result _ _
     (prepend_known c.read_values-2.new.lines.source (g.D.Desk.rest c.read_values-2.new.desk))
     (g.D.Desk.counts c.read_values.new.desk) (g.D.Desk.counts c.read_values-2.new.desk)
     c.args.into.now.flows.list c.read_values-2.new.into.list has.flows c.read_values-2.ensures.count
-    c.in-Ok-read_values.ensures.fits
-    c.in-Ok-read_values.ensures.text c.in-Ok-read_values.ensures.line c.in-Ok-read_values.ensures.steady)
+    c.in_ok-read_values-2.ensures.fits
+    c.in_ok-read_values-2.ensures.text c.in_ok-read_values-2.ensures.line c.in_ok-read_values-2.ensures.steady)
     c.read_values-3.new.lines.line (prepend_known c.read_values-3.new.lines.source (g.D.Desk.rest
     c.read_values-3.new.desk)) (g.D.Desk.counts c.read_values-3.new.desk)
     c.read_values-3.new.into.list
@@ -126,8 +135,8 @@ returns-clause-fault g c = λ counts has. on_err c.read_stocks.result _ _
     (prepend_known c.read_values-3.new.lines.source (g.D.Desk.rest c.read_values-3.new.desk))
     (g.D.Desk.counts c.read_values-2.new.desk) (g.D.Desk.counts c.read_values-3.new.desk)
     c.args.into.now.demands.list c.read_values-3.new.into.list has.demands c.read_values-3.ensures.count
-    c.in-Ok-read_values-2.ensures.fits
-    c.in-Ok-read_values-2.ensures.text c.in-Ok-read_values-2.ensures.line c.in-Ok-read_values-2.ensures.steady)
+    c.in_ok-read_values-3.ensures.fits
+    c.in_ok-read_values-3.ensures.text c.in_ok-read_values-3.ensures.line c.in_ok-read_values-3.ensures.steady)
     c.read_values-4.new.lines.line (prepend_known c.read_values-4.new.lines.source (g.D.Desk.rest
     c.read_values-4.new.desk)) (g.D.Desk.counts c.read_values-4.new.desk)
     c.read_values-4.new.into.list
@@ -136,8 +145,8 @@ returns-clause-fault g c = λ counts has. on_err c.read_stocks.result _ _
     (prepend_known c.read_values-4.new.lines.source (g.D.Desk.rest c.read_values-4.new.desk))
     (g.D.Desk.counts c.read_values-3.new.desk) (g.D.Desk.counts c.read_values-4.new.desk)
     c.args.into.now.emitters.list c.read_values-4.new.into.list has.emitters c.read_values-4.ensures.count
-    c.in-Ok-read_values-3.ensures.fits
-    c.in-Ok-read_values-3.ensures.text c.in-Ok-read_values-3.ensures.line c.in-Ok-read_values-3.ensures.steady)
+    c.in_ok-read_values-4.ensures.fits
+    c.in_ok-read_values-4.ensures.text c.in_ok-read_values-4.ensures.line c.in_ok-read_values-4.ensures.steady)
     (counted_stocks c.args.into.now.levels.list _ c.read_values-4.new.lines.line
     (prepend_known c.read_values-4.new.lines.source (g.D.Desk.rest c.read_values-4.new.desk)) (g.D.Desk.counts
     c.read_values-4.new.desk) (g.D.Desk.counts c.read_stocks.new.desk) f has.levels h)) c.read_stocks.ensures.fault

@@ -1,23 +1,27 @@
 -- One part after another.
+use Rattle.std.proofs.lemmas.Result.{err_from_is_err_and}
 use Rattle.hyd_io.proofs.PutLemmas.{puts_then, puts_cut_off, puts_ready}
 use Rattle.hyd_written_witnesses.proofs.lines.put_numbered.Goals as goal
 
 pub put_number-requires : goal.put_number-requires
-put_number-requires g c = puts_ready _ _ _ _ _ _ c.in-Ok.ensures c.requires
+put_number-requires g c = puts_ready _ _ _ _ _ _ c.in_ok-put.ensures c.requires
 
 pub put-requires-2 : goal.put-requires-2
-put-requires-2 g c = puts_ready _ _ _ _ _ _ c.in-Ok-put_number.ensures (puts_ready _ _ _ _ _ _ c.in-Ok.ensures
+put-requires-2 g c = puts_ready _ _ _ _ _ _ c.in_ok-put_number.ensures (puts_ready _ _ _ _ _ _ c.in_ok-put.ensures
     c.requires)
 
-pub returns-in-Err : goal.returns-in-Err
-returns-in-Err g c = puts_cut_off _ _ c.in-Err.fault _ _ _ _ c.in-Err.ensures
+pub returns-in_err-put : goal.returns-in_err-put
+returns-in_err-put g c =
+    let p = err_from_is_err_and c.from_residual.result c.from_residual.ensures.1 in
+    rw (p.1, p.2) (puts_cut_off _ _ c.in_err-put.field-0.0 _ _ _ _ c.in_err-put.ensures)
 
-pub returns-in-Err-put_number : goal.returns-in-Err-put_number
-returns-in-Err-put_number g c =
-    puts_then _ _ _ _ _ _ _ _ _ c.in-Ok.ensures (puts_cut_off _ _ c.in-Err-put_number.fault _ _ _ _
-    (rw c.from.ensures at c.in-Err-put_number.ensures))
+pub returns-in_err-put_number : goal.returns-in_err-put_number
+returns-in_err-put_number g c =
+    let p = err_from_is_err_and c.from_residual-in_err-put_number.result c.from_residual-in_err-put_number.ensures.1 in
+    rw (p.1, p.2) (puts_then _ _ _ _ _ _ _ _ _ c.in_ok-put.ensures (puts_cut_off _ _ c.in_err-put_number.field-0.0 _ _ _ _
+    (rw c.from.ensures at c.in_err-put_number.ensures)))
 
 pub returns : goal.returns
 returns g c =
-    puts_then _ _ _ _ _ _ _ _ _ c.in-Ok.ensures (puts_then _ _ _ _ _ _ _ _ _
-    (rw c.from.ensures at c.in-Ok-put_number.ensures) c.put-2.ensures)
+    puts_then _ _ _ _ _ _ _ _ _ c.in_ok-put.ensures (puts_then _ _ _ _ _ _ _ _ _
+    (rw c.from.ensures at c.in_ok-put_number.ensures) c.put-2.ensures)

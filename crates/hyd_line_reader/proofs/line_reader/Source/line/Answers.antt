@@ -22,14 +22,14 @@ returns-then-count-ge-LINE-clause-none g c =
 
 pub returns-then-n-eq0-clause-none : goal.returns-then-n-eq0-clause-none
 returns-then-n-eq0-clause-none g c =
-    let idle = c.in-Ok.ensures.idle c.if-n-eq0.true in
-    let same = c.in-Ok.ensures.same in
+    let idle = c.in_ok-n.ensures.idle c.if-n-eq0.true in
+    let same = c.in_ok-n.ensures.same in
     let len : length c.held-held.result.now ≡ length c.loop-n.self = ap length c.held-held.ensures in
     let whole = take_all c.min.result c.loop-n.self (omega (arith, c.min.ensures, c.if-count-ge-LINE.false, len)) in
     subst (λ (h : List ℕ). HasNoLine (prepend_known h (g.D.Desk.rest c.fill.new.desk))) (sym idle)
     (end_none c.loop-n.self (g.D.Desk.rest c.loop-n.desk) (g.D.Desk.rest c.fill.new.desk)
     (ap (λ (h : List ℕ). prepend_known h (g.D.Desk.rest c.fill.new.desk)) (sym idle) ∙ same)
-    (c.in-Ok.ensures.end c.if-n-eq0.true)
+    (c.in_ok-n.ensures.end c.if-n-eq0.true)
     (subst (HasNo 10) whole (subst (λ (h : List ℕ). HasNo 10 (take c.min.result h)) c.held-held.ensures
     c.in_default.ensures.none)))
 

@@ -1,19 +1,21 @@
-use Rattle.std.proofs.Common.{◌≡◌, length, refl, subst, ap, sym, ◌∙◌, All}
+use Rattle.std.proofs.Common.{◌≡◌, length, map, refl, subst, ap, sym, ◌∙◌, All}
 use Rattle.std.proofs.lemmas.List.{with_items_is}
 use Rattle.std.proofs.lemmas.Result.{err_from_is_err_and}
 use Rattle.hyd_net.specs.NumberRanges.{IsHead}
 use Rattle.hyd_demands_and_reservoir_heads.specs.DemandsAndHeadsByNumber.{IsInRange}
+use Rattle.hyd_spec_certificates.specs.SpansAsIntervals.{levels_of}
 use Rattle.hyd_spec_certificates.specs.declared.Side.{Side}
 use Rattle.hyd_spec_certificates.specs.declared.Side.TheVariants.{Upper, Lower}
 use Rattle.hyd_spec_spread.specs.Spreads.{Spread}
-use Rattle.hyd_spec_spread_runs.specs.RunsForSpreads.{AreDemandsInRange, ArePairAt}
-use Rattle.hyd_period_network.specs.NetAsPeriodNetwork.{states_of, own_laws}
+use Rattle.hyd_spec_spread.specs.OutermostGrids.{IsOutermostGrid}
+use Rattle.hyd_spec_spread_runs.specs.RunsForSpreads.{AreDemandsInRange}
+use Rattle.hyd_period_network.specs.NetAsPeriodNetwork.{grid_of, states_of, own_laws}
 use Rattle.hyd_period_network.specs.NetsSetToPeriods.{AreShut, own_laws_of}
 use Rattle.hyd_spread_rows.specs.SpreadsRead.{spread_of}
-use Rattle.hyd_spread_networks.specs.NetsOfSpreads.{SpreadNetsView, AreNetsOf, net_on, pair_of}
+use Rattle.hyd_spread_networks.specs.NetsOfSpreads.{SpreadNetsView, AreNetsOf, net_on}
 use Rattle.hyd_spec_spread_stops.specs.StopsOfSpreads.{IsFirstDemandOver}
 use Rattle.hyd_spread_networks.specs.declared.fault.DemandOver.{DemandOver}
-use Rattle.hyd_spread_networks.proofs.NetsOfBothSides.{both, nets_stay, pair_put}
+use Rattle.hyd_spread_networks.proofs.NetsOfBothSides.{both, nets_stay, grids_put}
 use Rattle.hyd_spread_networks.proofs.nets.SpreadNets.set_period.Goals as goal
 
 -- ---- the data of the period
@@ -128,8 +130,8 @@ returns-clause-stays c =
     nets_stay c.args.project.now _ new of refl c.set_period_with.ensures.stays c.set_period_with-2.ensures.stays
     c.set_period_with.ensures.junctions c.set_period_with-2.ensures.junctions
 
-pub returns-clause-pair : goal.returns-clause-pair
-returns-clause-pair c = λ standing is.
+pub returns-clause-grids : goal.returns-clause-grids
+returns-clause-grids c = λ side.
     let of = subst (AreNetsOf c.args.project.now) (sym c.self.view_is) c.requires.of in
     let new : SpreadNetsView = record {
       spread = spread_of c.self.inside.rows;
@@ -138,9 +140,10 @@ returns-clause-pair c = λ standing is.
     } in
     let stays = nets_stay c.args.project.now _ new of refl c.set_period_with.ensures.stays
     c.set_period_with-2.ensures.stays c.set_period_with.ensures.junctions c.set_period_with-2.ensures.junctions in
-    subst (λ (s : Spread). ArePairAt c.args.project.now s standing (pair_of new))
+    subst (λ (s : Spread). IsOutermostGrid c.args.project.now s side c.args.time (map levels_of c.args.levels.now)
+    c.args.tanks.now c.args.links.now (grid_of (net_on side new)))
     (ap (λ (v : SpreadNetsView). v.spread) c.self.view_is)
-    (pair_put c.args.project.now new c.args.time c.deref.result.now c.deref-3.result.now c.deref-4.result.now
+    (grids_put c.args.project.now new c.args.time c.deref.result.now c.deref-3.result.now c.deref-4.result.now
     c.deref-2.result.now c.args.levels.now c.args.tanks.now c.args.links.now stays c.set_period_with.ensures.put
     c.set_period_with-2.ensures.put
     (c.deref.ensures.value ∙ with_items_is c.self.inside.least_demands c.put_demands.new.least
@@ -151,7 +154,7 @@ returns-clause-pair c = λ standing is.
     (c.put_heads.auto.least ∙ c.deref_mut-3.ensures.len) ∙ c.put_heads.ensures.least)
     (c.deref-2.ensures.value ∙ with_items_is c.self.inside.greatest_heads c.put_heads.new.greatest
     (c.put_heads.auto.greatest ∙ c.deref_mut-4.ensures.len) ∙ c.put_heads.ensures.greatest)
-    standing is)
+    side)
 
 pub returns-clause-states : goal.returns-clause-states
 returns-clause-states c =

@@ -1,3 +1,4 @@
+use Rattle.std.proofs.lemmas.Result.{err_from_is_err_and}
 use Rattle.std.proofs.Common.{◌≢◌, List, ℕ, take, drop, ◌+◌, subst, arith}
 use Rattle.hyd_witness_texts.specs.Lines.{IsHeaderLine}
 use Rattle.hyd_witness_texts.specs.MomentView.{counts_in}
@@ -6,22 +7,24 @@ use Rattle.hyd_witness_texts.proofs.FirstFaultLemmas.{line_fault_of}
 use Rattle.hyd_witness_texts.proofs.WitnessLines.{header_is_line}
 use Rattle.hyd_witness_texts.proofs.lines_of_text.Lines.header.Goals as goal
 
-pub returns-in-Err-clause-fault : goal.returns-in-Err-clause-fault
-returns-in-Err-clause-fault g c = line_fault_of _ (IsHeaderLine (counts_in c.args.counts.now)) _ _ _ _ c.in-Err.fault
+pub returns-in_err-n-clause-fault : goal.returns-in_err-n-clause-fault
+returns-in_err-n-clause-fault g c =
+    let p = err_from_is_err_and c.from_residual.result c.from_residual.ensures.1 in
+    rw (p.1, p.2) (line_fault_of _ (IsHeaderLine (counts_in c.args.counts.now)) _ _ _ _ c.in_err-n.field-0.0
     (λ l is. header_is_line (counts_in c.args.counts.now) c.has_small_counts.ensures.junctions
-    c.has_small_counts.ensures.links c.has_small_counts.ensures.tanks l is) c.in-Err.ensures.fault
+    c.has_small_counts.ensures.links c.has_small_counts.ensures.tanks l is) c.in_err-n.ensures.fault)
 
 pub returns-in_default-clause-fault : goal.returns-in_default-clause-fault
 returns-in_default-clause-fault g c = (
-  omega (arith, c.saturating_add.ensures, c.in-Ok.ensures.line),
-  other_lacks (IsHeaderLine (counts_in c.args.counts.now)) c.next_line.new.self.source (take c.in-Ok.n
+  omega (arith, c.saturating_add.ensures, c.in_ok-n.ensures.line),
+  other_lacks (IsHeaderLine (counts_in c.args.counts.now)) c.next_line.new.self.source (take c.in_ok-n.n
       c.next_line.new.self.source)
-      (drop (c.in-Ok.n + 1) c.next_line.new.self.source)
+      (drop (c.in_ok-n.n + 1) c.next_line.new.self.source)
       _ (g.D.Desk.rest c.next_line.new.desk) (λ l is. header_is_line (counts_in c.args.counts.now)
       c.has_small_counts.ensures.junctions c.has_small_counts.ensures.links c.has_small_counts.ensures.tanks l is)
-      c.in-Ok.ensures.some c.in-Ok.ensures.first
-      (subst (λ (h : List ℕ). (l : List ℕ) → (IsHeaderLine (counts_in c.args.counts.now)) l → take c.in-Ok.n h ≢ l)
+      c.in_ok-n.ensures.some c.in_ok-n.ensures.first
+      (subst (λ (h : List ℕ). (l : List ℕ) → (IsHeaderLine (counts_in c.args.counts.now)) l → take c.in_ok-n.n h ≢ l)
       c.held.ensures
-      c.in_default.ensures.none) c.in-Ok.ensures.same,
-  c.in-Ok.ensures.steady,
+      c.in_default.ensures.none) c.in_ok-n.ensures.same,
+  c.in_ok-n.ensures.steady,
 )

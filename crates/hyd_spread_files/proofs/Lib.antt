@@ -1,0 +1,2 @@
+pub mod OpenedRuns
+pub mod RefusalLemmas

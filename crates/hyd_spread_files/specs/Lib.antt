@@ -1,0 +1,3 @@
+pub mod RefusedSpreads
+pub mod SpreadFiles
+pub mod NetsRead

@@ -1,0 +1,5 @@
+pub mod AnswersOfTexts
+pub mod TextsPrintedOver
+pub mod StatusesOfBrackets
+pub mod StatusesOfClosures
+pub mod PassedOn

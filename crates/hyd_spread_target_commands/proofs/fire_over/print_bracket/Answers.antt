@@ -1,0 +1,69 @@
+-- The line that was put in at a new pen.
+use Rattle.std.proofs.lemmas.Result.{err_from_is_err_and}
+use Rattle.std.proofs.Common.{refl, ap, ◌∙◌}
+use Rattle.std.proofs.lemmas.Result.{on_ok_weaker, on_err_weaker}
+use Rattle.hyd_io.specs.Output.{PenState}
+use Rattle.hyd_spec_targets_within.specs.PromisesWithinSpreads.{FindsBracketWithin}
+use Rattle.hyd_spread_targets.specs.InquiriesWithin.{spread_for, target_within}
+use Rattle.hyd_target_commands.proofs.TextsPrinted.{whole-of-flush, front-of-flush, cause-of-flush, steady-by-flush}
+use Rattle.hyd_target_commands.proofs.TextsPrinted.{openings-by-flush, front-of-put, cause-of-put, printed-with}
+use Rattle.hyd_target_commands.proofs.TextsPrinted.{front-with, asks-nothing}
+use Rattle.hyd_spread_target_commands.proofs.fire_over.print_bracket.Goals as goal
+
+-- ---- the put failed
+
+pub returns-in_err-put_bracket_within-clause-front : goal.returns-in_err-put_bracket_within-clause-front
+returns-in_err-put_bracket_within-clause-front g c =
+    let p = err_from_is_err_and c.from_residual.result c.from_residual.ensures.1 in
+    rw p.1 (λ name named. let one = c.in_err-put_bracket_within.ensures name named.named in
+    front-with (FindsBracketWithin c.args.project.now (spread_for c.args.inquiry.now) name
+    (target_within c.args.project.now c.args.inquiry.now) c.args.rounds) one.0 _ _ one.1.0
+    (front-of-put one.0 _ _ _ _ c.new-pen.ensures c.in_err-put_bracket_within.field-0.0 one.1.1))
+
+pub returns-in_err-put_bracket_within-clause-cause : goal.returns-in_err-put_bracket_within-clause-cause
+returns-in_err-put_bracket_within-clause-cause g c =
+    let p = err_from_is_err_and c.from_residual.result c.from_residual.ensures.1 in
+    rw (p.1, p.2) (let one = c.in_err-put_bracket_within.ensures _ refl in cause-of-put one.0 _ _ _ _
+    c.new-pen.ensures c.in_err-put_bracket_within.field-0.0 one.1.1)
+
+pub returns-in_err-put_bracket_within-clause-openings_stay : goal.returns-in_err-put_bracket_within-clause-openings_stay
+returns-in_err-put_bracket_within-clause-openings_stay g c =
+    let one = c.in_err-put_bracket_within.ensures _ refl in one.1.1.openings_stay
+
+-- ---- the pen was flushed
+
+pub flush-requires : goal.flush-requires
+flush-requires g c =
+    let one = c.in_ok-put_bracket_within.ensures _ refl in
+    asks-nothing _ _ (one.1.1.to_stays ∙ ap (λ (pen : PenState). pen.to) c.new-pen.ensures)
+
+pub returns-clause-whole : goal.returns-clause-whole
+returns-clause-whole g c name named =
+    let one = c.in_ok-put_bracket_within.ensures name named.named in
+    on_ok_weaker c.flush.result
+    (printed-with (FindsBracketWithin c.args.project.now (spread_for c.args.inquiry.now) name
+    (target_within c.args.project.now c.args.inquiry.now) c.args.rounds) one.0 _ _ one.1.0)
+    (whole-of-flush one.0 _ _ _ _ c.new-pen.ensures _ _ c.flush.result one.1.1 c.flush.ensures)
+
+pub returns-clause-front : goal.returns-clause-front
+returns-clause-front g c name named =
+    let one = c.in_ok-put_bracket_within.ensures name named.named in
+    on_err_weaker c.flush.result
+    (front-with (FindsBracketWithin c.args.project.now (spread_for c.args.inquiry.now) name
+    (target_within c.args.project.now c.args.inquiry.now) c.args.rounds) one.0 _ _ one.1.0)
+    (front-of-flush one.0 _ _ _ _ c.new-pen.ensures _ _ c.flush.result one.1.1 c.flush.ensures)
+
+pub returns-clause-cause : goal.returns-clause-cause
+returns-clause-cause g c =
+    let one = c.in_ok-put_bracket_within.ensures _ refl in
+    cause-of-flush one.0 _ _ _ _ c.new-pen.ensures _ _ c.flush.result one.1.1 c.flush.ensures
+
+pub returns-clause-steady : goal.returns-clause-steady
+returns-clause-steady g c =
+    let one = c.in_ok-put_bracket_within.ensures _ refl in
+    steady-by-flush one.0 _ _ _ _ c.new-pen.ensures _ _ c.flush.result one.1.1 c.flush.ensures
+
+pub returns-clause-openings_stay : goal.returns-clause-openings_stay
+returns-clause-openings_stay g c =
+    let one = c.in_ok-put_bracket_within.ensures _ refl in
+    openings-by-flush one.0 _ _ _ _ c.new-pen.ensures _ _ c.flush.result one.1.1 c.flush.ensures

@@ -1,0 +1,2 @@
+mod FirstPeriodsReady
+pub mod ClosuresWithin

@@ -1,0 +1,3 @@
+pub mod FirstPeriodsOver
+pub mod InquiriesWithin
+pub mod ClosuresPutOutWithin
